@@ -1,0 +1,168 @@
+-- What the words of a model's lines say is read back from them.
+use Prim.Native.Nat.{ℕ, zero, suc, _+_, _-_, _*_, _/_, _%_, _≤_, _<_}
+use mathlib.Core.Path.{_≡_, refl, sym, ap, ap₂, _∙_}
+use mathlib.Core.Bool.{Bool, true, false, not, _&&_, true≢false}
+use mathlib.Core.List.{List, [], _∷_, _++_, append-assoc, map, flatMap}
+use mathlib.Core.Option.{Option, none, some}
+use native.Mathlib.Omega.{arith}
+use lib.Dec.{leb}
+use lib.IntN.{ℤ, pos, negsuc}
+use lib.ListN.{length, getD, length-map}
+use lib.Seq.{take-at, drop-at}
+use borrow.Author.Tests.{leb-true, le-leb, lt-leb, not-false}
+use Rattle.model.specs.Basic.{between, every, lacks, onSome}
+use Rattle.model.specs.Bounds.{maxActions, leastNumber, greatestNumber, bias}
+use Rattle.model.specs.Predicate.{Pred, Word, words, nodeCount, range, allOf, anyOf, notWord, impWord, eqWord, leWord, numWord, oldWord, newWord, addWord, subWord, mulWord, ifWord, stray}
+use Rattle.model.specs.Composition.{Tree, Node, nodes, treeNodes, par, syn, leaf, parNode, synNode, leafNode, strayNode}
+use Rattle.model.specs.Model.{Model}
+use Rattle.model.specs.Lines.{Key, Entry, formatLine, actionsLine, variablesLine, variableLine, automataLine, syncLine, locationsLine, initLine, invLine, edgesLine, edgeLine, composeLine, keyOf, thenDue, Reading, taken}
+use Rattle.model.specs.Limits.{inRange, treeInRange, numbersInRange, rises, treeRises, broken, saidFault, faultOf, withinLimits}
+use Rattle.model.specs.Table.{biased, unbiased, code, kinds, wordOf, setWords, predWords, nodeWords, lineWords, took, takeNumber, takePair, takePredicate, edgeTo, takeEdge, andNode, takeNodes, takeTreeLine, takeEntry, decode}
+use Rattle.model.proofs.Tests.{and-intro, and-left, and-right, every-append}
+use Rattle.model.proofs.Parsing.{none-some, read-words-of, read-nodes-of}
+use Rattle.model.proofs.LinesLaws.{Follows}
+use Rattle.model.proofs.Bits.{set-back}
+
+-- numbers
+number-back : (z : ℤ) → between leastNumber greatestNumber z ≡ true → unbiased (biased z) ≡ z
+unfolding unbiased biased between
+number-back (pos n) h =
+    let e : leb bias (bias + n) ≡ true = le-leb bias (bias + n) (omega arith) in
+    let back : (bias + n) - bias ≡ n = omega arith in
+    rw (e, unbiased) (ap pos back)
+number-back (negsuc n) h =
+    let l = leb-true n 32767 (and-left (leb n 32767) _ h) in
+    let e : leb bias (bias - suc n) ≡ false = lt-leb bias (bias - suc n) (omega arith) in
+    let back : bias - suc (bias - suc n) ≡ n = omega arith in
+    rw (e, unbiased) (ap negsuc back)
+
+-- words of predicates
+word-parts : (a k : ℕ) → a < 16 → wordOf (a + 16 * k) ≡ getD (kinds k) a stray
+unfolding wordOf
+word-parts a k l =
+    let q : (a + 16 * k) / 16 ≡ k = omega arith in
+    let r : (a + 16 * k) % 16 ≡ a = omega arith in
+    rw (q, r)
+
+pub word-back : (w : Word) → inRange w ≡ true → wordOf (code w) ≡ w
+unfolding code wordOf kinds inRange
+word-back (allOf k) h = word-parts 0 k (omega arith)
+word-back (anyOf k) h = word-parts 1 k (omega arith)
+word-back notWord h = refl
+word-back impWord h = refl
+word-back eqWord h = refl
+word-back leWord h = refl
+word-back (numWord z) h = word-parts 6 (biased z) (omega arith) ∙ ap numWord (number-back z h)
+word-back (oldWord k) h = word-parts 7 k (omega arith)
+word-back (newWord k) h = word-parts 8 k (omega arith)
+word-back addWord h = refl
+word-back subWord h = refl
+word-back mulWord h = refl
+word-back ifWord h = refl
+word-back stray h = refl
+
+words-back : (ws : List Word) → every inRange ws ≡ true → map wordOf (map code ws) ≡ ws
+unfolding every
+words-back [] h = refl
+words-back (w ∷ ws) h = ap₂ (λ x xs. x ∷ xs) (word-back w (and-left (inRange w) _ h)) (words-back ws (and-right (inRange w) _ h))
+
+pred-back : (f : Pred → Entry) (p : Pred) (rest : List ℕ) → every inRange (words p) ≡ true → takePredicate f (predWords p ++ rest) ≡ took (f p) rest
+unfolding takePredicate predWords nodeCount onSome
+pred-back f p rest h =
+    let n = length-map (words p) code in
+    rw (take-at (map code (words p)) rest (nodeCount p) n, drop-at (map code (words p)) rest (nodeCount p) n, words-back (words p) h, read-words-of p)
+
+-- nodes of trees
+good : ℕ → Node → Bool
+good A parNode = true
+good A (synNode list) = rises A 0 list && every (λ k. leb k maxActions) list
+good A (leafNode k) = true
+good A strayNode = false
+
+all-good : (A : ℕ) (c : Tree) → treeRises A c ≡ true → treeInRange c ≡ true → every (good A) (nodes c) ≡ true
+unfolding every good nodes treeRises treeInRange
+all-good A (par c d) r h =
+    rw (every-append (good A) (nodes c) (nodes d))
+    (and-intro (all-good A c (and-left (treeRises A c) _ r) (and-left (treeInRange c) _ h)) (all-good A d (and-right (treeRises A c) _ r) (and-right (treeInRange c) _ h)))
+all-good A (syn list c) r h =
+    let ranged = every (λ k. leb k maxActions) list in
+    and-intro (and-intro (and-left (rises A 0 list) _ r) (and-left ranged _ h)) (all-good A c (and-right (rises A 0 list) _ r) (and-right ranged _ h))
+all-good A (leaf k) r h = refl
+
+list-back : (A : ℕ) (ns : List Node) (rest : List ℕ) → every (good A) ns ≡ true → takeNodes (length ns) (flatMap nodeWords ns ++ rest) ≡ took ns rest
+unfolding takeNodes flatMap nodeWords setWords andNode onSome every good took
+list-back A [] rest h = refl
+list-back A (parNode ∷ ns) rest h = rw (list-back A ns rest h)
+list-back A (synNode list ∷ ns) rest h =
+    let e = and-left (rises A 0 list && every (λ k. leb k maxActions) list) _ h in
+    rw (list-back A ns rest (and-right (rises A 0 list && every (λ k. leb k maxActions) list) _ h), set-back A list (and-left (rises A 0 list) _ e) (and-right (rises A 0 list) _ e))
+list-back A (leafNode k ∷ ns) rest h =
+    let e : 2 + k ≡ suc (suc k) = omega arith in
+    rw (e, list-back A ns rest h)
+list-back A (strayNode ∷ ns) rest h = absurd (true≢false (sym h))
+
+pub nodes-back : (A : ℕ) (c : Tree) (rest : List ℕ) → treeRises A c ≡ true → treeInRange c ≡ true → takeNodes (treeNodes c) (flatMap nodeWords (nodes c) ++ rest) ≡ took (nodes c) rest
+unfolding treeNodes
+nodes-back A c rest r h = list-back A (nodes c) rest (all-good A c r h)
+
+-- where no row is broken, the first is not, and none after it
+pub unbroken : (row : ℕ) (b : Bool) (rest : Option ℕ) → broken row b rest ≡ none → (b ≡ false) × (rest ≡ none)
+unfolding broken
+unbroken row true rest h = absurd (none-some row (sym h))
+unbroken row false rest h = (refl, h)
+
+in-range : (r : Reading) (e : Entry) → faultOf r e ≡ none → numbersInRange e ≡ true
+unfolding faultOf
+in-range r e h = not-false _ (unbroken 3 (not (numbersInRange e)) (saidFault r e) h .0)
+
+-- with the numbers in range, the first row that an entry could break
+unsaid : (r : Reading) (e : Entry) (row : ℕ) (b : Bool) (rest : Option ℕ) → faultOf r e ≡ none → saidFault r e ≡ broken row (not b) rest → b ≡ true
+unfolding faultOf
+unsaid r e row b rest h s = not-false b (unbroken row (not b) rest (sym s ∙ unbroken 3 (not (numbersInRange e)) (saidFault r e) h .1) .0)
+
+-- each line's entry
+pub entry-back : (r : Reading) (e : Entry) (rest : List ℕ) → faultOf r e ≡ none → takeEntry (keyOf e) (lineWords e ++ rest) ≡ took e rest
+unfolding takeEntry keyOf lineWords takeNumber takePair takeEdge takeTreeLine edgeTo setWords numbersInRange saidFault onSome took range
+entry-back r formatLine rest h = refl
+entry-back r (actionsLine n) rest h = refl
+entry-back r (variablesLine n) rest h = refl
+entry-back r (variableLine x) rest h =
+    let z = in-range r (variableLine x) h in
+    rw (number-back (x .low) (and-left (between leastNumber greatestNumber (x .low)) _ z), number-back (x .high) (and-right (between leastNumber greatestNumber (x .low)) _ z))
+entry-back r (automataLine n) rest h = refl
+entry-back r (syncLine list) rest h =
+    rw (set-back (r .model .actions) list (unsaid r (syncLine list) 5 (rises (r .model .actions) 0 list) none h refl) (in-range r (syncLine list) h))
+entry-back r (locationsLine n) rest h = refl
+entry-back r (initLine p) rest h = pred-back initLine p rest (in-range r (initLine p) h)
+entry-back r (invLine p) rest h = pred-back invLine p rest (in-range r (invLine p) h)
+entry-back r (edgesLine n) rest h = refl
+entry-back r (edgeLine e) rest h =
+    let z = in-range r (edgeLine e) h in
+    pred-back (edgeTo (e .from) (e .action) (e .to)) (e .update) rest (and-right (leb (e .to) 31) _ (and-right (leb (e .action) 63) _ (and-right (leb (e .from) 31) _ z)))
+entry-back r (composeLine c) rest h =
+    let up : treeRises (r .model .actions) c ≡ true = unsaid r (composeLine c) 5 (treeRises (r .model .actions) c) _ h refl in
+    rw (nodes-back (r .model .actions) c rest up (in-range r (composeLine c) h), read-nodes-of c)
+
+-- all lines, as far as the fuel goes
+none-lacks : (o : Option ℕ) → lacks o ≡ true → o ≡ none
+unfolding lacks
+none-lacks none h = refl
+none-lacks (some n) h = absurd (true≢false (sym h))
+
+decode-step : (n : ℕ) (r : Reading) (k : Key) (ks : List Key) (ws rest : List ℕ) (e : Entry) → takeEntry k ws ≡ took e rest → lacks (faultOf r e) ≡ true → decode (suc n) r (k ∷ ks) ws ≡ decode n (taken r e) (thenDue e ++ ks) rest
+unfolding decode onSome took
+decode-step n r k ks ws rest e back ok = rw back (ap {B = Option Model} (λ b. elim b [ true ↦ decode n (taken r e) (thenDue e ++ ks) rest | false ↦ none ]) ok)
+
+pub decode-lines : (es : List Entry) (r : Reading) (ks : List Key) (m : Model) → Follows es r ks m → withinLimits r es ≡ true → (n : ℕ) → length es ≤ n → (rest : List ℕ) → decode n r ks (flatMap lineWords es ++ rest) ≡ some m
+unfolding withinLimits decode flatMap
+decode-lines [] r [] m f h zero l rest = ap some f
+decode-lines [] r [] m f h (suc n) l rest = ap some f
+decode-lines [] r (k ∷ ks) m f h n l rest = absurd f
+decode-lines (e ∷ es) r [] m f h n l rest = absurd f
+decode-lines (e ∷ es) r (k ∷ ks) m f h zero l rest = absurd (omega arith)
+decode-lines (e ∷ es) r (k ∷ ks) m f h (suc n) l rest =
+    let ok = and-left (lacks (faultOf r e)) _ h in
+    let back : takeEntry k (lineWords e ++ flatMap lineWords es ++ rest) ≡ took e (flatMap lineWords es ++ rest) =
+    rw (← f .0, append-assoc (lineWords e) (flatMap lineWords es) rest) (entry-back r e (flatMap lineWords es ++ rest) (none-lacks (faultOf r e) ok)) in
+    decode-step n r k ks (lineWords e ++ flatMap lineWords es ++ rest) (flatMap lineWords es ++ rest) e back ok ∙
+    decode-lines es (taken r e) (thenDue e ++ ks) m (f .1) (and-right (lacks (faultOf r e)) _ h) n (omega arith) rest

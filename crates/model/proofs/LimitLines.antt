@@ -1,0 +1,150 @@
+-- The rows as conditions on a line, read as facts: what it means that a line breaks none.
+use Prim.Native.Nat.{ℕ, zero, suc, _+_, _≤_, _<_}
+use mathlib.Core.Path.{_≡_, refl, sym}
+use mathlib.Core.Bool.{Bool, true, false, not, _&&_, _||_, true≢false, and-eq-true-iff}
+use mathlib.Core.List.{List, [], _∷_}
+use mathlib.Core.Logic.{_↔_}
+use mathlib.Core.Option.{Option}
+use native.Mathlib.Omega.{arith}
+use borrow.Author.Tests.{leb-true, leb-false, le-leb, lt-leb, not-false}
+use lib.ListN.{length}
+use lib.Dec.{leb, ltb, eqb}
+use Rattle.model.specs.Basic.{every, lacks, same, countUp}
+use Rattle.model.specs.Bounds.{maxNodes, maxActions, maxLocations, maxEdges, maxAutomata, maxVariables, lastAutomaton}
+use Rattle.model.specs.Predicate.{Pred, Range, words, namesNew, nodeCount}
+use Rattle.model.specs.Composition.{Tree, par, syn, leaf, leaves}
+use Rattle.model.specs.Model.{Edge, edgeTotal}
+use Rattle.model.specs.Lines.{formatLine, actionsLine, variablesLine, variableLine, automataLine, syncLine, locationsLine, initLine, edgesLine, edgeLine, composeLine, Reading}
+use Rattle.model.specs.Limits.{numbersInRange, treeInRange, isCrossed, rises, treeRises, isTooDeep, leavesSpan, passesNodes, variableCount, locationCount, isAstray, isDisordered, isTooLarge, passesEdges, broken, predFault, stateFault, saidFault, faultOf}
+use Rattle.model.specs.Lawful.{LawfulRange, LawfulPred, LawfulEdge, LawfulTree}
+use Rattle.model.proofs.Tests.{and-intro, and-right, every-append}
+use Rattle.model.proofs.Lists.{same-of, same-self}
+
+-- a row that is not broken, and its tests as facts
+clear : (n : ℕ) (b : Bool) (rest : Option ℕ) → (lacks (broken n b rest) ≡ true) ↔ ((b ≡ false) × (lacks rest ≡ true))
+unfolding lacks broken
+clear n true rest = (λ h. absurd (true≢false (sym h)), λ h. absurd (true≢false (h .0)))
+clear n false rest = (λ h. (refl, h), λ h. h .1)
+
+unless : (b : Bool) → (not b ≡ false) ↔ (b ≡ true)
+unless b = (not-false b, λ h. rw h)
+
+at-most : (a b : ℕ) → (leb a b ≡ true) ↔ (a ≤ b)
+at-most a b = (leb-true a b, le-leb a b)
+
+above : (a b : ℕ) → (leb a b ≡ false) ↔ (b < a)
+above a b = (leb-false a b, lt-leb a b)
+
+neither : (a b : Bool) → ((a || b) ≡ false) ↔ ((a ≡ false) × (b ≡ false))
+neither true b = (λ h. absurd (true≢false h), λ h. h .0)
+neither false b = (λ h. (refl, h), λ h. h .1)
+
+same-is : (k l : List ℕ) → (same k l ≡ true) ↔ (k ≡ l)
+same-is k l = (same-of k l, λ e. rw e (same-self l))
+
+ruleset rows = (clear, unless, at-most, above, neither, same-is, and-eq-true-iff)
+
+-- a list that rises to A, and the leaves in their order, have no number above the limit (row 3)
+rises-ranged : (A last : ℕ) (list : List ℕ) → A ≤ maxActions → rises A last list ≡ true → every (λ k. leb k maxActions) list ≡ true
+unfolding rises every
+rises-ranged A last [] a h = refl
+rises-ranged A last (k ∷ ks) a h = go (ltb last k && leb k A) refl h (λ g. rises-ranged A k ks a g)
+  where
+    go : (t : Bool) → (ltb last k && leb k A) ≡ t → elim t [ true ↦ rises A k ks | false ↦ false ] ≡ true → (rises A k ks ≡ true → every (λ k. leb k maxActions) ks ≡ true) → every (λ k. leb k maxActions) (k ∷ ks) ≡ true
+    go true e h ih = let l = leb-true k A (and-right (ltb last k) (leb k A) e) in and-intro (le-leb k maxActions (omega arith)) (ih h)
+    go false e h ih = absurd (true≢false (sym h))
+
+counted-ranged : (n count : ℕ) → n + count ≤ maxAutomata → every (λ k. leb k lastAutomaton) (countUp n count) ≡ true
+unfolding every countUp
+counted-ranged n zero h = refl
+counted-ranged n (suc count) h = and-intro (le-leb n lastAutomaton (omega arith)) (counted-ranged (suc n) count (omega arith))
+
+nodes-ranged : (A : ℕ) (c : Tree) → A ≤ maxActions → treeRises A c ≡ true → every (λ k. leb k lastAutomaton) (leaves c) ≡ true → treeInRange c ≡ true
+unfolding treeRises treeInRange leaves every
+nodes-ranged A (par c d) a h l =
+    let g = simp and-eq-true-iff at h in
+    let k = simp (every-append (λ k. leb k lastAutomaton) (leaves c) (leaves d), and-eq-true-iff) at l in
+    and-intro (nodes-ranged A c a (g .0) (k .0)) (nodes-ranged A d a (g .1) (k .1))
+nodes-ranged A (syn list c) a h l = let g = simp and-eq-true-iff at h in and-intro (rises-ranged A 0 list a (g .0)) (nodes-ranged A c a (g .1) l)
+nodes-ranged A (leaf k) a h l = let g = simp and-eq-true-iff at l in g .0
+
+pub tree-ranged : (A N : ℕ) (c : Tree) → A ≤ maxActions → N ≤ maxAutomata → LawfulTree A N c → treeInRange c ≡ true
+tree-ranged A N c a n h = nodes-ranged A c a (h .lists) (rw (h .in-order) (counted-ranged 0 N (omega arith)))
+
+-- the lines of counts
+pub format-line : (r : Reading) → lacks (faultOf r formatLine) ≡ true
+unfolding faultOf numbersInRange saidFault broken lacks
+format-line r = refl
+
+pub actions-line : (r : Reading) (n : ℕ) → (lacks (faultOf r (actionsLine n)) ≡ true) ↔ (n ≤ maxActions)
+unfolding faultOf numbersInRange saidFault lacks
+actions-line r n = (λ h. let g = simp rows at h in g .0, λ h. simp rows (h, refl))
+
+pub variables-line : (r : Reading) (n : ℕ) → (lacks (faultOf r (variablesLine n)) ≡ true) ↔ (n ≤ maxVariables)
+unfolding faultOf numbersInRange saidFault lacks
+variables-line r n = (λ h. let g = simp rows at h in g .0, λ h. simp rows (h, refl))
+
+pub automata-line : (r : Reading) (n : ℕ) → (lacks (faultOf r (automataLine n)) ≡ true) ↔ ((1 ≤ n) × (n ≤ maxAutomata))
+unfolding faultOf numbersInRange saidFault lacks
+automata-line r n = (λ h. let g = simp rows at h in g .0, λ h. simp rows (h, refl))
+
+pub locations-line : (r : Reading) (n : ℕ) → (lacks (faultOf r (locationsLine n)) ≡ true) ↔ ((1 ≤ n) × (n ≤ maxLocations))
+unfolding faultOf numbersInRange saidFault lacks
+locations-line r n = (λ h. let g = simp rows at h in g .0, λ h. simp rows (h, refl))
+
+pub edges-line : (r : Reading) (n : ℕ) → (lacks (faultOf r (edgesLine n)) ≡ true) ↔ (edgeTotal (r .model .automata) + n ≤ maxEdges)
+unfolding faultOf numbersInRange saidFault passesEdges lacks
+edges-line r n = (λ h. let g = simp rows at h in omega (arith, g .1 .0), λ h. simp rows (omega arith, (omega arith, refl)))
+
+-- the lines of the parts
+pub variable-line : (r : Reading) (x : Range) → (lacks (faultOf r (variableLine x)) ≡ true) ↔ LawfulRange x
+unfolding faultOf numbersInRange saidFault isCrossed lacks
+variable-line r x = (
+  λ h. let g = simp rows at h in record { low = g .0 .0; high = g .0 .1; ordered = g .1 .0 },
+  λ h. simp rows ((h .low, h .high), (h .ordered, refl)),
+)
+
+pub sync-line : (r : Reading) (list : List ℕ) → r .model .actions ≤ maxActions → (lacks (faultOf r (syncLine list)) ≡ true) ↔ (rises (r .model .actions) 0 list ≡ true)
+unfolding faultOf numbersInRange saidFault lacks
+sync-line r list a = (λ h. let g = simp rows at h in g .1 .0, λ h. simp rows (rises-ranged (r .model .actions) 0 list a h, (h, refl)))
+
+pub state-line : (r : Reading) (p : Pred) → (lacks (faultOf r (initLine p)) ≡ true) ↔ (LawfulPred (r .model .variables) p × (namesNew (words p) ≡ false) × (r .nodes + nodeCount p ≤ maxNodes))
+unfolding faultOf numbersInRange saidFault stateFault predFault isTooDeep leavesSpan passesNodes variableCount nodeCount lacks
+state-line r p = (
+  λ h.
+      let g = simp rows at h in (
+        record { ranged = g .0; named = g .1 .0; shallow = omega (arith, g .1 .1 .1 .0); spanned = g .1 .1 .1 .1 .0 },
+        g .1 .1 .0,
+        omega (arith, g .1 .1 .1 .1 .1 .0),
+      ),
+  λ h. simp rows (h .0 .ranged, (h .0 .named, (h .1, (omega (arith, h .0 .shallow), (h .0 .spanned, (omega (arith, h .2), refl)))))),
+)
+
+pub edge-line : (r : Reading) (e : Edge) → r .model .actions ≤ maxActions → locationCount r ≤ maxLocations → (lacks (faultOf r (edgeLine e)) ≡ true) ↔ (LawfulEdge (r .model .variables) (r .model .actions) (locationCount r) e × (r .nodes + nodeCount (e .update) ≤ maxNodes))
+unfolding faultOf numbersInRange saidFault predFault isTooDeep leavesSpan passesNodes variableCount nodeCount isAstray lacks
+edge-line r e a l = (
+  λ h.
+      let g = simp rows at h in (
+        record {
+          from = g .1 .1 .1 .1 .1 .0 .0;
+          action = omega (arith, g .1 .1 .1 .1 .1 .0 .1 .0);
+          to = g .1 .1 .1 .1 .1 .0 .1 .1;
+          update = record { ranged = g .0 .1 .1 .1; named = g .1 .0; shallow = omega (arith, g .1 .1 .0); spanned = g .1 .1 .1 .0 };
+        },
+        omega (arith, g .1 .1 .1 .1 .0),
+      ),
+  λ h. simp rows (
+    (omega (arith, h .0 .from), (omega (arith, h .0 .action), (omega (arith, h .0 .to), h .0 .update .ranged))),
+    (h .0 .update .named, (omega (arith, h .0 .update .shallow), (h .0 .update .spanned, (omega (arith, h .1), ((h .0 .from, (omega (arith, h .0 .action), h .0 .to)), refl))))),
+  ),
+)
+
+pub tree-line : (r : Reading) (c : Tree) → r .model .actions ≤ maxActions → length (r .model .automata) ≤ maxAutomata → (lacks (faultOf r (composeLine c)) ≡ true) ↔ LawfulTree (r .model .actions) (length (r .model .automata)) c
+unfolding faultOf numbersInRange saidFault isDisordered isTooLarge lacks
+tree-line r c a n = (
+  λ h. let g = simp rows at h in record { lists = g .1 .0; filled = g .1 .1 .0; in-order = g .1 .1 .1 .0; size = omega (arith, g .1 .1 .1 .1 .0) },
+  λ h. simp rows (
+    tree-ranged (r .model .actions) (length (r .model .automata)) c a n h,
+    (h .lists, (h .filled, (h .in-order, (omega (arith, h .size), refl)))),
+  ),
+)

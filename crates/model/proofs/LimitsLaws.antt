@@ -1,0 +1,239 @@
+-- The limits, tried line by line, are the record of specs/Lawful.
+use Prim.Native.Nat.{ℕ, _+_, _≤_}
+use mathlib.Core.Path.{_≡_, refl, sym, _∙_, ap, subst}
+use mathlib.Core.Bool.{true, _&&_, and-eq-true-iff, and-assoc}
+use mathlib.Core.List.{List, [], _∷_, _++_, map, flatMap, List·Memᴰ, List·Memᴰ·head, List·Memᴰ·tail, List·Memᴰ·not-nil}
+use mathlib.Core.Logic.{_↔_}
+use native.Mathlib.Omega.{arith}
+use lib.ListN.{length}
+use Rattle.model.specs.Basic.{sum}
+use Rattle.model.specs.Bounds.{maxNodes, maxActions, maxLocations, maxEdges}
+use Rattle.model.specs.Predicate.{Range, nodeCount}
+use Rattle.model.specs.Composition.{leaf}
+use Rattle.model.specs.Model.{Location, Edge, Automaton, Model, edgeTotal}
+use Rattle.model.specs.Lines.{Entry, actionsLine, variableLine, automataLine, syncLine, initLine, invLine, edgesLine, edgeLine, composeLine, locationLines, automatonLines, lines, Reading, atFirst, lastOf, onLast, addEdge, withModel, withAutomata, withPred, taken}
+use Rattle.model.specs.Limits.{numbersInRange, locationCount, saidFault, faultOf, withinLimits, limits}
+use Rattle.model.specs.Lawful.{locationNodes, automatonNodes, nodeTotal, LawfulRange, LawfulLocation, LawfulEdge, LawfulAutomaton, Lawful}
+use Rattle.model.proofs.LinesLaws.{takes, takes-append, sheet, auto, takes-ranges, takes-locations, takes-automaton, takes-automata}
+use Rattle.model.proofs.LimitLines.{format-line, actions-line, variables-line, variable-line, automata-line, sync-line, locations-line, state-line, edges-line, edge-line, tree-line}
+
+-- every item of a list
+abbrev Members : {A : Type 0} → (A → Type 0) → List A → Type 0
+Members {A} P l = (x : A) → List·Memᴰ x l → P x
+
+members : {A : Type 0} (P : A → Type 0) (x : A) (l : List A) → P x → Members P l → Members P (x ∷ l)
+members P x l p h y (List·Memᴰ·head e) = subst P (sym e) p
+members P x l p h y (List·Memᴰ·tail m) = h y m
+
+no-members : {A : Type 0} (P : A → Type 0) → Members P []
+no-members P x m = absurd (List·Memᴰ·not-nil m)
+
+-- the lines of some variables
+within-variables : (xs : List Range) (r : Reading) → (withinLimits r (map variableLine xs) ≡ true) ↔ Members LawfulRange xs
+unfolding withinLimits
+within-variables [] r = (λ h. no-members LawfulRange, λ h. refl)
+within-variables (x ∷ xs) r =
+    let line = variable-line r x in
+    let ih = within-variables xs (taken r (variableLine x)) in (
+      λ h. let g = simp and-eq-true-iff at h in members LawfulRange x xs (line .0 (g .0)) (ih .0 (g .1)),
+      λ h. simp and-eq-true-iff (line .1 (h x (List·Memᴰ·head refl)), ih .1 (λ y m. h y (List·Memᴰ·tail m))),
+    )
+
+nodes-variables : (xs : List Range) (r : Reading) → takes r (map variableLine xs) .nodes ≡ r .nodes
+unfolding taken withModel
+nodes-variables [] r = refl
+nodes-variables (x ∷ xs) r = nodes-variables xs (taken r (variableLine x))
+
+-- a block is within the limits, and so are the nodes before it
+abbrev Fits : Reading → List Entry → Type 0
+Fits r es = (r .nodes ≤ maxNodes) × (withinLimits r es ≡ true)
+
+-- the lines of some locations
+within-locations : (xs : List Location) (r : Reading) → Fits r (flatMap locationLines xs) ↔ (Members (LawfulLocation (r .model .variables)) xs × (r .nodes + sum (map locationNodes xs) ≤ maxNodes))
+unfolding withinLimits flatMap locationLines taken withModel withAutomata withPred sum locationNodes faultOf numbersInRange saidFault
+within-locations [] r = (λ h. (no-members (LawfulLocation (r .model .variables)), omega (arith, h .0)), λ h. (omega (arith, h .1), refl))
+within-locations (x ∷ xs) r =
+    let r₁ = taken r (initLine (x .init)) in
+    let line = state-line r (x .init) in
+    let next = state-line r₁ (x .inv) in
+    let ih = within-locations xs (taken r₁ (invLine (x .inv))) in (
+      λ h.
+          let g = simp and-eq-true-iff at (h .1) in
+          let p = line .0 (g .0) in
+          let q = next .0 (g .1 .0) in
+          let w = ih .0 (omega (arith, q .2), g .1 .1) in
+          (members (LawfulLocation (r .model .variables)) x xs (record { init = p .0; init-old = p .1; inv = q .0; inv-old = q .1 }) (w .0), omega (arith, w .1)),
+      λ h.
+          let p = h .0 x (List·Memᴰ·head refl) in
+          let w = ih .1 (λ y m. h .0 y (List·Memᴰ·tail m), omega (arith, h .1)) in
+          (omega (arith, h .1), simp and-eq-true-iff (line .1 (p .init, p .init-old, omega (arith, h .1)), (next .1 (p .inv, p .inv-old, omega (arith, h .1)), w .1))),
+    )
+
+nodes-locations : (xs : List Location) (r : Reading) → takes r (flatMap locationLines xs) .nodes ≡ r .nodes + sum (map locationNodes xs)
+unfolding flatMap locationLines taken withModel withAutomata withPred sum locationNodes
+nodes-locations [] r = omega arith
+nodes-locations (x ∷ xs) r = let ih = nodes-locations xs (taken (taken r (initLine (x .init))) (invLine (x .inv))) in omega arith
+
+-- the lines of some edges: an edge leaves the locations of the last automaton
+edge-keeps : (e : Edge) (l : List Automaton) → lastOf (onLast (addEdge e) l) .locations ≡ lastOf l .locations
+unfolding lastOf onLast addEdge
+edge-keeps e [] = refl
+edge-keeps e (x ∷ []) = refl
+edge-keeps e (x ∷ y ∷ []) = refl
+edge-keeps e (x ∷ y ∷ z ∷ l) = edge-keeps e (y ∷ z ∷ l)
+
+within-edges : (xs : List Edge) (r : Reading) (L : ℕ) → locationCount r ≡ L → r .model .actions ≤ maxActions → L ≤ maxLocations → Fits r (map edgeLine xs) ↔ (Members (LawfulEdge (r .model .variables) (r .model .actions) L) xs × (r .nodes + sum (map (λ e. nodeCount (e .update)) xs) ≤ maxNodes))
+unfolding withinLimits taken withModel withAutomata withPred sum locationCount
+within-edges [] r L e a l = (λ h. (no-members (LawfulEdge (r .model .variables) (r .model .actions) L), omega (arith, h .0)), λ h. (omega (arith, h .1), refl))
+within-edges (x ∷ xs) r L e a l =
+    let line = rw e at (edge-line r x a (rw e l)) in
+    let ih = within-edges xs (taken r (edgeLine x)) L (ap (length {A = Location}) (edge-keeps x (r .model .automata)) ∙ e) a l in (
+      λ h.
+          let g = simp and-eq-true-iff at (h .1) in
+          let p = line .0 (g .0) in
+          let w = ih .0 (p .1, g .1) in
+          (members (LawfulEdge (r .model .variables) (r .model .actions) L) x xs (p .0) (w .0), omega (arith, w .1)),
+      λ h.
+          let w = ih .1 (λ y m. h .0 y (List·Memᴰ·tail m), omega (arith, h .1)) in
+          (omega (arith, h .1), simp and-eq-true-iff (line .1 (h .0 x (List·Memᴰ·head refl), omega (arith, h .1)), w .1)),
+    )
+
+nodes-edges : (xs : List Edge) (r : Reading) → takes r (map edgeLine xs) .nodes ≡ r .nodes + sum (map (λ e. nodeCount (e .update)) xs)
+unfolding taken withModel withAutomata withPred sum
+nodes-edges [] r = omega arith
+nodes-edges (x ∷ xs) r = let ih = nodes-edges xs (taken r (edgeLine x)) in omega arith
+
+-- the lines of an automaton, which is the last one
+last-is : (done : List Automaton) (x : Automaton) → lastOf (done ++ x ∷ []) ≡ x
+unfolding lastOf
+last-is [] x = refl
+last-is (a ∷ []) x = refl
+last-is (a ∷ b ∷ done) x = last-is (b ∷ done) x
+
+edges-append : (done : List Automaton) (x : Automaton) → edgeTotal (done ++ x ∷ []) ≡ edgeTotal done + length (x .edges)
+unfolding edgeTotal
+edges-append [] x = omega arith
+edges-append (a ∷ done) x = let ih = edges-append done x in omega arith
+
+within-append : (r : Reading) (a b : List Entry) → withinLimits r (a ++ b) ≡ (withinLimits r a && withinLimits (takes r a) b)
+unfolding withinLimits
+within-append r [] b = refl
+within-append r (e ∷ a) b = simp (within-append (taken r e) a b, and-assoc)
+
+within-automaton : (x : Automaton) (r : Reading) → r .model .actions ≤ maxActions → Fits r (automatonLines x) ↔ (LawfulAutomaton (r .model .variables) (r .model .actions) x × (edgeTotal (r .model .automata) + length (x .edges) ≤ maxEdges) × (r .nodes + automatonNodes x ≤ maxNodes))
+unfolding withinLimits automatonLines taken withModel withAutomata automatonNodes locationCount
+within-automaton x r a =
+    let A = r .model .actions in
+    let vs = r .model .variables in
+    let r₁ = taken r (syncLine (x .sync)) in
+    let r₂ = takes r₁ (flatMap locationLines (x .locations)) in
+    let m : r₂ .model ≡ sheet A vs (r .model .automata ++ auto (x .sync) (x .locations) [] ∷ []) (r .model .tree) = takes-locations A vs (r .model .automata) (r .model .tree) (x .locations) r₁ (x .sync) [] [] refl in
+    let n = nodes-locations (x .locations) r₁ in
+    let e : edgeTotal (r₂ .model .automata) ≡ edgeTotal (r .model .automata) + 0 = ap (λ (q : Model). edgeTotal (q .automata)) m ∙ edges-append (r .model .automata) (auto (x .sync) (x .locations) []) in
+    let c : locationCount r₂ ≡ length (x .locations) = ap (λ (q : Model). length (lastOf (q .automata) .locations)) m ∙ ap (λ (q : Automaton). length (q .locations)) (last-is (r .model .automata) (auto (x .sync) (x .locations) [])) in
+    let es = rw (ap (λ (q : Model). q .variables) m, ap (λ (q : Model). q .actions) m) at (within-edges (x .edges) r₂ (length (x .locations)) c) in
+    let split = within-append r₁ (flatMap locationLines (x .locations)) (edgesLine (length (x .edges)) ∷ map edgeLine (x .edges)) in
+    let first = sync-line r (x .sync) a in
+    let second = locations-line r₁ (length (x .locations)) in
+    let ls = within-locations (x .locations) r₁ in
+    let third = edges-line r₂ (length (x .edges)) in (
+      λ h.
+          let g = simp (and-eq-true-iff, split) at (h .1) in
+          let p = second .0 (g .1 .0) in
+          let q = ls .0 (h .0, g .1 .1 .0) in
+          let t = third .0 (g .1 .1 .1 .0) in
+          let w = es a (p .1) .0 (omega (arith, q .1), g .1 .1 .1 .1) in
+          (record { sync = first .0 (g .0); some-location = p .0; few-locations = p .1; locations = q .0; edges = w .0 }, omega arith, omega (arith, w .1)),
+      λ h.
+          let q = ls .1 (h .0 .locations, omega (arith, h .2)) in
+          let w = es a (h .0 .few-locations) .1 (h .0 .edges, omega (arith, h .2)) in
+          (omega (arith, h .2), simp (and-eq-true-iff, split) (first .1 (h .0 .sync), (second .1 (h .0 .some-location, h .0 .few-locations), (q .1, (third .1 (omega (arith, h .1)), w .1))))),
+    )
+
+nodes-automaton : (x : Automaton) (r : Reading) → takes r (automatonLines x) .nodes ≡ r .nodes + automatonNodes x
+unfolding automatonLines taken withModel withAutomata automatonNodes
+nodes-automaton x r =
+    let r₁ = taken r (syncLine (x .sync)) in
+    let r₂ = takes r₁ (flatMap locationLines (x .locations)) in
+    let p = nodes-locations (x .locations) r₁ in
+    let q = nodes-edges (x .edges) r₂ in
+    rw (takes-append r₁ (flatMap locationLines (x .locations)) (edgesLine (length (x .edges)) ∷ map edgeLine (x .edges))) (omega arith)
+
+-- the lines of some automata, and of a model
+within-automata : (xs : List Automaton) (r : Reading) → r .model .actions ≤ maxActions → ((edgeTotal (r .model .automata) ≤ maxEdges) × Fits r (flatMap automatonLines xs)) ↔ (Members (LawfulAutomaton (r .model .variables) (r .model .actions)) xs × (edgeTotal (r .model .automata) + edgeTotal xs ≤ maxEdges) × (r .nodes + nodeTotal xs ≤ maxNodes))
+unfolding flatMap edgeTotal nodeTotal sum withinLimits
+within-automata [] r a = (
+  λ h. (no-members (LawfulAutomaton (r .model .variables) (r .model .actions)), omega (arith, h .0), omega (arith, h .1 .0)),
+  λ h. (omega (arith, h .1), (omega (arith, h .2), refl)),
+)
+within-automata (x ∷ xs) r a =
+    let A = r .model .actions in
+    let vs = r .model .variables in
+    let r₁ = takes r (automatonLines x) in
+    let m : r₁ .model ≡ sheet A vs (r .model .automata ++ x ∷ []) (r .model .tree) = takes-automaton A vs (r .model .automata) (r .model .tree) x r refl in
+    let n = nodes-automaton x r in
+    let e : edgeTotal (r₁ .model .automata) ≡ edgeTotal (r .model .automata) + length (x .edges) = ap (λ (q : Model). edgeTotal (q .automata)) m ∙ edges-append (r .model .automata) x in
+    let split = within-append r (automatonLines x) (flatMap automatonLines xs) in
+    let one = within-automaton x r a in
+    let ih = rw (ap (λ (q : Model). q .variables) m, ap (λ (q : Model). q .actions) m) at (within-automata xs r₁) in (
+      λ h.
+          let g = simp (and-eq-true-iff, split) at (h .1 .1) in
+          let p = one .0 (h .1 .0, g .0) in
+          let w = ih a .0 (omega (arith, p .1), (omega (arith, p .2), g .1)) in
+          (members (LawfulAutomaton vs A) x xs (p .0) (w .0), omega (arith, w .1), omega (arith, w .2)),
+      λ h.
+          let p = one .1 (h .0 x (List·Memᴰ·head refl), omega (arith, h .1), omega (arith, h .2)) in
+          let w = ih a .1 (λ y k. h .0 y (List·Memᴰ·tail k), omega (arith, h .1), omega (arith, h .2)) in
+          (omega (arith, h .1), (omega (arith, h .2), simp (and-eq-true-iff, split) (p .1, w .1 .1))),
+    )
+
+pub lawful-is : (m : Model) → (limits m ≡ true) ↔ Lawful m
+unfolding limits lines withinLimits taken withModel atFirst edgeTotal
+lawful-is m =
+    let r₁ = taken atFirst (actionsLine (m .actions)) in
+    let r₂ = takes r₁ (map variableLine (m .variables)) in
+    let r₃ = takes r₂ (flatMap automatonLines (m .automata)) in
+    let h₂ : r₂ .model ≡ sheet (m .actions) (m .variables) [] (leaf 0) = takes-ranges (m .variables) r₁ (m .actions) [] [] (leaf 0) refl in
+    let h₃ : r₃ .model ≡ sheet (m .actions) (m .variables) (m .automata) (leaf 0) = takes-automata (m .automata) r₂ (m .actions) (m .variables) [] (leaf 0) h₂ in
+    let k : r₂ .nodes ≡ 0 = nodes-variables (m .variables) r₁ in
+    let split = within-append r₁ (map variableLine (m .variables)) (automataLine (length (m .automata)) ∷ (flatMap automatonLines (m .automata) ++ (composeLine (m .tree) ∷ []))) in
+    let split₂ = within-append r₂ (flatMap automatonLines (m .automata)) (composeLine (m .tree) ∷ []) in
+    let e : edgeTotal (r₂ .model .automata) ≡ 0 = ap (λ (q : Model). edgeTotal (q .automata)) h₂ in
+    let block = within-variables (m .variables) r₁ in
+    let parts = rw (ap (λ (q : Model). q .variables) h₂, ap (λ (q : Model). q .actions) h₂) at (within-automata (m .automata) r₂) in
+    let whole = rw (ap (λ (q : Model). q .actions) h₃, ap (λ (q : Model). q .automata) h₃) at (tree-line r₃ (m .tree)) in (
+      λ h.
+          let g = simp (and-eq-true-iff, split, split₂) at h in
+          let a = actions-line atFirst (m .actions) .0 (g .1 .0) in
+          let n = automata-line r₂ (length (m .automata)) .0 (g .1 .1 .1 .1 .0) in
+          let p = parts a .0 (omega arith, (omega arith, g .1 .1 .1 .1 .1 .0)) in
+          record {
+            few-actions = a;
+            few-variables = variables-line r₁ (length (m .variables)) .0 (g .1 .1 .0);
+            ranges = block .0 (g .1 .1 .1 .0);
+            some-automaton = n .0;
+            few-automata = n .1;
+            automata = p .0;
+            few-edges = omega (arith, p .1);
+            few-nodes = omega (arith, p .2);
+            tree = whole a (n .1) .0 (g .1 .1 .1 .1 .1 .1 .0);
+          },
+      λ h.
+          let p = parts (h .few-actions) .1 (h .automata, omega (arith, h .few-edges), omega (arith, h .few-nodes)) in
+          simp (and-eq-true-iff, split, split₂) (
+            format-line atFirst,
+            (
+              actions-line atFirst (m .actions) .1 (h .few-actions),
+              (
+                variables-line r₁ (length (m .variables)) .1 (h .few-variables),
+                (
+                  block .1 (h .ranges),
+                  (
+                    automata-line r₂ (length (m .automata)) .1 (h .some-automaton, h .few-automata),
+                    (p .1 .1, (whole (h .few-actions) (h .few-automata) .1 (h .tree), refl)),
+                  ),
+                ),
+              ),
+            ),
+          ),
+    )

@@ -1,0 +1,146 @@
+-- Laws of the list functions of specs/Basic, and of `map` beside them.
+use mathlib.Core.Path.{_≡_, refl, sym, ap, ap₂, _∙_}
+use mathlib.Core.Bool.{Bool, true, false, _&&_, _||_, true≢false, and-false}
+use mathlib.Core.List.{List, [], _∷_, _++_, map, List·Memᴰ, List·Memᴰ·head, List·Memᴰ·tail, List·Memᴰ·cases-cons, List·Memᴰ·not-nil}
+use mathlib.Core.Logic.{_≢_, _⊎_, inl, inr}
+use Prim.Native.Nat.{ℕ, zero, suc, _+_, _≤_, _<_}
+use native.Mathlib.Omega.{arith}
+use lib.ListN.{getD}
+use lib.Dec.{eqb}
+use Rattle.model.specs.Basic.{every, exists, keep, member, same, countUp}
+use Rattle.model.proofs.Tests.{and-left, and-right, eq-self, eq-of, of-eq, or-left, or-right, or-none, or-none-left, or-none-right, exists-append}
+
+module _ {A : Type 0} (f : A → Bool) where
+  -- an item of which f holds is kept
+  pub keep-in : {x : A} {l : List A} → List·Memᴰ x l → f x ≡ true → List·Memᴰ x (keep f l)
+  unfolding keep
+  keep-in {x} (List·Memᴰ·head {x = y} {xs = l} e) p = rw (rw e at p, keep) (List·Memᴰ·head e)
+  keep-in {x} (List·Memᴰ·tail {x = y} {xs = l} h) p = go (f y) (keep-in h p)
+    where
+      go : (b : Bool) → List·Memᴰ x (keep f l) → List·Memᴰ x (elim b as (λ c. List A) [ true ↦ y ∷ keep f l | false ↦ keep f l ])
+      go true k = List·Memᴰ·tail k
+      go false k = k
+
+  -- what is kept is an item of which f holds
+  pub keep-out : {x : A} (l : List A) → List·Memᴰ x (keep f l) → List·Memᴰ x l × (f x ≡ true)
+  unfolding keep
+  keep-out [] h = absurd (List·Memᴰ·not-nil h)
+  keep-out {x} (y ∷ l) h = go (f y) refl (λ k. keep-out l k) h
+    where
+      last : f y ≡ true → (List·Memᴰ x (keep f l) → List·Memᴰ x l × (f x ≡ true)) → (x ≡ y) ⊎ List·Memᴰ x (keep f l) → List·Memᴰ x (y ∷ l) × (f x ≡ true)
+      last p ih (inl q) = (List·Memᴰ·head q, ap f q ∙ p)
+      last p ih (inr k) = (List·Memᴰ·tail (ih k .0), ih k .1)
+
+      go : (b : Bool) → f y ≡ b → (List·Memᴰ x (keep f l) → List·Memᴰ x l × (f x ≡ true)) → List·Memᴰ x (elim b as (λ c. List A) [ true ↦ y ∷ keep f l | false ↦ keep f l ]) → List·Memᴰ x (y ∷ l) × (f x ≡ true)
+      go true p ih k = last p ih (List·Memᴰ·cases-cons k)
+      go false p ih k = (List·Memᴰ·tail (ih k .0), ih k .1)
+
+  pub keep-append : (k l : List A) → keep f (k ++ l) ≡ keep f k ++ keep f l
+  unfolding keep
+  keep-append [] l = refl
+  keep-append (x ∷ k) l = go (f x) (keep-append k l)
+    where
+      go : (b : Bool) → keep f (k ++ l) ≡ keep f k ++ keep f l
+          → elim b as (λ c. List A) [ true ↦ x ∷ keep f (k ++ l) | false ↦ keep f (k ++ l) ] ≡ elim b as (λ c. List A) [ true ↦ x ∷ keep f k | false ↦ keep f k ] ++ keep f l
+      go true e = ap (λ (r : List A). x ∷ r) e
+      go false e = e
+
+  -- f holds of what g gives, so all of it is kept; of none of it, so nothing is
+  module _ {B : Type 0} (g : B → A) where
+    pub keep-all : ((y : B) → f (g y) ≡ true) → (l : List B) → keep f (map g l) ≡ map g l
+    unfolding keep
+    keep-all h [] = refl
+    keep-all h (y ∷ l) = rw (h y, keep) (ap (λ (r : List A). g y ∷ r) (keep-all h l))
+
+    pub keep-none : ((y : B) → f (g y) ≡ false) → (l : List B) → keep f (map g l) ≡ []
+    unfolding keep
+    keep-none h [] = refl
+    keep-none h (y ∷ l) = rw (h y, keep) (keep-none h l)
+
+module _ {A : Type 0} where
+  -- what holds of every item and of the default holds at every place
+  pub all-at : (P : A → Type 0) (d : A) → P d → (l : List A) → ((x : A) → List·Memᴰ x l → P x) → (k : ℕ) → P (getD l k d)
+  all-at P d e [] h k = e
+  all-at P d e (x ∷ l) h zero = h x (List·Memᴰ·head refl)
+  all-at P d e (x ∷ l) h (suc k) = all-at P d e l (λ y i. h y (List·Memᴰ·tail i)) k
+
+  -- of a joined list with no such item, the parts have none
+  pub none-left : (f : A → Bool) (k l : List A) → exists f (k ++ l) ≡ false → exists f k ≡ false
+  none-left f k l h = or-none-left (exists f k) (exists f l) (sym (exists-append f k l) ∙ h)
+
+  pub none-right : (f : A → Bool) (k l : List A) → exists f (k ++ l) ≡ false → exists f l ≡ false
+  none-right f k l h = or-none-right (exists f k) (exists f l) (sym (exists-append f k l) ∙ h)
+
+  -- no item is of the one kind, so none is of a narrower kind
+  pub none-narrower : (f g : A → Bool) → ((x : A) → f x ≡ false → g x ≡ false) → (l : List A) → exists f l ≡ false → exists g l ≡ false
+  unfolding exists
+  none-narrower f g n [] h = refl
+  none-narrower f g n (x ∷ l) h =
+      or-none (n x (or-none-left (f x) (exists f l) h)) (none-narrower f g n l (or-none-right (f x) (exists f l) h))
+
+-- a number is among the kept ones if it is in the list and f holds of it
+pub member-keep : (f : ℕ → Bool) (a : ℕ) (l : List ℕ) → member a (keep f l) ≡ (member a l && f a)
+unfolding member exists keep
+member-keep f a [] = refl
+member-keep f a (x ∷ l) = go (eqb a x) refl (f x) refl (member-keep f a l)
+  where
+    go : (p : Bool) → eqb a x ≡ p → (q : Bool) → f x ≡ q → member a (keep f l) ≡ (member a l && f a)
+        → member a (elim q as (λ c. List ℕ) [ true ↦ x ∷ keep f l | false ↦ keep f l ]) ≡ ((p || member a l) && f a)
+    go true e true g ih = or-left _ e ∙ sym (ap f (eq-of a x e) ∙ g)
+    go true e false g ih =
+        let z : f a ≡ false = ap f (eq-of a x e) ∙ g in
+        ih ∙ rw (z, and-false)
+    go false e true g ih = rw e ih
+    go false e false g ih = ih
+
+-- the numbers from n on that are below n + count are counted up
+pub member-count : (a n count : ℕ) → n ≤ a → a < n + count → member a (countUp n count) ≡ true
+unfolding member exists countUp
+member-count a n zero l h = absurd (omega arith)
+member-count a n (suc count) l h = go (eqb a n) refl (λ i. member-count a (suc n) count i (omega arith))
+  where
+    go : (b : Bool) → eqb a n ≡ b → (suc n ≤ a → member a (countUp (suc n) count) ≡ true) → (eqb a n || member a (countUp (suc n) count)) ≡ true
+    go true e ih = or-left _ e
+    go false e ih =
+        let ne : n ≢ a = λ q. true≢false (sym (of-eq a n (sym q)) ∙ e) in
+        or-right (eqb a n) (ih (omega arith))
+
+pub every-map : {A B : Type 0} (f : B → Bool) (g : A → B) (l : List A) → every f (map g l) ≡ every (λ x. f (g x)) l
+unfolding every
+every-map f g [] = refl
+every-map f g (x ∷ l) = rw (every-map f g l)
+
+-- what is kept, by the first item's test
+pub keep-first : (f : ℕ → Bool) (x : ℕ) (xs : List ℕ) → f x ≡ true → keep f (x ∷ xs) ≡ x ∷ keep f xs
+unfolding keep
+keep-first f x xs e = rw (e, keep)
+
+pub keep-skip : (f : ℕ → Bool) (x : ℕ) (xs : List ℕ) → f x ≡ false → keep f (x ∷ xs) ≡ keep f xs
+unfolding keep
+keep-skip f x xs e = rw (e, keep)
+
+pub keep-same : (f g : ℕ → Bool) (x : ℕ) (xs : List ℕ) → f x ≡ g x → keep f xs ≡ keep g xs → keep f (x ∷ xs) ≡ keep g (x ∷ xs)
+keep-same f g x xs e r = go (g x) refl
+  where
+    go : (b : Bool) → g x ≡ b → keep f (x ∷ xs) ≡ keep g (x ∷ xs)
+    go true h = keep-first f x xs (e ∙ h) ∙ ap (λ l. x ∷ l) r ∙ sym (keep-first g x xs h)
+    go false h = keep-skip f x xs (e ∙ h) ∙ r ∙ sym (keep-skip g x xs h)
+
+-- `same` is equality
+same-cons : (a b : ℕ) (s t : List ℕ) (c : Bool) → eqb a b ≡ c → same (a ∷ s) (b ∷ t) ≡ (c && same s t)
+unfolding same
+same-cons a b s t true e = rw (e, same)
+same-cons a b s t false e = rw (e, same)
+
+pub same-of : (s t : List ℕ) → same s t ≡ true → s ≡ t
+unfolding same
+same-of [] [] h = refl
+same-of [] (b ∷ t) h = absurd (true≢false (sym h))
+same-of (a ∷ s) [] h = absurd (true≢false (sym h))
+same-of (a ∷ s) (b ∷ t) h =
+    let q = sym (same-cons a b s t (eqb a b) refl) ∙ h in
+    ap₂ (λ x l. x ∷ l) (eq-of a b (and-left (eqb a b) _ q)) (same-of s t (and-right (eqb a b) _ q))
+
+pub same-self : (s : List ℕ) → same s s ≡ true
+same-self [] = unfold same in refl
+same-self (a ∷ s) = same-cons a a s s true (eq-self a) ∙ same-self s

@@ -1,0 +1,69 @@
+-- The format's numbers, each named once. Every row, limit and table position cites them.
+use Prim.Native.Nat.{ℕ}
+use lib.IntN.{ℤ, pos, negsuc}
+
+-- "The sheet text": how high counts and numbers go
+abbrev pub maxActions : ℕ
+maxActions = 63
+
+abbrev pub maxVariables : ℕ
+maxVariables = 48
+
+abbrev pub maxAutomata : ℕ
+maxAutomata = 16
+
+abbrev pub maxLocations : ℕ
+maxLocations = 32
+
+-- edges in an automaton, and in all automata together (row 15)
+abbrev pub maxEdges : ℕ
+maxEdges = 512
+
+-- the K of `all` and `any`
+abbrev pub maxOperands : ℕ
+maxOperands = 512
+
+-- the largest number that names a variable, a location, an automaton
+abbrev pub lastVariable : ℕ
+lastVariable = 47
+
+abbrev pub lastLocation : ℕ
+lastLocation = 31
+
+abbrev pub lastAutomaton : ℕ
+lastAutomaton = 15
+
+-- numbers in expressions, and the bounds of variables
+abbrev pub leastNumber : ℤ
+leastNumber = negsuc 32767
+
+abbrev pub greatestNumber : ℤ
+greatestNumber = pos 32767
+
+-- row 10: the span that every expression's interval must keep to
+abbrev pub leastValue : ℤ
+leastValue = negsuc 2147483647
+
+abbrev pub greatestValue : ℤ
+greatestValue = pos 2147483647
+
+-- rows 9, 11, 16 and 1
+abbrev pub maxDepth : ℕ
+maxDepth = 24
+
+abbrev pub maxNodes : ℕ
+maxNodes = 4096
+
+abbrev pub maxTreeNodes : ℕ
+maxTreeNodes = 64
+
+abbrev pub maxBytes : ℕ
+maxBytes = 65536
+
+-- row 18: the words of a table
+abbrev pub tableWords : ℕ
+tableWords = 8192
+
+-- a number's word in the table is the number plus this, so that the least number has 0
+abbrev pub bias : ℕ
+bias = 32768

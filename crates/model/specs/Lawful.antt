@@ -1,0 +1,77 @@
+-- What an accepted model meets, part by part. The law lawful-is says that these are exactly the models within `limits`.
+use mathlib.Core.Path.{_≡_}
+use mathlib.Core.Bool.{Bool, true, false}
+use mathlib.Core.List.{List, [], _∷_, map, List·Memᴰ}
+use Prim.Native.Nat.{ℕ, _+_, _≤_, _<_}
+use lib.ListN.{length}
+use lib.Signed.{leZ}
+use Rattle.model.specs.Basic.{between, every, sum, countUp}
+use Rattle.model.specs.Bounds.{maxActions, maxVariables, maxAutomata, maxLocations, maxEdges, maxDepth, maxNodes, maxTreeNodes, leastNumber, greatestNumber}
+use Rattle.model.specs.Predicate.{Pred, Range, words, depth, allStay, namesOutside, namesNew, nodeCount}
+use Rattle.model.specs.Composition.{Tree, leaves, treeNodes}
+use Rattle.model.specs.Model.{Location, Edge, Automaton, Model, edgeTotal}
+use Rattle.model.specs.Limits.{inRange, rises, treeRises, listsFilled}
+
+-- the nodes of all predicates
+unfoldable pub locationNodes : Location → ℕ
+locationNodes l = nodeCount (l .init) + nodeCount (l .inv)
+
+unfoldable pub automatonNodes : Automaton → ℕ
+automatonNodes x = sum (map locationNodes (x .locations)) + sum (map (λ e. nodeCount (e .update)) (x .edges))
+
+unfoldable pub nodeTotal : List Automaton → ℕ
+nodeTotal xs = sum (map automatonNodes xs)
+
+-- rows 3 and 4
+pub record LawfulRange (x : Range) : Type 0 where
+  pub low : between leastNumber greatestNumber (x .low) ≡ true
+  pub high : between leastNumber greatestNumber (x .high) ≡ true
+  pub ordered : leZ (x .low) (x .high) ≡ true
+
+-- rows 3, 7, 9 and 10
+pub record LawfulPred (declared : List Range) (p : Pred) : Type 0 where
+  pub ranged : every inRange (words p) ≡ true
+  pub named : namesOutside (length declared) (words p) ≡ false
+  pub shallow : depth p ≤ maxDepth
+  pub spanned : allStay declared p ≡ true
+
+-- row 8
+pub record LawfulLocation (declared : List Range) (l : Location) : Type 0 where
+  pub init : LawfulPred declared (l .init)
+  pub init-old : namesNew (words (l .init)) ≡ false
+  pub inv : LawfulPred declared (l .inv)
+  pub inv-old : namesNew (words (l .inv)) ≡ false
+
+-- row 12; A actions, L locations
+pub record LawfulEdge (declared : List Range) (A L : ℕ) (e : Edge) : Type 0 where
+  pub from : e .from < L
+  pub action : e .action ≤ A
+  pub to : e .to < L
+  pub update : LawfulPred declared (e .update)
+
+-- rows 3 and 5
+pub record LawfulAutomaton (declared : List Range) (A : ℕ) (x : Automaton) : Type 0 where
+  pub sync : rises A 0 (x .sync) ≡ true
+  pub some-location : 1 ≤ length (x .locations)
+  pub few-locations : length (x .locations) ≤ maxLocations
+  pub locations : (l : Location) → List·Memᴰ l (x .locations) → LawfulLocation declared l
+  pub edges : (e : Edge) → List·Memᴰ e (x .edges) → LawfulEdge declared A (length (x .locations)) e
+
+-- rows 5, 13, 14 and 16; N automata
+pub record LawfulTree (A N : ℕ) (c : Tree) : Type 0 where
+  pub lists : treeRises A c ≡ true
+  pub filled : listsFilled c ≡ true
+  pub in-order : leaves c ≡ countUp 0 N
+  pub size : treeNodes c ≤ maxTreeNodes
+
+-- rows 3, 11 and 15
+pub record Lawful (m : Model) : Type 0 where
+  pub few-actions : m .actions ≤ maxActions
+  pub few-variables : length (m .variables) ≤ maxVariables
+  pub ranges : (x : Range) → List·Memᴰ x (m .variables) → LawfulRange x
+  pub some-automaton : 1 ≤ length (m .automata)
+  pub few-automata : length (m .automata) ≤ maxAutomata
+  pub automata : (x : Automaton) → List·Memᴰ x (m .automata) → LawfulAutomaton (m .variables) (m .actions) x
+  pub few-edges : edgeTotal (m .automata) ≤ maxEdges
+  pub few-nodes : nodeTotal (m .automata) ≤ maxNodes
+  pub tree : LawfulTree (m .actions) (length (m .automata)) (m .tree)

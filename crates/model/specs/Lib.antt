@@ -1,0 +1,14 @@
+pub mod Basic
+pub mod Bounds
+pub mod Predicate
+pub mod Composition
+pub mod Parse
+pub mod Model
+pub mod Lines
+pub mod Limits
+pub mod Lawful
+pub mod Table
+pub mod Rules
+pub mod Linear
+pub mod Judge
+pub mod Runs

@@ -1,0 +1,160 @@
+-- "Refused", rows 3 to 16 as conditions on what a line says. The text's rows cite them, and a table must meet them (row 19).
+use Prim.Native.Nat.{ℕ, _+_}
+use mathlib.Core.Bool.{Bool, true, false, not, _&&_, _||_}
+use mathlib.Core.List.{List, [], _∷_}
+use mathlib.Core.Option.{Option, none, some}
+use lib.ListN.{length}
+use lib.IntN.{ℤ}
+use lib.Signed.{leZ}
+use lib.Dec.{eqb, leb, ltb}
+use Rattle.model.specs.Basic.{between, every, same, countUp, lacks}
+use Rattle.model.specs.Bounds.{maxActions, maxVariables, maxAutomata, maxLocations, maxEdges, maxOperands, maxDepth, maxNodes, maxTreeNodes, lastVariable, lastLocation, lastAutomaton, leastNumber, greatestNumber}
+use Rattle.model.specs.Predicate.{Pred, Word, Range, words, depth, allStay, namesOutside, namesNew, allOf, anyOf, notWord, impWord, eqWord, leWord, numWord, oldWord, newWord, addWord, subWord, mulWord, ifWord, stray}
+use Rattle.model.specs.Composition.{Tree, par, syn, leaf, leaves, treeNodes}
+use Rattle.model.specs.Model.{Edge, Model, edgeTotal}
+use Rattle.model.specs.Lines.{Entry, formatLine, actionsLine, variablesLine, variableLine, automataLine, syncLine, locationsLine, initLine, invLine, edgesLine, edgeLine, composeLine, lines, Reading, atFirst, taken, lastOf}
+
+-- Row 3: every number is in its range.
+unfoldable pub inRange : Word → Bool
+inRange (allOf k) = leb k maxOperands
+inRange (anyOf k) = leb k maxOperands
+inRange notWord = true
+inRange impWord = true
+inRange eqWord = true
+inRange leWord = true
+inRange (numWord z) = between leastNumber greatestNumber z
+inRange (oldWord k) = leb k lastVariable
+inRange (newWord k) = leb k lastVariable
+inRange addWord = true
+inRange subWord = true
+inRange mulWord = true
+inRange ifWord = true
+inRange stray = false
+
+unfoldable pub treeInRange : Tree → Bool
+treeInRange (par c d) = treeInRange c && treeInRange d
+treeInRange (syn list c) = every (λ k. leb k maxActions) list && treeInRange c
+treeInRange (leaf k) = leb k lastAutomaton
+
+unfoldable pub numbersInRange : Entry → Bool
+numbersInRange formatLine = true
+numbersInRange (actionsLine n) = leb n maxActions
+numbersInRange (variablesLine n) = leb n maxVariables
+numbersInRange (variableLine x) = between leastNumber greatestNumber (x .low) && between leastNumber greatestNumber (x .high)
+numbersInRange (automataLine n) = leb 1 n && leb n maxAutomata
+numbersInRange (syncLine list) = every (λ k. leb k maxActions) list
+numbersInRange (locationsLine n) = leb 1 n && leb n maxLocations
+numbersInRange (initLine p) = every inRange (words p)
+numbersInRange (invLine p) = every inRange (words p)
+numbersInRange (edgesLine n) = leb n maxEdges
+numbersInRange (edgeLine e) =
+    leb (e .from) lastLocation && (leb (e .action) maxActions && (leb (e .to) lastLocation && every inRange (words (e .update))))
+numbersInRange (composeLine c) = treeInRange c
+
+-- Row 4: LO above HI.
+unfoldable pub isCrossed : Range → Bool
+isCrossed x = not (leZ (x .low) (x .high))
+
+-- Row 5: a list rises, from above `last`, and holds nothing above A; so with `last` 0 it holds no 0.
+unfoldable pub rises : (A last : ℕ) → List ℕ → Bool
+rises A last [] = true
+rises A last (k ∷ ks) = elim (ltb last k && leb k A) [ true ↦ rises A k ks | false ↦ false ]
+
+unfoldable pub treeRises : ℕ → Tree → Bool
+treeRises A (par c d) = treeRises A c && treeRises A d
+treeRises A (syn list c) = rises A 0 list && treeRises A c
+treeRises A (leaf k) = true
+
+-- Row 9: too deep. Row 10: an interval leaves the span. Row 11: the nodes so far and these are too many.
+-- (Rows 7 and 8 are `namesOutside` and `namesNew` of Predicate.)
+unfoldable pub isTooDeep : Pred → Bool
+isTooDeep p = ltb maxDepth (depth p)
+
+unfoldable pub leavesSpan : List Range → Pred → Bool
+leavesSpan declared p = not (allStay declared p)
+
+unfoldable pub passesNodes : ℕ → List Word → Bool
+passesNodes before ws = ltb maxNodes (before + length ws)
+
+-- V, and L of the automaton that is being read
+unfoldable pub variableCount : Reading → ℕ
+variableCount r = length (r .model .variables)
+
+unfoldable pub locationCount : Reading → ℕ
+locationCount r = length (lastOf (r .model .automata) .locations)
+
+-- Row 12: an edge's location or action is not in the model.
+unfoldable pub isAstray : Reading → (from action to : ℕ) → Bool
+isAstray r from action to = leb (locationCount r) from || (ltb (r .model .actions) action || leb (locationCount r) to)
+
+-- Row 13, as far as a tree can break it: a list of `syn` is empty.
+unfoldable pub listsFilled : Tree → Bool
+listsFilled (par c d) = listsFilled c && listsFilled d
+listsFilled (syn [] c) = false
+listsFilled (syn (k ∷ ks) c) = listsFilled c
+listsFilled (leaf k) = true
+
+-- Row 14: the leaves, left to right, are not 0 to N-1. Row 16: the tree is too large.
+unfoldable pub isDisordered : ℕ → Tree → Bool
+isDisordered N c = not (same (leaves c) (countUp 0 N))
+
+unfoldable pub isTooLarge : ℕ → Bool
+isTooLarge nodes = ltb maxTreeNodes nodes
+
+-- Row 15: E more edges take the total past the limit.
+unfoldable pub passesEdges : Reading → ℕ → Bool
+passesEdges r E = ltb maxEdges (edgeTotal (r .model .automata) + E)
+
+-- A row's number if it is broken, otherwise what `rest` says.
+unfoldable pub broken : ℕ → Bool → Option ℕ → Option ℕ
+broken row true rest = some row
+broken row false rest = rest
+
+-- the smallest row that an entry breaks
+unfoldable pub predFault : Reading → Pred → Option ℕ → Option ℕ
+predFault r p rest =
+    broken 9 (isTooDeep p)
+    (broken 10 (leavesSpan (r .model .variables) p)
+    (broken 11 (passesNodes (r .nodes) (words p))
+    rest))
+
+unfoldable pub stateFault : Reading → Pred → Option ℕ
+stateFault r p =
+    broken 7 (namesOutside (variableCount r) (words p))
+    (broken 8 (namesNew (words p))
+    (predFault r p none))
+
+unfoldable pub saidFault : Reading → Entry → Option ℕ
+saidFault r formatLine = none
+saidFault r (actionsLine n) = none
+saidFault r (variablesLine n) = none
+saidFault r (variableLine x) = broken 4 (isCrossed x) none
+saidFault r (automataLine n) = none
+saidFault r (syncLine list) = broken 5 (not (rises (r .model .actions) 0 list)) none
+saidFault r (locationsLine n) = none
+saidFault r (initLine p) = stateFault r p
+saidFault r (invLine p) = stateFault r p
+saidFault r (edgesLine n) = broken 15 (passesEdges r n) none
+saidFault r (edgeLine e) =
+    broken 7 (namesOutside (variableCount r) (words (e .update)))
+    (predFault r (e .update)
+    (broken 12 (isAstray r (e .from) (e .action) (e .to))
+    none))
+saidFault r (composeLine c) =
+    broken 5 (not (treeRises (r .model .actions) c))
+    (broken 13 (not (listsFilled c))
+    (broken 14 (isDisordered (length (r .model .automata)) c)
+    (broken 16 (isTooLarge (treeNodes c))
+    none)))
+
+unfoldable pub faultOf : Reading → Entry → Option ℕ
+faultOf r e = broken 3 (not (numbersInRange e)) (saidFault r e)
+
+-- no line, in file order, breaks a row
+unfoldable pub withinLimits : Reading → List Entry → Bool
+withinLimits r [] = true
+withinLimits r (e ∷ es) = lacks (faultOf r e) && withinLimits (taken r e) es
+
+-- what an accepted model meets. (Its text then has at most 65,536 bytes: text-fits.)
+unfoldable pub limits : Model → Bool
+limits m = withinLimits atFirst (lines m)

@@ -1,0 +1,134 @@
+-- "The merged text": Definition 4 of source document 003, the linearization, with the format's two differences: a pointer's
+-- range stands for the membership conjunct, and equal edges stay two.
+use Prim.Native.Nat.{ℕ, suc, pred, _+_, _*_}
+use mathlib.Core.Bool.{Bool, true, false, _&&_}
+use mathlib.Core.List.{List, [], _∷_, _++_, map, flatMap}
+use mathlib.Core.Option.{Option, none}
+use lib.IntN.{ℤ, pos}
+use lib.ListN.{length}
+use lib.Dec.{eqb, ltb}
+use Rattle.model.specs.Basic.{exists, keep, sum, countUp}
+use Rattle.model.specs.Bounds.{maxVariables, maxEdges, maxNodes}
+use Rattle.model.specs.Predicate.{Pred, all, imp, eq, num, old, new, preds, Range, range, nodeCount}
+use Rattle.model.specs.Composition.{Tree, par, syn, leaf}
+use Rattle.model.specs.Model.{Model, Location, Edge, Automaton, automaton, inSet}
+use Rattle.model.specs.Limits.{isTooDeep, broken}
+use Rattle.model.specs.Rules.{Taker}
+
+-- The edges: rules 17 to 19 and 21 of Table 3, each transition by its takers.
+
+-- each of the left with each of the right, the left slowest
+unfoldable pub pairs : List (List Taker) → List (List Taker) → List (List Taker)
+pairs [] ys = []
+pairs (x ∷ xs) ys = map (λ y. x ++ y) ys ++ pairs xs ys
+
+-- by whether the action is in the left's set, and in the right's: in both (rule 19), or one side alone, if the other's set
+-- lacks it (rule 18), the left's before the right's
+unfoldable pub sides : Bool → Bool → List (List Taker) → List (List Taker) → List (List Taker)
+sides true true left right = pairs left right
+sides true false left right = left
+sides false true left right = right
+sides false false left right = left ++ right
+
+-- an automaton's edges under an action, in file order
+unfoldable pub under : ℕ → List Edge → List Edge
+under a es = keep (λ e. eqb (e .action) a) es
+
+abbrev pub alone : ℕ → Edge → List Taker
+alone k e = record { automaton = k; edge = e } ∷ []
+
+unfoldable pub moves : Model → ℕ → Tree → List (List Taker)
+moves m a (par c d) = sides (inSet m a c) (inSet m a d) (moves m a c) (moves m a d)
+moves m a (syn list c) = moves m a c
+moves m a (leaf k) = map (alone k) (under a (automaton m k .edges))
+
+-- how many they are, without listing them
+unfoldable pub sidesCount : Bool → Bool → ℕ → ℕ → ℕ
+sidesCount true true left right = left * right
+sidesCount true false left right = left
+sidesCount false true left right = right
+sidesCount false false left right = left + right
+
+unfoldable pub moveCount : Model → ℕ → Tree → ℕ
+moveCount m a (par c d) = sidesCount (inSet m a c) (inSet m a d) (moveCount m a c) (moveCount m a d)
+moveCount m a (syn list c) = moveCount m a c
+moveCount m a (leaf k) = length (under a (automaton m k .edges))
+
+-- a pointer's values are its automaton's locations
+unfoldable pub pointerRange : Automaton → Range
+pointerRange x = range (pos 0) (pos (pred (length (x .locations))))
+
+module _ (m : Model) where
+  -- automaton I's pointer is variable V + I
+  unfoldable pub pointer : ℕ → ℕ
+  pointer i = length (m .variables) + i
+
+  -- `imp eq vI J` with the init (or inv) of location J of automaton I, from J and from I on
+  unfoldable pub atLocations : (Location → Pred) → ℕ → ℕ → List Location → List Pred
+  atLocations part i j [] = []
+  atLocations part i j (l ∷ ls) = imp (eq (old (pointer i)) (num (pos j))) (part l) ∷ atLocations part i (suc j) ls
+
+  unfoldable pub atAutomata : (Location → Pred) → ℕ → List Automaton → List Pred
+  atAutomata part i [] = []
+  atAutomata part i (x ∷ xs) = atLocations part i 0 (x .locations) ++ atAutomata part (suc i) xs
+
+  unfoldable pub mergedInit : Pred
+  mergedInit = all (preds (atAutomata (λ l. l .init) 0 (m .automata)))
+
+  unfoldable pub mergedInv : Pred
+  mergedInv = all (preds (atAutomata (λ l. l .inv) 0 (m .automata)))
+
+  -- for each taker: its pointer was FROM and becomes TO
+  unfoldable pub pointerMoves : List Taker → List Pred
+  pointerMoves [] = []
+  pointerMoves (x ∷ xs) =
+      eq (old (pointer (x .automaton))) (num (pos (x .edge .from))) ∷
+      eq (new (pointer (x .automaton))) (num (pos (x .edge .to))) ∷ pointerMoves xs
+
+  -- `all 3m`: the takers' updates, then their pointers
+  unfoldable pub mergedEdge : ℕ → List Taker → Edge
+  mergedEdge a takers =
+      record { from = 0; action = a; to = 0; update = all (preds (map (λ x. x .edge .update) takers ++ pointerMoves takers)) }
+
+  -- by action, from 0 up
+  unfoldable pub mergedEdges : List Edge
+  mergedEdges = flatMap (λ a. map (mergedEdge a) (moves m a (m .tree))) (countUp 0 (suc (m .actions)))
+
+  unfoldable pub mergedCount : ℕ
+  mergedCount = sum (map (λ a. moveCount m a (m .tree)) (countUp 0 (suc (m .actions))))
+
+  unfoldable pub linear : Model
+  linear =
+      record {
+        actions = m .actions;
+        variables = m .variables ++ map pointerRange (m .automata);
+        automata = record {
+          sync = keep (λ a. inSet m a (m .tree)) (countUp 1 (m .actions));
+          locations = record { init = mergedInit; inv = mergedInv } ∷ [];
+          edges = mergedEdges;
+        } ∷ [];
+        tree = leaf 0;
+      }
+
+  -- Rows 31 to 34: when there is no merged text.
+  unfoldable pub mergedPreds : List Pred
+  mergedPreds = mergedInit ∷ mergedInv ∷ map (λ e. e .update) mergedEdges
+
+  -- too many variables
+  unfoldable pub row31 : Bool
+  row31 = ltb maxVariables (length (m .variables) + length (m .automata))
+
+  -- too many merged edges
+  unfoldable pub row32 : Bool
+  row32 = ltb maxEdges mergedCount
+
+  -- a merged predicate is too deep
+  unfoldable pub row33 : Bool
+  row33 = exists isTooDeep mergedPreds
+
+  -- too many merged nodes
+  unfoldable pub row34 : Bool
+  row34 = ltb maxNodes (sum (map nodeCount mergedPreds))
+
+  unfoldable pub mergeFault : Option ℕ
+  mergeFault = broken 31 row31 (broken 32 row32 (broken 33 row33 (broken 34 row34 none)))

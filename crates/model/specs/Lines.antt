@@ -1,0 +1,128 @@
+-- "The sheet text", its lines in order: what each line says, apart from how it is spelled. The text spells these entries
+-- with bytes, and the table with words.
+use Prim.Native.Nat.{ℕ, zero, suc, _+_}
+use mathlib.Core.List.{List, [], _∷_, _++_, map, flatMap}
+use lib.ListN.{length}
+use Rattle.model.specs.Predicate.{Pred, all, none, Range, nodeCount}
+use Rattle.model.specs.Composition.{Tree, leaf}
+use Rattle.model.specs.Model.{Location, Edge, Automaton, Model, nobody}
+
+-- the twelve keys
+pub data Key : Type 0 where
+  format actions variables variable automata sync locations init inv edges edge compose : Key
+
+-- what a line says
+pub data Entry : Type 0 where
+  formatLine : Entry
+  actionsLine variablesLine automataLine locationsLine edgesLine : ℕ → Entry
+  variableLine : Range → Entry
+  syncLine : List ℕ → Entry
+  initLine invLine : Pred → Entry
+  edgeLine : Edge → Entry
+  composeLine : Tree → Entry
+
+unfoldable pub keyOf : Entry → Key
+keyOf formatLine = format
+keyOf (actionsLine n) = actions
+keyOf (variablesLine n) = variables
+keyOf (variableLine r) = variable
+keyOf (automataLine n) = automata
+keyOf (syncLine list) = sync
+keyOf (locationsLine n) = locations
+keyOf (initLine p) = init
+keyOf (invLine p) = inv
+keyOf (edgesLine n) = edges
+keyOf (edgeLine e) = edge
+keyOf (composeLine c) = compose
+
+-- the lines of a model, in order
+unfoldable pub locationLines : Location → List Entry
+locationLines l = initLine (l .init) ∷ invLine (l .inv) ∷ []
+
+unfoldable pub automatonLines : Automaton → List Entry
+automatonLines x =
+    syncLine (x .sync) ∷ locationsLine (length (x .locations)) ∷
+    (flatMap locationLines (x .locations) ++
+    (edgesLine (length (x .edges)) ∷ map edgeLine (x .edges)))
+
+unfoldable pub lines : Model → List Entry
+lines m =
+    formatLine ∷ actionsLine (m .actions) ∷ variablesLine (length (m .variables)) ∷
+    (map variableLine (m .variables) ++
+    (automataLine (length (m .automata)) ∷
+    (flatMap automatonLines (m .automata) ++
+    (composeLine (m .tree) ∷ []))))
+
+-- Reading them back. What is due is the list of the keys to come: at first these, and a line that counts puts the keys of
+-- what it counts in front.
+unfoldable pub dueAtFirst : List Key
+dueAtFirst = format ∷ actions ∷ variables ∷ automata ∷ compose ∷ []
+
+unfoldable pub repeat : ℕ → List Key → List Key
+repeat zero ks = []
+repeat (suc n) ks = ks ++ repeat n ks
+
+unfoldable pub thenDue : Entry → List Key
+thenDue formatLine = []
+thenDue (actionsLine n) = []
+thenDue (variablesLine n) = repeat n (variable ∷ [])
+thenDue (variableLine r) = []
+thenDue (automataLine n) = repeat n (sync ∷ locations ∷ [])
+thenDue (syncLine list) = []
+thenDue (locationsLine n) = repeat n (init ∷ inv ∷ []) ++ edges ∷ []
+thenDue (initLine p) = []
+thenDue (invLine p) = []
+thenDue (edgesLine n) = repeat n (edge ∷ [])
+thenDue (edgeLine e) = []
+thenDue (composeLine c) = []
+
+-- what has been read: the model so far, the init whose inv is due next, and the nodes of all predicates so far
+pub record Reading : Type 0 where
+  pub model : Model
+  pub init : Pred
+  pub nodes : ℕ
+
+unfoldable pub atFirst : Reading
+atFirst = record { model = record { actions = 0; variables = []; automata = []; tree = leaf 0 }; init = all none; nodes = 0 }
+
+-- the automaton that is being read is the last one
+unfoldable pub lastOf : List Automaton → Automaton
+lastOf [] = nobody
+lastOf (x ∷ []) = x
+lastOf (x ∷ y ∷ rest) = lastOf (y ∷ rest)
+
+unfoldable pub onLast : (Automaton → Automaton) → List Automaton → List Automaton
+onLast f [] = []
+onLast f (x ∷ []) = f x ∷ []
+onLast f (x ∷ y ∷ rest) = x ∷ onLast f (y ∷ rest)
+
+unfoldable pub addLocation : Location → Automaton → Automaton
+addLocation l x = record { sync = x .sync; locations = x .locations ++ l ∷ []; edges = x .edges }
+
+unfoldable pub addEdge : Edge → Automaton → Automaton
+addEdge e x = record { sync = x .sync; locations = x .locations; edges = x .edges ++ e ∷ [] }
+
+unfoldable pub withModel : Reading → ℕ → List Range → List Automaton → Tree → Reading
+withModel r a vs xs c = record { model = record { actions = a; variables = vs; automata = xs; tree = c }; init = r .init; nodes = r .nodes }
+
+unfoldable pub withAutomata : Reading → List Automaton → Reading
+withAutomata r xs = withModel r (r .model .actions) (r .model .variables) xs (r .model .tree)
+
+unfoldable pub withPred : Reading → Pred → Reading
+withPred r p = record { model = r .model; init = p; nodes = r .nodes + nodeCount p }
+
+-- what a line adds
+unfoldable pub taken : Reading → Entry → Reading
+taken r formatLine = r
+taken r (actionsLine n) = withModel r n (r .model .variables) (r .model .automata) (r .model .tree)
+taken r (variablesLine n) = r
+taken r (variableLine x) = withModel r (r .model .actions) (r .model .variables ++ x ∷ []) (r .model .automata) (r .model .tree)
+taken r (automataLine n) = r
+taken r (syncLine list) = withAutomata r (r .model .automata ++ record { sync = list; locations = []; edges = [] } ∷ [])
+taken r (locationsLine n) = r
+taken r (initLine p) = withPred r p
+taken r (invLine p) =
+    withAutomata (withPred r p) (onLast (addLocation (record { init = r .init; inv = p })) (r .model .automata))
+taken r (edgesLine n) = r
+taken r (edgeLine e) = withAutomata (withPred r (e .update)) (onLast (addEdge e) (r .model .automata))
+taken r (composeLine c) = withModel r (r .model .actions) (r .model .variables) (r .model .automata) c

@@ -1,0 +1,106 @@
+-- "Steps": the rules of Table 1 of source document 003, with the frame rule that the format puts in place of Table 1's.
+use mathlib.Core.Path.{_≡_}
+use mathlib.Core.Bool.{Bool, true, false, _||_}
+use mathlib.Core.List.{List, [], _∷_, _++_, List·Memᴰ}
+use Prim.Native.Nat.{ℕ, _<_}
+use lib.IntN.{ℤ, pos}
+use lib.ListN.{length, getD}
+use Rattle.model.specs.Basic.{member, exists}
+use Rattle.model.specs.Predicate.{Pred, holds, mentions}
+use Rattle.model.specs.Composition.{Tree, par, syn, leaf}
+use Rattle.model.specs.Model.{Model, Edge, automaton, location, inSet}
+
+-- phase 0 is start, phase 1 running
+pub data Phase : Type 0 where
+  start running : Phase
+
+-- a state: the phase, each automaton's location, each variable's value
+pub record State : Type 0 where
+  pub phase : Phase
+  pub locations : List ℕ
+  pub values : List ℤ
+
+-- every step ends in phase 1
+abbrev pub reached : List ℕ → List ℤ → State
+reached locations values = record { phase = running; locations = locations; values = values }
+
+-- automaton k's location, and variable k's value
+abbrev pub at : State → ℕ → ℕ
+at s k = getD (s .locations) k 0
+
+abbrev pub val : State → ℕ → ℤ
+val s k = getD (s .values) k (pos 0)
+
+-- P holds of a state's values; init and inv mention no new value (row 8), so the second list plays no part
+abbrev pub holdsIn : State → Pred → Bool
+holdsIn s p = holds (s .values) (s .values) p
+
+-- an automaton, by its number, and the edge that it takes
+pub record Taker : Type 0 where
+  pub automaton : ℕ
+  pub edge : Edge
+
+-- some taking edge mentions `nK`
+unfoldable pub mentioned : ℕ → List Taker → Bool
+mentioned k takers = exists (λ x. mentions k (x .edge .update)) takers
+
+-- from state s to state t under action a
+module _ (m : Model) (s : State) (a : ℕ) (t : State) where
+  -- rule 1: automaton k takes edge e. Its last line, which holds variables to their values, is `frame` of Step below.
+  pub record Takes (k : ℕ) (e : Edge) : Type 0 where
+    pub listed : List·Memᴰ e (automaton m k .edges)
+    pub action : e .action ≡ a
+    pub from : at s k ≡ e .from
+    pub to : at t k ≡ e .to
+    pub init : s .phase ≡ start → holdsIn s (location m k (at s k) .init) ≡ true
+    pub inv : holdsIn s (location m k (at s k) .inv) ≡ true
+    pub inv' : holdsIn t (location m k (at t k) .inv) ≡ true
+    pub update : holds (s .values) (t .values) (e .update) ≡ true
+
+module _ (m : Model) (s t : State) where
+  -- rule 2: automaton k is still
+  pub record Still (k : ℕ) : Type 0 where
+    pub stays : at s k ≡ at t k
+    pub init : s .phase ≡ start → holdsIn s (location m k (at s k) .init) ≡ true
+    pub inv : holdsIn s (location m k (at s k) .inv) ≡ true
+    pub inv' : holdsIn t (location m k (at s k) .inv) ≡ true
+
+  -- rules 2, 5 and 7: every automaton of a composition is still. (Their label, the synchronising set, is `inSet`.)
+  pub data Rests : Tree → Type 0 where
+    rule-2 : {k : ℕ} → Still k → Rests (leaf k)
+    rule-5 : {c d : Tree} → Rests c → Rests d → Rests (par c d)
+    rule-7 : {list : List ℕ} {c : Tree} → Rests c → Rests (syn list c)
+
+module _ (m : Model) (s : State) (a : ℕ) (t : State) where
+  -- rules 1, 3, 4 and 6: a composition takes the action, by these takers. In `par` both sides take what is in both sets;
+  -- otherwise one side takes it, if the other's set lacks it, while the other is still.
+  pub data Moves : Tree → List Taker → Type 0 where
+    rule-1 : {k : ℕ} {e : Edge} → Takes m s a t k e → Moves (leaf k) (record { automaton = k; edge = e } ∷ [])
+    rule-3 : {c d : Tree} {x y : List Taker} → inSet m a c ≡ true → inSet m a d ≡ true → Moves c x → Moves d y → Moves (par c d) (x ++ y)
+    rule-4-left : {c d : Tree} {x : List Taker} → Moves c x → Rests m s t d → inSet m a d ≡ false → Moves (par c d) x
+    rule-4-right : {c d : Tree} {y : List Taker} → Rests m s t c → Moves d y → inSet m a c ≡ false → Moves (par c d) y
+    rule-6 : {list : List ℕ} {c : Tree} {x : List Taker} → Moves c x → Moves (syn list c) x
+
+  -- the same rules as Table 1 prints them, each with its mark; the law table-1-is says that the two are one
+  pub data Table1 : Tree → Bool → List Taker → Type 0 where
+    printed-1 : {k : ℕ} {e : Edge} → Takes m s a t k e → Table1 (leaf k) (member a (automaton m k .sync)) (record { automaton = k; edge = e } ∷ [])
+    printed-3 : {c d : Tree} {x y : List Taker} → Table1 c true x → Table1 d true y → Table1 (par c d) true (x ++ y)
+    printed-4-left : {c d : Tree} {b : Bool} {x : List Taker} → Table1 c b x → Rests m s t d → inSet m a d ≡ false → Table1 (par c d) b x
+    printed-4-right : {c d : Tree} {b : Bool} {y : List Taker} → Rests m s t c → Table1 d b y → inSet m a c ≡ false → Table1 (par c d) b y
+    printed-6 : {list : List ℕ} {c : Tree} {b : Bool} {x : List Taker} → Table1 c b x → Table1 (syn list c) (b || member a list) x
+
+  pub record Step (mark : Bool) : Type 0 where
+    pub takers : List Taker
+    pub moves : Moves (m .tree) takers
+    -- The format's difference from Table 1: a variable may change if some taker's edge mentions its new value, whichever
+    -- automaton that is; every other variable keeps its value.
+    pub frame : (k : ℕ) → k < length (m .variables) → mentioned k takers ≡ false → val s k ≡ val t k
+    -- the mark: is the action in the whole's set?
+    pub marked : mark ≡ inSet m a (m .tree)
+
+-- an environment step keeps the locations and may change any variable, while every automaton is still
+abbrev pub moved : State → List ℤ → State
+moved s values = reached (s .locations) values
+
+pub record Environment (m : Model) (s : State) (values : List ℤ) : Type 0 where
+  pub still : Rests m s (moved s values) (m .tree)

@@ -1,0 +1,192 @@
+-- The table of a model, docs/TABLE.md: the lines' words in file order, then zeros up to 8,192 words.
+use Prim.Native.Nat.{ℕ, zero, suc, _+_, _-_, _*_, _/_, _%_, _^_}
+use mathlib.Core.Bool.{Bool, true, false, _&&_}
+use mathlib.Core.List.{List, [], _∷_, _++_, map, flatMap}
+use mathlib.Core.Option.{Option, none, some}
+use lib.ListN.{length, getD, take, drop, replicate}
+use lib.IntN.{ℤ, pos, negsuc}
+use lib.Dec.{eqb, leb, ltb}
+use Rattle.model.specs.Basic.{keep, same, countUp, onSome, lacks}
+use Rattle.model.specs.Bounds.{tableWords, bias}
+use Rattle.model.specs.Predicate.{Pred, Range, range, Word, words, nodeCount, allOf, anyOf, notWord, impWord, eqWord, leWord, numWord, oldWord, newWord, addWord, subWord, mulWord, ifWord, stray}
+use Rattle.model.specs.Composition.{Tree, Node, nodes, treeNodes, parNode, synNode, leafNode}
+use Rattle.model.specs.Composition as C
+use Rattle.model.specs.Parse.{readPred, readTree}
+use Rattle.model.specs.Model.{Edge, Model}
+use Rattle.model.specs.Lines.{Key, Entry, format, actions, variables, variable, automata, sync, locations, init, inv, edges, edge, compose, formatLine, actionsLine, variablesLine, variableLine, automataLine, syncLine, locationsLine, initLine, invLine, edgesLine, edgeLine, composeLine, lines, dueAtFirst, thenDue, Reading, atFirst, taken}
+use Rattle.model.specs.Limits.{faultOf, limits}
+
+-- a number, moved up so that none is negative
+unfoldable pub biased : ℤ → ℕ
+biased (pos n) = bias + n
+biased (negsuc n) = bias - suc n
+
+-- a set as two words: bit K of the first for action K from 0 to 31, bit K - 32 of the second for 32 to 63
+unfoldable pub lowBits : List ℕ → ℕ
+lowBits [] = 0
+lowBits (k ∷ ks) = elim (leb k 31) [ true ↦ 2 ^ k + lowBits ks | false ↦ lowBits ks ]
+
+unfoldable pub highBits : List ℕ → ℕ
+highBits [] = 0
+highBits (k ∷ ks) = elim (leb k 31) [ true ↦ highBits ks | false ↦ 2 ^ (k - 32) + highBits ks ]
+
+unfoldable pub setWords : List ℕ → List ℕ
+setWords list = lowBits list ∷ highBits list ∷ []
+
+-- a node of a predicate as one word: kind + 16 * argument
+unfoldable pub code : Word → ℕ
+code (allOf k) = 0 + 16 * k
+code (anyOf k) = 1 + 16 * k
+code notWord = 2
+code impWord = 3
+code eqWord = 4
+code leWord = 5
+code (numWord z) = 6 + 16 * biased z
+code (oldWord k) = 7 + 16 * k
+code (newWord k) = 8 + 16 * k
+code addWord = 9
+code subWord = 10
+code mulWord = 11
+code ifWord = 12
+code stray = 15
+
+unfoldable pub predWords : Pred → List ℕ
+predWords p = nodeCount p ∷ map code (words p)
+
+-- a node of the tree: `par` is 0; `syn` is 1 and its set in two words; leaf K is 2 + K
+unfoldable pub nodeWords : Node → List ℕ
+nodeWords parNode = 0 ∷ []
+nodeWords (synNode list) = 1 ∷ setWords list
+nodeWords (leafNode k) = (2 + k) ∷ []
+nodeWords C.strayNode = []
+
+unfoldable pub lineWords : Entry → List ℕ
+lineWords formatLine = 1 ∷ []
+lineWords (actionsLine n) = n ∷ []
+lineWords (variablesLine n) = n ∷ []
+lineWords (variableLine x) = biased (x .low) ∷ biased (x .high) ∷ []
+lineWords (automataLine n) = n ∷ []
+lineWords (syncLine list) = setWords list
+lineWords (locationsLine n) = n ∷ []
+lineWords (initLine p) = predWords p
+lineWords (invLine p) = predWords p
+lineWords (edgesLine n) = n ∷ []
+lineWords (edgeLine e) = e .from ∷ e .action ∷ e .to ∷ predWords (e .update)
+lineWords (composeLine c) = treeNodes c ∷ flatMap nodeWords (nodes c)
+
+unfoldable pub sheetWords : Model → List ℕ
+sheetWords m = flatMap lineWords (lines m)
+
+unfoldable pub tableOf : Model → List ℕ
+tableOf m = sheetWords m ++ replicate (tableWords - length (sheetWords m)) 0
+
+-- The way back. Each step takes an entry's words off the front; what they say is tested at the end, by `modelOf`.
+unfoldable pub unbiased : ℕ → ℤ
+unbiased n = elim (leb bias n) [ true ↦ pos (n - bias) | false ↦ negsuc (bias - suc n) ]
+
+unfoldable pub bit : ℕ → ℕ → Bool
+bit word k = eqb (word / 2 ^ k % 2) 1
+
+unfoldable pub setOf : (low high : ℕ) → List ℕ
+setOf low high = keep (bit low) (countUp 0 32) ++ keep (λ k. bit high (k - 32)) (countUp 32 32)
+
+-- the words by their kinds, all with one argument
+unfoldable pub kinds : ℕ → List Word
+kinds k =
+    allOf k ∷ anyOf k ∷ notWord ∷ impWord ∷ eqWord ∷ leWord ∷ numWord (unbiased k) ∷ oldWord k ∷ newWord k ∷
+    addWord ∷ subWord ∷ mulWord ∷ ifWord ∷ []
+
+unfoldable pub wordOf : ℕ → Word
+wordOf w = getD (kinds (w / 16)) (w % 16) stray
+
+-- what was taken, and the words that are left
+pub record Taken (A : Type 0) : Type 0 where
+  pub item : A
+  pub rest : List ℕ
+
+unfoldable pub took : {A : Type 0} → A → List ℕ → Option (Taken A)
+took a ws = some (record { item = a; rest = ws })
+
+unfoldable pub takeNumber : (ℕ → Entry) → List ℕ → Option (Taken Entry)
+takeNumber f [] = none
+takeNumber f (n ∷ ws) = took (f n) ws
+
+unfoldable pub takePair : (ℕ → ℕ → Entry) → List ℕ → Option (Taken Entry)
+takePair f [] = none
+takePair f (a ∷ []) = none
+takePair f (a ∷ b ∷ ws) = took (f a b) ws
+
+unfoldable pub takePredicate : (Pred → Entry) → List ℕ → Option (Taken Entry)
+takePredicate f [] = none
+takePredicate f (n ∷ ws) = onSome (λ p. took (f p) (drop n ws)) (readPred (map wordOf (take n ws)))
+
+unfoldable pub edgeTo : ℕ → ℕ → ℕ → Pred → Entry
+edgeTo from action to p = edgeLine (record { from = from; action = action; to = to; update = p })
+
+unfoldable pub takeEdge : List ℕ → Option (Taken Entry)
+takeEdge [] = none
+takeEdge (a ∷ []) = none
+takeEdge (a ∷ b ∷ []) = none
+takeEdge (a ∷ b ∷ c ∷ ws) = takePredicate (edgeTo a b c) ws
+
+unfoldable pub andNode : Node → Option (Taken (List Node)) → Option (Taken (List Node))
+andNode node others = onSome (λ t. took (node ∷ t .item) (t .rest)) others
+
+unfoldable pub takeNodes : ℕ → List ℕ → Option (Taken (List Node))
+takeNodes zero ws = took [] ws
+takeNodes (suc n) [] = none
+takeNodes (suc n) (zero ∷ ws) = andNode parNode (takeNodes n ws)
+takeNodes (suc n) (suc zero ∷ []) = none
+takeNodes (suc n) (suc zero ∷ a ∷ []) = none
+takeNodes (suc n) (suc zero ∷ a ∷ b ∷ ws) = andNode (synNode (setOf a b)) (takeNodes n ws)
+takeNodes (suc n) (suc (suc k) ∷ ws) = andNode (leafNode k) (takeNodes n ws)
+
+unfoldable pub takeTreeLine : List ℕ → Option (Taken Entry)
+takeTreeLine [] = none
+takeTreeLine (n ∷ ws) = onSome (λ t. onSome (λ c. took (composeLine c) (t .rest)) (readTree (t .item))) (takeNodes n ws)
+
+unfoldable pub takeEntry : Key → List ℕ → Option (Taken Entry)
+takeEntry format ws = takeNumber (λ n. formatLine) ws
+takeEntry actions ws = takeNumber actionsLine ws
+takeEntry variables ws = takeNumber variablesLine ws
+takeEntry variable ws = takePair (λ a b. variableLine (range (unbiased a) (unbiased b))) ws
+takeEntry automata ws = takeNumber automataLine ws
+takeEntry sync ws = takePair (λ a b. syncLine (setOf a b)) ws
+takeEntry locations ws = takeNumber locationsLine ws
+takeEntry init ws = takePredicate initLine ws
+takeEntry inv ws = takePredicate invLine ws
+takeEntry edges ws = takeNumber edgesLine ws
+takeEntry edge ws = takeEdge ws
+takeEntry compose ws = takeTreeLine ws
+
+-- each line takes a word at least, so a table of so many words has no more lines; a line that breaks a row ends it
+unfoldable pub decode : ℕ → Reading → List Key → List ℕ → Option Model
+decode zero r [] ws = some (r .model)
+decode zero r (k ∷ ks) ws = none
+decode (suc n) r [] ws = some (r .model)
+decode (suc n) r (k ∷ ks) ws =
+    onSome
+    (λ t. elim (lacks (faultOf r (t .item))) [ true ↦ decode n (taken r (t .item)) (thenDue (t .item) ++ ks) (t .rest) | false ↦ none ])
+    (takeEntry k ws)
+
+-- the model whose table a table's first 8,192 words are
+unfoldable pub isTableOf : List ℕ → Model → Bool
+isTableOf t m = limits m && same (take tableWords t) (tableOf m)
+
+unfoldable pub modelOf : List ℕ → Option Model
+modelOf t = onSome (λ m. elim (isTableOf t m) [ true ↦ some m | false ↦ none ]) (decode tableWords atFirst dueAtFirst t)
+
+-- Row 18: the table is too short. Row 19: no accepted text gives it (the law table-given says so of `modelOf`).
+unfoldable pub row18 : List ℕ → Bool
+row18 t = ltb (length t) tableWords
+
+unfoldable pub row19 : List ℕ → Bool
+row19 t = lacks (modelOf t)
+
+-- what every function over a table tries first
+pub data Opened : Type 0 where
+  unopened : ℕ → Opened
+  opened : Model → Opened
+
+unfoldable pub openTable : List ℕ → Opened
+openTable t = elim (row18 t) [ true ↦ unopened 18 | false ↦ elim (modelOf t) [ none ↦ unopened 19 | some m ↦ opened m ] ]

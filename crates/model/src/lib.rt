@@ -1,0 +1,36 @@
+// The vocabulary of the sheets: the limits that stand with their types. The definitions are in specs/.
+
+// What a sheet says, within these limits (specs/Bounds.antt).
+pub struct Model {}
+
+impl Model {
+    // Counts and numbers in a sheet.
+    pub const ACTIONS: u32 = 63;
+
+    pub const VARIABLES: usize = 48;
+
+    pub const AUTOMATA: usize = 16;
+
+    pub const LOCATIONS: usize = 32;
+
+    pub const EDGES: usize = 512;
+
+    pub const OPERANDS: u32 = 512;
+
+    // Predicates: their nodes in all, and how deep one goes.
+    pub const NODES: usize = 4096;
+
+    pub const DEPTH: usize = 24;
+
+    // The text, and the table.
+    pub const BYTES: usize = 65536;
+
+    pub const WORDS: usize = 8192;
+}
+
+// The composition.
+pub struct Tree {}
+
+impl Tree {
+    pub const NODES: usize = 64;
+}

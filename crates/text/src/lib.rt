@@ -1,0 +1,1 @@
+// The sheet text. Its definitions stand in specs/.
