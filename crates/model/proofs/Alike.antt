@@ -13,24 +13,13 @@ use Rattle.model.specs.Basic.{between, each}
 use Rattle.model.specs.Predicate.{range}
 use Rattle.model.specs.Model.{Model, automaton, nobody, inSet}
 use Rattle.model.specs.Lawful.{Lawful}
-use Rattle.model.specs.Rules.{State, at, val, reached, moved}
+use Rattle.model.specs.Rules.{State, at, val, reached, changed}
 use Rattle.model.specs.Linear.{linear, pointer, pointerRange}
-use Rattle.model.specs.Judge.{Answer, marked, yes, no, refused, rangeOf, row21, row22, row23, row24, settled, stepHolds, judgeStep, judgeEnvironment}
-use Rattle.model.specs.Runs.{IsState, Shaped, Proposal, toStep, toEnvironment, proposed, modelJudge, goes, Run, andThen, run, beside, translate, translates, Beside, put, notPut, mergedRun, Alike, both-marked, both-yes, both-no, both-23, both-24, only-21, only-22, AllAlike, ended, then, RunsAlike}
+use Rattle.model.specs.Judge.{hasValues, Answer, marked, yes, no, refused, rangeOf, row21, row22, row23, row24, settled, stepHolds, judgeTo, judgeEnvironment}
+use Rattle.model.specs.Runs.{IsState, Proposal, toStep, toEnvironment, proposed, modelJudge, goes, Run, andThen, run, beside, translate, translates, Reply, put, notPut, mergedRun, Alike, both-marked, both-yes, both-no, both-23, both-24, only-21, only-22, AllAlike, ended, then, RunsAlike}
 use Rattle.model.proofs.Tests.{of-le, lt-of, le-of, not-false, not-true, and-intro, and-left, and-right, and-same, eq-of, of-eq, each-intro, each-elim, each-ext, each-add, or-cases, or-none-left, or-none-right}
 use Rattle.model.proofs.Pointers.{pointer-value}
-use Rattle.model.proofs.Merged.{step-same, settled-same, marks-same}
-
--- rows 21 and 22 do not hold: the state has the model's shape
-shaped : (m : Model) (s : State) → row21 m s ≡ false → row22 m s ≡ false → Shaped m s
-unfolding row21 row22
-shaped m s p q =
-    let h = not-false _ p in
-    record {
-      values-are = eq-of _ _ (and-right (eqb (length (s .locations)) (length (m .automata))) _ h);
-      locations-are = eq-of _ _ (and-left (eqb (length (s .locations)) (length (m .automata))) (eqb (length (s .values)) (length (m .variables))) h);
-      placed = λ k l. lt-of _ _ (each-elim _ (λ i. ltb (at s i) (length (automaton m i .locations))) (not-false _ q) k l);
-    }
+use Rattle.model.proofs.Merged.{Shaped, shaped, step-same, settled-same, marks-same}
 
 -- variable k's value is in its range
 abbrev inside : Model → State → ℕ → Bool
@@ -39,7 +28,7 @@ inside m s k = between (rangeOf m k .low) (rangeOf m k .high) (val s k)
 module _ (m : Model) (s : State) (g : Shaped m s) where
   -- the rows of the merged automaton: 21 and 22 never, 23 when the composition's
   merged-21 : row21 (linear m) (beside s) ≡ false
-  unfolding row21 linear beside
+  unfolding row21 hasValues linear beside
   merged-21 =
       let e : length (s .values ++ map pos (s .locations)) ≡ length (m .variables ++ map pointerRange (m .automata)) = simp (length-append, length-map) (omega arith) in
       rw (of-eq _ _ e)
@@ -86,12 +75,12 @@ module _ (m : Model) (s t : State) (p : row21 m s ≡ false) (q : row22 m s ≡ 
   rows-23 : (row23 (linear m) (beside s) || row23 (linear m) (beside t)) ≡ (row23 m s || row23 m t)
   rows-23 = rw (merged-23 m s (shaped m s p q), merged-23 m t (shaped m t p' q'))
 
-  step-short : (a : ℕ) → judgeStep m s a t ≡ cond (row23 m s || row23 m t) (refused 23) (cond (row24 m a) (refused 24) (cond (stepHolds m s a t) (marked (inSet m a (m .tree))) no))
-  unfolding judgeStep
+  step-short : (a : ℕ) → judgeTo m s a t ≡ cond (row23 m s || row23 m t) (refused 23) (cond (row24 m a) (refused 24) (cond (stepHolds m s a t) (marked (inSet m a (m .tree))) no))
+  unfolding judgeTo
   step-short a = rw (p, p', q, q')
 
-  step-answers : Lawful m → (a : ℕ) → judgeStep (linear m) (beside s) a (beside t) ≡ judgeStep m s a t
-  unfolding judgeStep row24
+  step-answers : Lawful m → (a : ℕ) → judgeTo (linear m) (beside s) a (beside t) ≡ judgeTo m s a t
+  unfolding judgeTo row24
   step-answers lawful a = rw (
     p,
     p',
@@ -114,19 +103,19 @@ module _ (m : Model) (s t : State) (p : row21 m s ≡ false) (q : row22 m s ≡ 
           rw (step-same m lawful s t (shaped m s p q) (shaped m t p' q') a l, marks-same m lawful a l)
 
 -- the same of the environment judge
-module _ (m : Model) (s : State) (values : List ℤ) (p : row21 m s ≡ false) (q : row22 m s ≡ false) (p' : row21 m (moved s values) ≡ false) where
-  environment-short : judgeEnvironment m s values ≡ cond (row23 m s || row23 m (moved s values)) (refused 23) (cond (settled m s (moved s values)) yes no)
+module _ (m : Model) (s : State) (values : List ℤ) (p : row21 m s ≡ false) (q : row22 m s ≡ false) (p' : row21 m (changed s values) ≡ false) where
+  environment-short : judgeEnvironment m s values ≡ cond (row23 m s || row23 m (changed s values)) (refused 23) (cond (settled m s (changed s values)) yes no)
   unfolding judgeEnvironment
   environment-short = rw (p, p', q)
 
-  same-22 : row22 m (moved s values) ≡ false
+  same-22 : row22 m (changed s values) ≡ false
   unfolding row22
   same-22 = q
 
   environment-answers : Lawful m → judgeEnvironment (linear m) (beside s) (values ++ map pos (s .locations)) ≡ judgeEnvironment m s values
   unfolding judgeEnvironment beside
   environment-answers lawful =
-      let t = moved s values in
+      let t = changed s values in
       let g = shaped m s p q in
       let h = shaped m t p' same-22 in
       rw (p, p', q, merged-21 m s g, merged-21 m t h, merged-22 m s g, merged-23 m s g, merged-23 m t h, settled-same m lawful s t g h)
@@ -164,13 +153,13 @@ record Put (m : Model) (s : State) (p : Proposal) : Type 0 where
   alike : Alike (modelJudge m s p) (put (modelJudge m s p))
   state : IsState m (goes (modelJudge m s p) s (proposed s p))
 
-right-21 : (m : Model) (s : State) (values : List ℤ) → row21 m s ≡ false → eqb (length values) (length (m .variables)) ≡ true → row21 m (moved s values) ≡ false
+right-21 : (m : Model) (s : State) (values : List ℤ) → row21 m s ≡ false → hasValues m values ≡ true → row21 m (changed s values) ≡ false
 unfolding row21
 right-21 m s values p e =
-    let l = and-left (eqb (length (s .locations)) (length (m .automata))) (eqb (length (s .values)) (length (m .variables))) (not-false _ p) in
+    let l = and-left (eqb (length (s .locations)) (length (m .automata))) (hasValues m (s .values)) (not-false _ p) in
     rw (l, e)
 
-wrong-21 : (m : Model) (s : State) (values : List ℤ) → eqb (length values) (length (m .variables)) ≡ false → row21 m (moved s values) ≡ true
+wrong-21 : (m : Model) (s : State) (values : List ℤ) → hasValues m values ≡ false → row21 m (changed s values) ≡ true
 unfolding row21
 wrong-21 m s values e = rw (e, and-false (eqb (length (s .locations)) (length (m .automata))))
 
@@ -205,7 +194,7 @@ module _ (m : Model) (s : State) (g : IsState m s) where
         state = state-after _ t p q (λ z. k ∙ rw z);
       }
   put-both lawful (toEnvironment values) h =
-      let t : State = moved s values in
+      let t : State = changed s values in
       let p : row21 m t ≡ false = right-21 m s values (g .no-21) h in
       let d : drop (length (m .variables)) (s .values ++ map pos (s .locations)) ≡ map pos (s .locations) = drop-at (s .values) _ _ (shaped m s (g .no-21) (g .no-22) .values-are) in
       let q : row22 m t ≡ false = same-22 m s values (g .no-21) (g .no-22) p in
@@ -218,7 +207,7 @@ module _ (m : Model) (s : State) (g : IsState m s) where
       }
 
   skip : (p : Proposal) → translates m p ≡ false → Skip m s p
-  unfolding translates modelJudge judgeStep judgeEnvironment
+  unfolding translates modelJudge judgeTo judgeEnvironment
   skip (toStep a locations values) h = go (or-cases (row21 m t) (row22 m t) (not-false _ h)) (row21 m t) refl
     where
       t : State
@@ -253,8 +242,8 @@ module _ (m : Model) (p : Proposal) (ps : List Proposal) (s : State) (g : IsStat
       let c : mergedRun m (modelJudge (linear m)) (beside s) (p ∷ ps) ≡ andThen (put (modelJudge m s p)) (mergedRun m (modelJudge (linear m)) (beside t) ps)
       = run-put m (beside s) p ps e ∙ rw (x .same, x .there, goes-beside (modelJudge m s p) s (proposed s p)) in
       record {
-        answers = subst (λ (z : Run Beside). AllAlike (run (modelJudge m) s (p ∷ ps) .answers) (z .answers)) (sym c) (then (x .alike) (r .answers));
-        end = ap (λ (z : Run Beside). z .end) c ∙ r .end;
+        answers = subst (λ (z : Run Reply). AllAlike (run (modelJudge m) s (p ∷ ps) .answers) (z .answers)) (sym c) (then (x .alike) (r .answers));
+        end = ap (λ (z : Run Reply). z .end) c ∙ r .end;
       }
 
   run-one : translates m p ≡ false → ((t : State) → IsState m t → BothAlike m t ps) → BothAlike m s (p ∷ ps)
@@ -265,8 +254,8 @@ module _ (m : Model) (p : Proposal) (ps : List Proposal) (s : State) (g : IsStat
       let c = run-skip m (beside s) p ps e in
       let d : run (modelJudge m) s (p ∷ ps) ≡ andThen (refused (x .row)) (run (modelJudge m) s ps) = rw (x .refused-by) in
       record {
-        answers = subst₂ (λ (y : Run Answer) (z : Run Beside). AllAlike (y .answers) (z .answers)) (sym d) (sym c) (then (x .alike) (r .answers));
-        end = ap (λ (z : Run Beside). z .end) c ∙ r .end ∙ ap (λ (z : Run Answer). beside (z .end)) (sym d);
+        answers = subst₂ (λ (y : Run Answer) (z : Run Reply). AllAlike (y .answers) (z .answers)) (sym d) (sym c) (then (x .alike) (r .answers));
+        end = ap (λ (z : Run Reply). z .end) c ∙ r .end ∙ ap (λ (z : Run Answer). beside (z .end)) (sym d);
       }
 
 -- from a state of the model, a composition and its merged automaton answer a whole list of proposals alike

@@ -12,9 +12,9 @@ use Rattle.model.specs.Basic.{eqZ, every, exists, countUp}
 use Rattle.model.specs.Composition.{Tree, par, syn, leaf, leaves}
 use Rattle.model.specs.Model.{Model, automaton, location, inSet}
 use Rattle.model.specs.Lawful.{Lawful}
-use Rattle.model.specs.Rules.{Phase, start, running, State, at, val, holdsIn, Taker, mentioned, Rests, rule-2, rule-5, rule-7, Moves, rule-1, rule-3, rule-4-left, rule-4-right, rule-6, Step, Environment, moved}
-use Rattle.model.specs.Linear.{under, sides, alone, moves}
-use Rattle.model.specs.Judge.{inits, invs, initial, settled, isTaker, updated, led, kept, framed, fits, stepHolds, Answer, marked, yes, no, refused, row21, row22, row23, row24, judgeStep, judgeEnvironment, StepPasses, EnvironmentPasses}
+use Rattle.model.specs.Rules.{Phase, start, running, State, reached, at, val, holdsIn, Taker, mentioned, Rests, rule-2, rule-5, rule-7, Moves, rule-1, rule-3, rule-4-left, rule-4-right, rule-6, Step, Environment, changed}
+use Rattle.model.specs.Moves.{under, sides, alone, moves}
+use Rattle.model.specs.Judge.{inits, invs, initial, settled, isTaker, updated, led, kept, framed, fits, stepHolds, Answer, marked, yes, no, refused, row21, row22, row23, row24, judgeTo, judgeStep, judgeEnvironment, StepPasses, EnvironmentPasses}
 use Rattle.model.proofs.Tests.{and-intro, and-left, and-right, or-right, or-other, or-intro, or-less-left, or-less-right, or-cases, or-more-left, or-more-right, eq-of, eq-self, of-eq, eqZ-of, of-eqZ, each-intro, each-elim, exists-intro, exists-elim, exists-append, every-append}
 use Rattle.model.proofs.Takers.{under-in, under-out, pairs-in, Sides, both, left-one, right-one, sides-out, sides-left, sides-right, within}
 use Rattle.model.proofs.Numbered.{size, Numbered, numbered, size-is, Leaves, leaves-map, leaves-in, leaves-out}
@@ -253,9 +253,9 @@ module _ (m : Model) (ordered : leaves (m .tree) ≡ countUp 0 (length (m .autom
 
 module _ (m : Model) (ordered : leaves (m .tree) ≡ countUp 0 (length (m .automata))) (s : State) (a : ℕ) (t : State) where
   -- what the tests say and what the rules say of a step is one
-  pub holds-step : stepHolds m s a t ≡ true → Step m s a t (inSet m a (m .tree))
+  pub holds-step : t .phase ≡ running → stepHolds m s a t ≡ true → Step m s a t (inSet m a (m .tree))
   unfolding stepHolds fits kept framed
-  holds-step h =
+  holds-step e h =
       let r = settled-ready m s t (and-left (settled m s t) _ h) in
       let f = exists-elim (fits m s t) _ (and-right (settled m s t) _ h) in
       let x = f .0 in
@@ -263,6 +263,7 @@ module _ (m : Model) (ordered : leaves (m .tree) ≡ countUp 0 (length (m .autom
       let f2 = and-right (every (led s t) x) _ f1 in
       record {
         takers = x;
+        ended = e;
         moves = allowed m s a t (m .tree) 0 (numbered (m .tree) _ ordered) (record {
           listed = f .1;
           ready = on-leaves m ordered r;
@@ -288,14 +289,14 @@ module _ (m : Model) (ordered : leaves (m .tree) ≡ countUp 0 (length (m .autom
 
 module _ (m : Model) (ordered : leaves (m .tree) ≡ countUp 0 (length (m .automata))) (s : State) (values : List ℤ) where
   -- and of an environment step
-  pub settled-environment : settled m s (moved s values) ≡ true → Environment m s values
+  pub settled-environment : settled m s (changed s values) ≡ true → Environment m s values
   settled-environment h =
-      let t = moved s values in
+      let t = changed s values in
       record { still = rests-in m s t (m .tree) (on-leaves m ordered (settled-ready m s t h)) (on-leaves m ordered (λ k l. refl)) }
 
-  pub environment-settled : Environment m s values → settled m s (moved s values) ≡ true
+  pub environment-settled : Environment m s values → settled m s (changed s values) ≡ true
   environment-settled h =
-      let t = moved s values in
+      let t = changed s values in
       ready-settled m s t (on-automata m ordered (Ready m s t) (rests-ready m s t (h .still)))
 
 -- what a yes says of the rows before it
@@ -323,23 +324,27 @@ marked-same : {b c : Bool} → marked b ≡ marked c → b ≡ c
 marked-same h = cc
 
 -- the step judge says yes with mark b exactly when no row refuses and the rules allow the step with that mark
-pub step-by-rules : (m : Model) → Lawful m → (s : State) (a : ℕ) (t : State) (b : Bool) → (judgeStep m s a t ≡ marked b) ↔ (StepPasses m s a t × Step m s a t b)
-unfolding judgeStep
-step-by-rules m lawful s a t b = (there, back)
+pub step-by-rules : (m : Model) → Lawful m → (s : State) (a : ℕ) (locations : List ℕ) (values : List ℤ) (b : Bool)
+    → let t = reached locations values in (judgeStep m s a locations values ≡ marked b) ↔ (StepPasses m s a t × Step m s a t b)
+unfolding judgeTo
+step-by-rules m lawful s a locations values b = (there, back)
   where
-    there : judgeStep m s a t ≡ marked b → StepPasses m s a t × Step m s a t b
+    t : State
+    t = reached locations values
+
+    there : judgeTo m s a t ≡ marked b → StepPasses m s a t × Step m s a t b
     there h =
         let x1 = not-refused (row21 m s || row21 m t) 21 _ (marked b) h refused-marked in
         let x2 = not-refused (row22 m s || row22 m t) 22 _ (marked b) (x1 .1) refused-marked in
         let x3 = not-refused (row23 m s || row23 m t) 23 _ (marked b) (x2 .1) refused-marked in
         let x4 = not-refused (row24 m a) 24 _ (marked b) (x3 .1) refused-marked in
         let x5 = not-no (stepHolds m s a t) _ (marked b) (x4 .1) no-marked in
-        let q = holds-step m (lawful .tree .in-order) s a t (x5 .0) in (
+        let q = holds-step m (lawful .tree .in-order) s a t refl (x5 .0) in (
           record { no-21 = x1 .0; no-22 = x2 .0; no-23 = x3 .0; no-24 = x4 .0 },
-          record { takers = q .takers; moves = q .moves; frame = q .frame; marked = sym (marked-same (x5 .1)) },
+          record { takers = q .takers; ended = refl; moves = q .moves; frame = q .frame; marked = sym (marked-same (x5 .1)) },
         )
 
-    back : StepPasses m s a t × Step m s a t b → judgeStep m s a t ≡ marked b
+    back : StepPasses m s a t × Step m s a t b → judgeTo m s a t ≡ marked b
     back h = rw (h .0 .no-21, h .0 .no-22, h .0 .no-23, h .0 .no-24, step-holds m (lawful .tree .in-order) s a t (h .1), h .1 .marked)
 
 -- the environment judge says yes exactly when no row refuses and the rules allow it
@@ -349,10 +354,10 @@ environment-by-rules m lawful s values = (there, back)
   where
     there : judgeEnvironment m s values ≡ yes → EnvironmentPasses m s values × Environment m s values
     there h =
-        let x1 = not-refused (row21 m s || row21 m (moved s values)) 21 _ yes h refused-yes in
+        let x1 = not-refused (row21 m s || row21 m (changed s values)) 21 _ yes h refused-yes in
         let x2 = not-refused (row22 m s) 22 _ yes (x1 .1) refused-yes in
-        let x3 = not-refused (row23 m s || row23 m (moved s values)) 23 _ yes (x2 .1) refused-yes in
-        let x4 = not-no (settled m s (moved s values)) yes yes (x3 .1) no-yes in (
+        let x3 = not-refused (row23 m s || row23 m (changed s values)) 23 _ yes (x2 .1) refused-yes in
+        let x4 = not-no (settled m s (changed s values)) yes yes (x3 .1) no-yes in (
           record { no-21 = x1 .0; no-22 = x2 .0; no-23 = x3 .0 },
           settled-environment m (lawful .tree .in-order) s values (x4 .0),
         )

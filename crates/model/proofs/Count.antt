@@ -9,7 +9,8 @@ use Rattle.model.specs.Basic.{sum, countUp}
 use Rattle.model.specs.Composition.{Tree, par, syn, leaf}
 use Rattle.model.specs.Model.{Model, automaton, inSet}
 use Rattle.model.specs.Rules.{Taker}
-use Rattle.model.specs.Linear.{pairs, sides, under, alone, moves, sidesCount, moveCount, mergedEdge, mergedEdges, mergedCount}
+use Rattle.model.specs.Moves.{pairs, sides, under, alone, moves, sidesCount, moveCount}
+use Rattle.model.specs.Linear.{mergedEdge, mergedEdges, mergedCount}
 
 pairs-length : (xs ys : List (List Taker)) → length (pairs xs ys) ≡ length xs * length ys
 unfolding pairs

@@ -13,18 +13,18 @@ use borrow.Author.Tests.{leb-true, le-leb, lt-leb, not-false}
 use Rattle.model.specs.Basic.{between, every, lacks, onSome}
 use Rattle.model.specs.Bounds.{maxActions, leastNumber, greatestNumber, bias}
 use Rattle.model.specs.Predicate.{Pred, Word, words, nodeCount, range, allOf, anyOf, notWord, impWord, eqWord, leWord, numWord, oldWord, newWord, addWord, subWord, mulWord, ifWord, stray}
-use Rattle.model.specs.Composition.{Tree, Node, nodes, treeNodes, par, syn, leaf, parNode, synNode, leafNode, strayNode}
+use Rattle.model.specs.Composition.{Tree, Node, nodes, treeSize, par, syn, leaf, parNode, synNode, leafNode, strayNode}
 use Rattle.model.specs.Model.{Model}
-use Rattle.model.specs.Lines.{Key, Entry, formatLine, actionsLine, variablesLine, variableLine, automataLine, syncLine, locationsLine, initLine, invLine, edgesLine, edgeLine, composeLine, keyOf, thenDue, Reading, taken}
-use Rattle.model.specs.Limits.{inRange, treeInRange, numbersInRange, rises, treeRises, broken, saidFault, faultOf, withinLimits}
-use Rattle.model.specs.Table.{biased, unbiased, code, kinds, wordOf, setWords, predWords, nodeWords, lineWords, took, takeNumber, takePair, takePredicate, edgeTo, takeEdge, andNode, takeNodes, takeTreeLine, takeEntry, decode}
+use Rattle.model.specs.Lines.{Key, Entry, formatLine, actionsLine, variablesLine, variableLine, automataLine, syncLine, locationsLine, initLine, invLine, edgesLine, edgeLine, composeLine, keyOf, thenDue, Reading, noted}
+use Rattle.model.specs.Limits.{inRange, treeInRange, numbersInRange, rises, treeRises, broken, contentFault, faultOf, withinLimits}
+use Rattle.model.specs.Table.{biased, unbiased, code, kinds, wordOf, setWords, predWords, nodeWords, lineWords, split, splitNumber, splitPair, splitPred, edgeTo, splitEdge, andNode, splitNodes, splitTree, splitEntry, decode}
 use Rattle.model.proofs.Tests.{and-intro, and-left, and-right, every-append}
 use Rattle.model.proofs.Parsing.{none-some, read-words-of, read-nodes-of}
 use Rattle.model.proofs.LinesLaws.{Follows}
 use Rattle.model.proofs.Bits.{set-back}
 
 -- numbers
-number-back : (z : ℤ) → between leastNumber greatestNumber z ≡ true → unbiased (biased z) ≡ z
+pub number-back : (z : ℤ) → between leastNumber greatestNumber z ≡ true → unbiased (biased z) ≡ z
 unfolding unbiased biased between
 number-back (pos n) h =
     let e : leb bias (bias + n) ≡ true = le-leb bias (bias + n) (omega arith) in
@@ -66,8 +66,8 @@ unfolding every
 words-back [] h = refl
 words-back (w ∷ ws) h = ap₂ (λ x xs. x ∷ xs) (word-back w (and-left (inRange w) _ h)) (words-back ws (and-right (inRange w) _ h))
 
-pred-back : (f : Pred → Entry) (p : Pred) (rest : List ℕ) → every inRange (words p) ≡ true → takePredicate f (predWords p ++ rest) ≡ took (f p) rest
-unfolding takePredicate predWords nodeCount onSome
+pred-back : (f : Pred → Entry) (p : Pred) (rest : List ℕ) → every inRange (words p) ≡ true → splitPred f (predWords p ++ rest) ≡ split (f p) rest
+unfolding splitPred predWords nodeCount onSome
 pred-back f p rest h =
     let n = length-map (words p) code in
     rw (take-at (map code (words p)) rest (nodeCount p) n, drop-at (map code (words p)) rest (nodeCount p) n, words-back (words p) h, read-words-of p)
@@ -89,8 +89,8 @@ all-good A (syn list c) r h =
     and-intro (and-intro (and-left (rises A 0 list) _ r) (and-left ranged _ h)) (all-good A c (and-right (rises A 0 list) _ r) (and-right ranged _ h))
 all-good A (leaf k) r h = refl
 
-list-back : (A : ℕ) (ns : List Node) (rest : List ℕ) → every (good A) ns ≡ true → takeNodes (length ns) (flatMap nodeWords ns ++ rest) ≡ took ns rest
-unfolding takeNodes flatMap nodeWords setWords andNode onSome every good took
+list-back : (A : ℕ) (ns : List Node) (rest : List ℕ) → every (good A) ns ≡ true → splitNodes (length ns) (flatMap nodeWords ns ++ rest) ≡ split ns rest
+unfolding splitNodes flatMap nodeWords setWords andNode onSome every good split
 list-back A [] rest h = refl
 list-back A (parNode ∷ ns) rest h = rw (list-back A ns rest h)
 list-back A (synNode list ∷ ns) rest h =
@@ -101,8 +101,8 @@ list-back A (leafNode k ∷ ns) rest h =
     rw (e, list-back A ns rest h)
 list-back A (strayNode ∷ ns) rest h = absurd (true≢false (sym h))
 
-pub nodes-back : (A : ℕ) (c : Tree) (rest : List ℕ) → treeRises A c ≡ true → treeInRange c ≡ true → takeNodes (treeNodes c) (flatMap nodeWords (nodes c) ++ rest) ≡ took (nodes c) rest
-unfolding treeNodes
+pub nodes-back : (A : ℕ) (c : Tree) (rest : List ℕ) → treeRises A c ≡ true → treeInRange c ≡ true → splitNodes (treeSize c) (flatMap nodeWords (nodes c) ++ rest) ≡ split (nodes c) rest
+unfolding treeSize
 nodes-back A c rest r h = list-back A (nodes c) rest (all-good A c r h)
 
 -- where no row is broken, the first is not, and none after it
@@ -113,16 +113,16 @@ unbroken row false rest h = (refl, h)
 
 in-range : (r : Reading) (e : Entry) → faultOf r e ≡ none → numbersInRange e ≡ true
 unfolding faultOf
-in-range r e h = not-false _ (unbroken 3 (not (numbersInRange e)) (saidFault r e) h .0)
+in-range r e h = not-false _ (unbroken 3 (not (numbersInRange e)) (contentFault r e) h .0)
 
 -- with the numbers in range, the first row that an entry could break
-unsaid : (r : Reading) (e : Entry) (row : ℕ) (b : Bool) (rest : Option ℕ) → faultOf r e ≡ none → saidFault r e ≡ broken row (not b) rest → b ≡ true
+unsaid : (r : Reading) (e : Entry) (row : ℕ) (b : Bool) (rest : Option ℕ) → faultOf r e ≡ none → contentFault r e ≡ broken row (not b) rest → b ≡ true
 unfolding faultOf
-unsaid r e row b rest h s = not-false b (unbroken row (not b) rest (sym s ∙ unbroken 3 (not (numbersInRange e)) (saidFault r e) h .1) .0)
+unsaid r e row b rest h s = not-false b (unbroken row (not b) rest (sym s ∙ unbroken 3 (not (numbersInRange e)) (contentFault r e) h .1) .0)
 
 -- each line's entry
-pub entry-back : (r : Reading) (e : Entry) (rest : List ℕ) → faultOf r e ≡ none → takeEntry (keyOf e) (lineWords e ++ rest) ≡ took e rest
-unfolding takeEntry keyOf lineWords takeNumber takePair takeEdge takeTreeLine edgeTo setWords numbersInRange saidFault onSome took range
+pub entry-back : (r : Reading) (e : Entry) (rest : List ℕ) → faultOf r e ≡ none → splitEntry (keyOf e) (lineWords e ++ rest) ≡ split e rest
+unfolding splitEntry keyOf lineWords splitNumber splitPair splitEdge splitTree edgeTo setWords numbersInRange contentFault onSome split range
 entry-back r formatLine rest h = refl
 entry-back r (actionsLine n) rest h = refl
 entry-back r (variablesLine n) rest h = refl
@@ -149,9 +149,9 @@ unfolding lacks
 none-lacks none h = refl
 none-lacks (some n) h = absurd (true≢false (sym h))
 
-decode-step : (n : ℕ) (r : Reading) (k : Key) (ks : List Key) (ws rest : List ℕ) (e : Entry) → takeEntry k ws ≡ took e rest → lacks (faultOf r e) ≡ true → decode (suc n) r (k ∷ ks) ws ≡ decode n (taken r e) (thenDue e ++ ks) rest
-unfolding decode onSome took
-decode-step n r k ks ws rest e back ok = rw back (ap {B = Option Model} (λ b. elim b [ true ↦ decode n (taken r e) (thenDue e ++ ks) rest | false ↦ none ]) ok)
+decode-step : (n : ℕ) (r : Reading) (k : Key) (ks : List Key) (ws rest : List ℕ) (e : Entry) → splitEntry k ws ≡ split e rest → lacks (faultOf r e) ≡ true → decode (suc n) r (k ∷ ks) ws ≡ decode n (noted r e) (thenDue e ++ ks) rest
+unfolding decode onSome split
+decode-step n r k ks ws rest e back ok = rw back (ap {B = Option Model} (λ b. elim b [ true ↦ decode n (noted r e) (thenDue e ++ ks) rest | false ↦ none ]) ok)
 
 pub decode-lines : (es : List Entry) (r : Reading) (ks : List Key) (m : Model) → Follows es r ks m → withinLimits r es ≡ true → (n : ℕ) → length es ≤ n → (rest : List ℕ) → decode n r ks (flatMap lineWords es ++ rest) ≡ some m
 unfolding withinLimits decode flatMap
@@ -162,7 +162,7 @@ decode-lines (e ∷ es) r [] m f h n l rest = absurd f
 decode-lines (e ∷ es) r (k ∷ ks) m f h zero l rest = absurd (omega arith)
 decode-lines (e ∷ es) r (k ∷ ks) m f h (suc n) l rest =
     let ok = and-left (lacks (faultOf r e)) _ h in
-    let back : takeEntry k (lineWords e ++ flatMap lineWords es ++ rest) ≡ took e (flatMap lineWords es ++ rest) =
+    let back : splitEntry k (lineWords e ++ flatMap lineWords es ++ rest) ≡ split e (flatMap lineWords es ++ rest) =
     rw (← f .0, append-assoc (lineWords e) (flatMap lineWords es) rest) (entry-back r e (flatMap lineWords es ++ rest) (none-lacks (faultOf r e) ok)) in
     decode-step n r k ks (lineWords e ++ flatMap lineWords es ++ rest) (flatMap lineWords es ++ rest) e back ok ∙
-    decode-lines es (taken r e) (thenDue e ++ ks) m (f .1) (and-right (lacks (faultOf r e)) _ h) n (omega arith) rest
+    decode-lines es (noted r e) (thenDue e ++ ks) m (f .1) (and-right (lacks (faultOf r e)) _ h) n (omega arith) rest

@@ -8,7 +8,7 @@ use Rattle.model.specs.Basic.{exists, keep, member, countUp}
 use Rattle.model.specs.Predicate.{Pred, Range, range, all, negate, eq, num, old, add, sub, mul, choose, none, words, operands, nodeCount, depth, least, greatest, hull, times, interval}
 use Rattle.model.specs.Composition.{Tree, par, syn, leaf}
 use Rattle.model.specs.Model.{Model, Edge, Automaton, inSet}
-use Rattle.model.specs.Linear.{pairs, sides, under, moves, sidesCount, moveCount}
+use Rattle.model.specs.Moves.{pairs, sides, under, moves, sidesCount, moveCount}
 
 -- an automaton whose edges under action 1 lead to these locations; `true` says nothing
 abbrev true' : Pred

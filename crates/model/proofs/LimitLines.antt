@@ -15,7 +15,7 @@ use Rattle.model.specs.Predicate.{Pred, Range, words, namesNew, nodeCoun
 use Rattle.model.specs.Composition.{Tree, par, syn, leaf, leaves}
 use Rattle.model.specs.Model.{Edge, edgeTotal}
 use Rattle.model.specs.Lines.{formatLine, actionsLine, variablesLine, variableLine, automataLine, syncLine, locationsLine, initLine, edgesLine, edgeLine, composeLine, Reading}
-use Rattle.model.specs.Limits.{numbersInRange, treeInRange, isCrossed, rises, treeRises, isTooDeep, leavesSpan, passesNodes, variableCount, locationCount, isAstray, isDisordered, isTooLarge, passesEdges, broken, predFault, stateFault, saidFault, faultOf}
+use Rattle.model.specs.Limits.{numbersInRange, treeInRange, isCrossed, rises, treeRises, isTooDeep, exceedsSpan, passesNodes, variableCount, locationCount, isAstray, isDisordered, isTooLarge, passesEdges, broken, predFault, locationFault, contentFault, faultOf}
 use Rattle.model.specs.Lawful.{LawfulRange, LawfulPred, LawfulEdge, LawfulTree}
 use Rattle.model.proofs.Tests.{and-intro, and-right, every-append}
 use Rattle.model.proofs.Lists.{same-of, same-self}
@@ -73,43 +73,43 @@ tree-ranged A N c a n h = nodes-ranged A c a (h .lists) (rw (h .in-order) (count
 
 -- the lines of counts
 pub format-line : (r : Reading) → lacks (faultOf r formatLine) ≡ true
-unfolding faultOf numbersInRange saidFault broken lacks
+unfolding faultOf numbersInRange contentFault broken lacks
 format-line r = refl
 
 pub actions-line : (r : Reading) (n : ℕ) → (lacks (faultOf r (actionsLine n)) ≡ true) ↔ (n ≤ maxActions)
-unfolding faultOf numbersInRange saidFault lacks
+unfolding faultOf numbersInRange contentFault lacks
 actions-line r n = (λ h. let g = simp rows at h in g .0, λ h. simp rows (h, refl))
 
 pub variables-line : (r : Reading) (n : ℕ) → (lacks (faultOf r (variablesLine n)) ≡ true) ↔ (n ≤ maxVariables)
-unfolding faultOf numbersInRange saidFault lacks
+unfolding faultOf numbersInRange contentFault lacks
 variables-line r n = (λ h. let g = simp rows at h in g .0, λ h. simp rows (h, refl))
 
 pub automata-line : (r : Reading) (n : ℕ) → (lacks (faultOf r (automataLine n)) ≡ true) ↔ ((1 ≤ n) × (n ≤ maxAutomata))
-unfolding faultOf numbersInRange saidFault lacks
+unfolding faultOf numbersInRange contentFault lacks
 automata-line r n = (λ h. let g = simp rows at h in g .0, λ h. simp rows (h, refl))
 
 pub locations-line : (r : Reading) (n : ℕ) → (lacks (faultOf r (locationsLine n)) ≡ true) ↔ ((1 ≤ n) × (n ≤ maxLocations))
-unfolding faultOf numbersInRange saidFault lacks
+unfolding faultOf numbersInRange contentFault lacks
 locations-line r n = (λ h. let g = simp rows at h in g .0, λ h. simp rows (h, refl))
 
 pub edges-line : (r : Reading) (n : ℕ) → (lacks (faultOf r (edgesLine n)) ≡ true) ↔ (edgeTotal (r .model .automata) + n ≤ maxEdges)
-unfolding faultOf numbersInRange saidFault passesEdges lacks
+unfolding faultOf numbersInRange contentFault passesEdges lacks
 edges-line r n = (λ h. let g = simp rows at h in omega (arith, g .1 .0), λ h. simp rows (omega arith, (omega arith, refl)))
 
 -- the lines of the parts
 pub variable-line : (r : Reading) (x : Range) → (lacks (faultOf r (variableLine x)) ≡ true) ↔ LawfulRange x
-unfolding faultOf numbersInRange saidFault isCrossed lacks
+unfolding faultOf numbersInRange contentFault isCrossed lacks
 variable-line r x = (
   λ h. let g = simp rows at h in record { low = g .0 .0; high = g .0 .1; ordered = g .1 .0 },
   λ h. simp rows ((h .low, h .high), (h .ordered, refl)),
 )
 
 pub sync-line : (r : Reading) (list : List ℕ) → r .model .actions ≤ maxActions → (lacks (faultOf r (syncLine list)) ≡ true) ↔ (rises (r .model .actions) 0 list ≡ true)
-unfolding faultOf numbersInRange saidFault lacks
+unfolding faultOf numbersInRange contentFault lacks
 sync-line r list a = (λ h. let g = simp rows at h in g .1 .0, λ h. simp rows (rises-ranged (r .model .actions) 0 list a h, (h, refl)))
 
 pub state-line : (r : Reading) (p : Pred) → (lacks (faultOf r (initLine p)) ≡ true) ↔ (LawfulPred (r .model .variables) p × (namesNew (words p) ≡ false) × (r .nodes + nodeCount p ≤ maxNodes))
-unfolding faultOf numbersInRange saidFault stateFault predFault isTooDeep leavesSpan passesNodes variableCount nodeCount lacks
+unfolding faultOf numbersInRange contentFault locationFault predFault isTooDeep exceedsSpan passesNodes variableCount nodeCount lacks
 state-line r p = (
   λ h.
       let g = simp rows at h in (
@@ -121,7 +121,7 @@ state-line r p = (
 )
 
 pub edge-line : (r : Reading) (e : Edge) → r .model .actions ≤ maxActions → locationCount r ≤ maxLocations → (lacks (faultOf r (edgeLine e)) ≡ true) ↔ (LawfulEdge (r .model .variables) (r .model .actions) (locationCount r) e × (r .nodes + nodeCount (e .update) ≤ maxNodes))
-unfolding faultOf numbersInRange saidFault predFault isTooDeep leavesSpan passesNodes variableCount nodeCount isAstray lacks
+unfolding faultOf numbersInRange contentFault predFault isTooDeep exceedsSpan passesNodes variableCount nodeCount isAstray lacks
 edge-line r e a l = (
   λ h.
       let g = simp rows at h in (
@@ -140,7 +140,7 @@ edge-line r e a l = (
 )
 
 pub tree-line : (r : Reading) (c : Tree) → r .model .actions ≤ maxActions → length (r .model .automata) ≤ maxAutomata → (lacks (faultOf r (composeLine c)) ≡ true) ↔ LawfulTree (r .model .actions) (length (r .model .automata)) c
-unfolding faultOf numbersInRange saidFault isDisordered isTooLarge lacks
+unfolding faultOf numbersInRange contentFault isDisordered isTooLarge lacks
 tree-line r c a n = (
   λ h. let g = simp rows at h in record { lists = g .1 .0; filled = g .1 .1 .0; in-order = g .1 .1 .1 .0; size = omega (arith, g .1 .1 .1 .1 .0) },
   λ h. simp rows (

@@ -11,10 +11,10 @@ use Rattle.model.specs.Bounds.{maxNodes, maxActions, maxLocations, maxEd
 use Rattle.model.specs.Predicate.{Range, nodeCount}
 use Rattle.model.specs.Composition.{leaf}
 use Rattle.model.specs.Model.{Location, Edge, Automaton, Model, edgeTotal}
-use Rattle.model.specs.Lines.{Entry, actionsLine, variableLine, automataLine, syncLine, initLine, invLine, edgesLine, edgeLine, composeLine, locationLines, automatonLines, lines, Reading, atFirst, lastOf, onLast, addEdge, withModel, withAutomata, withPred, taken}
-use Rattle.model.specs.Limits.{numbersInRange, locationCount, saidFault, faultOf, withinLimits, limits}
+use Rattle.model.specs.Lines.{Entry, actionsLine, variableLine, automataLine, syncLine, initLine, invLine, edgesLine, edgeLine, composeLine, locationLines, automatonLines, lines, Reading, atFirst, lastOf, onLast, addEdge, withModel, withAutomata, withPred, noted}
+use Rattle.model.specs.Limits.{numbersInRange, locationCount, contentFault, faultOf, withinLimits, limits}
 use Rattle.model.specs.Lawful.{locationNodes, automatonNodes, nodeTotal, LawfulRange, LawfulLocation, LawfulEdge, LawfulAutomaton, Lawful}
-use Rattle.model.proofs.LinesLaws.{takes, takes-append, sheet, auto, takes-ranges, takes-locations, takes-automaton, takes-automata}
+use Rattle.model.proofs.LinesLaws.{notedAll, noted-append, sheet, auto, noted-ranges, noted-locations, noted-automaton, noted-automata}
 use Rattle.model.proofs.LimitLines.{format-line, actions-line, variables-line, variable-line, automata-line, sync-line, locations-line, state-line, edges-line, edge-line, tree-line}
 
 -- every item of a list
@@ -34,15 +34,15 @@ unfolding withinLimits
 within-variables [] r = (λ h. no-members LawfulRange, λ h. refl)
 within-variables (x ∷ xs) r =
     let line = variable-line r x in
-    let ih = within-variables xs (taken r (variableLine x)) in (
+    let ih = within-variables xs (noted r (variableLine x)) in (
       λ h. let g = simp and-eq-true-iff at h in members LawfulRange x xs (line .0 (g .0)) (ih .0 (g .1)),
       λ h. simp and-eq-true-iff (line .1 (h x (List·Memᴰ·head refl)), ih .1 (λ y m. h y (List·Memᴰ·tail m))),
     )
 
-nodes-variables : (xs : List Range) (r : Reading) → takes r (map variableLine xs) .nodes ≡ r .nodes
-unfolding taken withModel
+nodes-variables : (xs : List Range) (r : Reading) → notedAll r (map variableLine xs) .nodes ≡ r .nodes
+unfolding noted withModel
 nodes-variables [] r = refl
-nodes-variables (x ∷ xs) r = nodes-variables xs (taken r (variableLine x))
+nodes-variables (x ∷ xs) r = nodes-variables xs (noted r (variableLine x))
 
 -- a block is within the limits, and so are the nodes before it
 abbrev Fits : Reading → List Entry → Type 0
@@ -50,13 +50,13 @@ Fits r es = (r .nodes ≤ maxNodes) × (withinLimits r es ≡ true)
 
 -- the lines of some locations
 within-locations : (xs : List Location) (r : Reading) → Fits r (flatMap locationLines xs) ↔ (Members (LawfulLocation (r .model .variables)) xs × (r .nodes + sum (map locationNodes xs) ≤ maxNodes))
-unfolding withinLimits flatMap locationLines taken withModel withAutomata withPred sum locationNodes faultOf numbersInRange saidFault
+unfolding withinLimits flatMap locationLines noted withModel withAutomata withPred sum locationNodes faultOf numbersInRange contentFault
 within-locations [] r = (λ h. (no-members (LawfulLocation (r .model .variables)), omega (arith, h .0)), λ h. (omega (arith, h .1), refl))
 within-locations (x ∷ xs) r =
-    let r₁ = taken r (initLine (x .init)) in
+    let r₁ = noted r (initLine (x .init)) in
     let line = state-line r (x .init) in
     let next = state-line r₁ (x .inv) in
-    let ih = within-locations xs (taken r₁ (invLine (x .inv))) in (
+    let ih = within-locations xs (noted r₁ (invLine (x .inv))) in (
       λ h.
           let g = simp and-eq-true-iff at (h .1) in
           let p = line .0 (g .0) in
@@ -69,10 +69,10 @@ within-locations (x ∷ xs) r =
           (omega (arith, h .1), simp and-eq-true-iff (line .1 (p .init, p .init-old, omega (arith, h .1)), (next .1 (p .inv, p .inv-old, omega (arith, h .1)), w .1))),
     )
 
-nodes-locations : (xs : List Location) (r : Reading) → takes r (flatMap locationLines xs) .nodes ≡ r .nodes + sum (map locationNodes xs)
-unfolding flatMap locationLines taken withModel withAutomata withPred sum locationNodes
+nodes-locations : (xs : List Location) (r : Reading) → notedAll r (flatMap locationLines xs) .nodes ≡ r .nodes + sum (map locationNodes xs)
+unfolding flatMap locationLines noted withModel withAutomata withPred sum locationNodes
 nodes-locations [] r = omega arith
-nodes-locations (x ∷ xs) r = let ih = nodes-locations xs (taken (taken r (initLine (x .init))) (invLine (x .inv))) in omega arith
+nodes-locations (x ∷ xs) r = let ih = nodes-locations xs (noted (noted r (initLine (x .init))) (invLine (x .inv))) in omega arith
 
 -- the lines of some edges: an edge leaves the locations of the last automaton
 edge-keeps : (e : Edge) (l : List Automaton) → lastOf (onLast (addEdge e) l) .locations ≡ lastOf l .locations
@@ -83,11 +83,11 @@ edge-keeps e (x ∷ y ∷ []) = refl
 edge-keeps e (x ∷ y ∷ z ∷ l) = edge-keeps e (y ∷ z ∷ l)
 
 within-edges : (xs : List Edge) (r : Reading) (L : ℕ) → locationCount r ≡ L → r .model .actions ≤ maxActions → L ≤ maxLocations → Fits r (map edgeLine xs) ↔ (Members (LawfulEdge (r .model .variables) (r .model .actions) L) xs × (r .nodes + sum (map (λ e. nodeCount (e .update)) xs) ≤ maxNodes))
-unfolding withinLimits taken withModel withAutomata withPred sum locationCount
+unfolding withinLimits noted withModel withAutomata withPred sum locationCount
 within-edges [] r L e a l = (λ h. (no-members (LawfulEdge (r .model .variables) (r .model .actions) L), omega (arith, h .0)), λ h. (omega (arith, h .1), refl))
 within-edges (x ∷ xs) r L e a l =
     let line = rw e at (edge-line r x a (rw e l)) in
-    let ih = within-edges xs (taken r (edgeLine x)) L (ap (length {A = Location}) (edge-keeps x (r .model .automata)) ∙ e) a l in (
+    let ih = within-edges xs (noted r (edgeLine x)) L (ap (length {A = Location}) (edge-keeps x (r .model .automata)) ∙ e) a l in (
       λ h.
           let g = simp and-eq-true-iff at (h .1) in
           let p = line .0 (g .0) in
@@ -98,10 +98,10 @@ within-edges (x ∷ xs) r L e a l =
           (omega (arith, h .1), simp and-eq-true-iff (line .1 (h .0 x (List·Memᴰ·head refl), omega (arith, h .1)), w .1)),
     )
 
-nodes-edges : (xs : List Edge) (r : Reading) → takes r (map edgeLine xs) .nodes ≡ r .nodes + sum (map (λ e. nodeCount (e .update)) xs)
-unfolding taken withModel withAutomata withPred sum
+nodes-edges : (xs : List Edge) (r : Reading) → notedAll r (map edgeLine xs) .nodes ≡ r .nodes + sum (map (λ e. nodeCount (e .update)) xs)
+unfolding noted withModel withAutomata withPred sum
 nodes-edges [] r = omega arith
-nodes-edges (x ∷ xs) r = let ih = nodes-edges xs (taken r (edgeLine x)) in omega arith
+nodes-edges (x ∷ xs) r = let ih = nodes-edges xs (noted r (edgeLine x)) in omega arith
 
 -- the lines of an automaton, which is the last one
 last-is : (done : List Automaton) (x : Automaton) → lastOf (done ++ x ∷ []) ≡ x
@@ -115,19 +115,19 @@ unfolding edgeTotal
 edges-append [] x = omega arith
 edges-append (a ∷ done) x = let ih = edges-append done x in omega arith
 
-within-append : (r : Reading) (a b : List Entry) → withinLimits r (a ++ b) ≡ (withinLimits r a && withinLimits (takes r a) b)
+within-append : (r : Reading) (a b : List Entry) → withinLimits r (a ++ b) ≡ (withinLimits r a && withinLimits (notedAll r a) b)
 unfolding withinLimits
 within-append r [] b = refl
-within-append r (e ∷ a) b = simp (within-append (taken r e) a b, and-assoc)
+within-append r (e ∷ a) b = simp (within-append (noted r e) a b, and-assoc)
 
 within-automaton : (x : Automaton) (r : Reading) → r .model .actions ≤ maxActions → Fits r (automatonLines x) ↔ (LawfulAutomaton (r .model .variables) (r .model .actions) x × (edgeTotal (r .model .automata) + length (x .edges) ≤ maxEdges) × (r .nodes + automatonNodes x ≤ maxNodes))
-unfolding withinLimits automatonLines taken withModel withAutomata automatonNodes locationCount
+unfolding withinLimits automatonLines noted withModel withAutomata automatonNodes locationCount
 within-automaton x r a =
     let A = r .model .actions in
     let vs = r .model .variables in
-    let r₁ = taken r (syncLine (x .sync)) in
-    let r₂ = takes r₁ (flatMap locationLines (x .locations)) in
-    let m : r₂ .model ≡ sheet A vs (r .model .automata ++ auto (x .sync) (x .locations) [] ∷ []) (r .model .tree) = takes-locations A vs (r .model .automata) (r .model .tree) (x .locations) r₁ (x .sync) [] [] refl in
+    let r₁ = noted r (syncLine (x .sync)) in
+    let r₂ = notedAll r₁ (flatMap locationLines (x .locations)) in
+    let m : r₂ .model ≡ sheet A vs (r .model .automata ++ auto (x .sync) (x .locations) [] ∷ []) (r .model .tree) = noted-locations A vs (r .model .automata) (r .model .tree) (x .locations) r₁ (x .sync) [] [] refl in
     let n = nodes-locations (x .locations) r₁ in
     let e : edgeTotal (r₂ .model .automata) ≡ edgeTotal (r .model .automata) + 0 = ap (λ (q : Model). edgeTotal (q .automata)) m ∙ edges-append (r .model .automata) (auto (x .sync) (x .locations) []) in
     let c : locationCount r₂ ≡ length (x .locations) = ap (λ (q : Model). length (lastOf (q .automata) .locations)) m ∙ ap (λ (q : Automaton). length (q .locations)) (last-is (r .model .automata) (auto (x .sync) (x .locations) [])) in
@@ -150,14 +150,14 @@ within-automaton x r a =
           (omega (arith, h .2), simp (and-eq-true-iff, split) (first .1 (h .0 .sync), (second .1 (h .0 .some-location, h .0 .few-locations), (q .1, (third .1 (omega (arith, h .1)), w .1))))),
     )
 
-nodes-automaton : (x : Automaton) (r : Reading) → takes r (automatonLines x) .nodes ≡ r .nodes + automatonNodes x
-unfolding automatonLines taken withModel withAutomata automatonNodes
+nodes-automaton : (x : Automaton) (r : Reading) → notedAll r (automatonLines x) .nodes ≡ r .nodes + automatonNodes x
+unfolding automatonLines noted withModel withAutomata automatonNodes
 nodes-automaton x r =
-    let r₁ = taken r (syncLine (x .sync)) in
-    let r₂ = takes r₁ (flatMap locationLines (x .locations)) in
+    let r₁ = noted r (syncLine (x .sync)) in
+    let r₂ = notedAll r₁ (flatMap locationLines (x .locations)) in
     let p = nodes-locations (x .locations) r₁ in
     let q = nodes-edges (x .edges) r₂ in
-    rw (takes-append r₁ (flatMap locationLines (x .locations)) (edgesLine (length (x .edges)) ∷ map edgeLine (x .edges))) (omega arith)
+    rw (noted-append r₁ (flatMap locationLines (x .locations)) (edgesLine (length (x .edges)) ∷ map edgeLine (x .edges))) (omega arith)
 
 -- the lines of some automata, and of a model
 within-automata : (xs : List Automaton) (r : Reading) → r .model .actions ≤ maxActions → ((edgeTotal (r .model .automata) ≤ maxEdges) × Fits r (flatMap automatonLines xs)) ↔ (Members (LawfulAutomaton (r .model .variables) (r .model .actions)) xs × (edgeTotal (r .model .automata) + edgeTotal xs ≤ maxEdges) × (r .nodes + nodeTotal xs ≤ maxNodes))
@@ -169,8 +169,8 @@ within-automata [] r a = (
 within-automata (x ∷ xs) r a =
     let A = r .model .actions in
     let vs = r .model .variables in
-    let r₁ = takes r (automatonLines x) in
-    let m : r₁ .model ≡ sheet A vs (r .model .automata ++ x ∷ []) (r .model .tree) = takes-automaton A vs (r .model .automata) (r .model .tree) x r refl in
+    let r₁ = notedAll r (automatonLines x) in
+    let m : r₁ .model ≡ sheet A vs (r .model .automata ++ x ∷ []) (r .model .tree) = noted-automaton A vs (r .model .automata) (r .model .tree) x r refl in
     let n = nodes-automaton x r in
     let e : edgeTotal (r₁ .model .automata) ≡ edgeTotal (r .model .automata) + length (x .edges) = ap (λ (q : Model). edgeTotal (q .automata)) m ∙ edges-append (r .model .automata) x in
     let split = within-append r (automatonLines x) (flatMap automatonLines xs) in
@@ -188,13 +188,13 @@ within-automata (x ∷ xs) r a =
     )
 
 pub lawful-is : (m : Model) → (limits m ≡ true) ↔ Lawful m
-unfolding limits lines withinLimits taken withModel atFirst edgeTotal
+unfolding limits lines withinLimits noted withModel atFirst edgeTotal
 lawful-is m =
-    let r₁ = taken atFirst (actionsLine (m .actions)) in
-    let r₂ = takes r₁ (map variableLine (m .variables)) in
-    let r₃ = takes r₂ (flatMap automatonLines (m .automata)) in
-    let h₂ : r₂ .model ≡ sheet (m .actions) (m .variables) [] (leaf 0) = takes-ranges (m .variables) r₁ (m .actions) [] [] (leaf 0) refl in
-    let h₃ : r₃ .model ≡ sheet (m .actions) (m .variables) (m .automata) (leaf 0) = takes-automata (m .automata) r₂ (m .actions) (m .variables) [] (leaf 0) h₂ in
+    let r₁ = noted atFirst (actionsLine (m .actions)) in
+    let r₂ = notedAll r₁ (map variableLine (m .variables)) in
+    let r₃ = notedAll r₂ (flatMap automatonLines (m .automata)) in
+    let h₂ : r₂ .model ≡ sheet (m .actions) (m .variables) [] (leaf 0) = noted-ranges (m .variables) r₁ (m .actions) [] [] (leaf 0) refl in
+    let h₃ : r₃ .model ≡ sheet (m .actions) (m .variables) (m .automata) (leaf 0) = noted-automata (m .automata) r₂ (m .actions) (m .variables) [] (leaf 0) h₂ in
     let k : r₂ .nodes ≡ 0 = nodes-variables (m .variables) r₁ in
     let split = within-append r₁ (map variableLine (m .variables)) (automataLine (length (m .automata)) ∷ (flatMap automatonLines (m .automata) ++ (composeLine (m .tree) ∷ []))) in
     let split₂ = within-append r₂ (flatMap automatonLines (m .automata)) (composeLine (m .tree) ∷ []) in

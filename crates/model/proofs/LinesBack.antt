@@ -4,10 +4,10 @@ use mathlib.Core.Path.{_≡_, refl, sym, _∙_, ap, subst}
 use mathlib.Core.List.{List, [], _∷_, _++_, append-assoc, append-nil, map, flatMap}
 use lib.ListN.{length}
 use Rattle.model.specs.Composition.{Tree}
-use Rattle.model.specs.Lines.{Entry, Key, Reading, actions, actionsLine, atFirst, automata, automataLine, automatonLines, compose, composeLine, dueAtFirst, edge, edgeLine, edges, edgesLine, format, formatLine, init, initLine, inv, invLine, keyOf, lines, locationLines, locations, locationsLine, repeat, sync, syncLine, taken, thenDue, variable, variableLine, variables, variablesLine}
+use Rattle.model.specs.Lines.{Entry, Key, Reading, actions, actionsLine, atFirst, automata, automataLine, automatonLines, compose, composeLine, dueAtFirst, edge, edgeLine, edges, edgesLine, format, formatLine, init, initLine, inv, invLine, keyOf, lines, locationLines, locations, locationsLine, repeat, sync, syncLine, noted, thenDue, variable, variableLine, variables, variablesLine}
 use Rattle.model.specs.Model.{Automaton, Edge, Location, Model}
 use Rattle.model.specs.Predicate.{Pred, Range}
-use Rattle.model.proofs.LinesLaws.{Follows, takes, takes-append, takes-lines}
+use Rattle.model.proofs.LinesLaws.{Follows, notedAll, noted-append, noted-lines}
 
 -- what an entry of a key says
 abbrev Says : Entry → Key → Type 0
@@ -46,27 +46,27 @@ said e k h = subst (λ (j : Key). Says e j) h (says e)
 record Block (r : Reading) (xs : List Entry) (ks : List Key) (es : List Entry) (m : Model) : Type 0 where
   rest : List Entry
   parted : es ≡ xs ++ rest
-  follows : Follows rest (takes r xs) ks m
+  follows : Follows rest (notedAll r xs) ks m
 
 nil-block : (r : Reading) (ks : List Key) (es : List Entry) (m : Model) → Follows es r ks m → Block r [] ks es m
 nil-block r ks es m h = record { rest = es; parted = refl; follows = h }
 
 -- one entry, then a block
-cons-block : (r : Reading) (x : Entry) (xs : List Entry) (ks : List Key) (e : Entry) (es : List Entry) (m : Model) → e ≡ x → Block (taken r x) xs ks es m → Block r (x ∷ xs) ks (e ∷ es) m
+cons-block : (r : Reading) (x : Entry) (xs : List Entry) (ks : List Key) (e : Entry) (es : List Entry) (m : Model) → e ≡ x → Block (noted r x) xs ks es m → Block r (x ∷ xs) ks (e ∷ es) m
 cons-block r x xs ks e es m h b = record { rest = b .rest; parted = ap (λ y. y ∷ es) h ∙ ap (λ l. x ∷ l) (b .parted); follows = b .follows }
 
 -- a block, then another
-join-block : (r : Reading) (a b : List Entry) (js ks : List Key) (es : List Entry) (m : Model) (x : Block r a js es m) → Block (takes r a) b ks (x .rest) m → Block r (a ++ b) ks es m
+join-block : (r : Reading) (a b : List Entry) (js ks : List Key) (es : List Entry) (m : Model) (x : Block r a js es m) → Block (notedAll r a) b ks (x .rest) m → Block r (a ++ b) ks es m
 join-block r a b js ks es m x y =
     record {
       rest = y .rest;
       parted = x .parted ∙ ap (λ l. a ++ l) (y .parted) ∙ sym (append-assoc a b (y .rest));
-      follows = rw (takes-append r a b) (y .follows);
+      follows = rw (noted-append r a b) (y .follows);
     }
 
 -- what follows an entry, once it is known
-after : (e x : Entry) (es : List Entry) (r : Reading) (ks : List Key) (m : Model) → e ≡ x → Follows es (taken r e) (thenDue e ++ ks) m → Follows es (taken r x) (thenDue x ++ ks) m
-after e x es r ks m h f = subst (λ (y : Entry). Follows es (taken r y) (thenDue y ++ ks) m) h f
+after : (e x : Entry) (es : List Entry) (r : Reading) (ks : List Key) (m : Model) → e ≡ x → Follows es (noted r e) (thenDue e ++ ks) m → Follows es (noted r x) (thenDue x ++ ks) m
+after e x es r ks m h f = subst (λ (y : Entry). Follows es (noted r y) (thenDue y ++ ks) m) h f
 
 -- what a count makes due
 variables-block : (n : ℕ) (r : Reading) (ks : List Key) (es : List Entry) (m : Model) → Follows es r (repeat n (variable ∷ []) ++ ks) m → (xs : List Range) × (length xs ≡ n) × Block r (map variableLine xs) ks es m
@@ -75,7 +75,7 @@ variables-block zero r ks es m h = ([], refl, nil-block r ks es m h)
 variables-block (suc n) r ks [] m h = absurd h
 variables-block (suc n) r ks (e ∷ es) m h =
     let q = said e variable (h .0) in
-    let b = variables-block n (taken r (variableLine (q .0))) ks es m (after e (variableLine (q .0)) es r (repeat n (variable ∷ []) ++ ks) m (q .1) (h .1)) in
+    let b = variables-block n (noted r (variableLine (q .0))) ks es m (after e (variableLine (q .0)) es r (repeat n (variable ∷ []) ++ ks) m (q .1) (h .1)) in
     (q .0 ∷ b .0, ap suc (b .1), cons-block r (variableLine (q .0)) (map variableLine (b .0)) ks e es m (q .1) (b .2))
 
 edges-block : (n : ℕ) (r : Reading) (ks : List Key) (es : List Entry) (m : Model) → Follows es r (repeat n (edge ∷ []) ++ ks) m → (xs : List Edge) × (length xs ≡ n) × Block r (map edgeLine xs) ks es m
@@ -84,7 +84,7 @@ edges-block zero r ks es m h = ([], refl, nil-block r ks es m h)
 edges-block (suc n) r ks [] m h = absurd h
 edges-block (suc n) r ks (e ∷ es) m h =
     let q = said e edge (h .0) in
-    let b = edges-block n (taken r (edgeLine (q .0))) ks es m (after e (edgeLine (q .0)) es r (repeat n (edge ∷ []) ++ ks) m (q .1) (h .1)) in
+    let b = edges-block n (noted r (edgeLine (q .0))) ks es m (after e (edgeLine (q .0)) es r (repeat n (edge ∷ []) ++ ks) m (q .1) (h .1)) in
     (q .0 ∷ b .0, ap suc (b .1), cons-block r (edgeLine (q .0)) (map edgeLine (b .0)) ks e es m (q .1) (b .2))
 
 locations-block : (n : ℕ) (r : Reading) (ks : List Key) (es : List Entry) (m : Model) → Follows es r (repeat n (init ∷ inv ∷ []) ++ ks) m → (xs : List Location) × (length xs ≡ n) × Block r (flatMap locationLines xs) ks es m
@@ -98,8 +98,8 @@ locations-block (suc n) r ks (e ∷ f ∷ es) m h =
     let q = said e init (h .0) in
     let g = after e (initLine (q .0)) (f ∷ es) r (inv ∷ (repeat n (init ∷ inv ∷ []) ++ ks)) m (q .1) (h .1) in
     let t = said f inv (g .0) in
-    let r₁ = taken r (initLine (q .0)) in
-    let b = locations-block n (taken r₁ (invLine (t .0))) ks es m (after f (invLine (t .0)) es r₁ (repeat n (init ∷ inv ∷ []) ++ ks) m (t .1) (g .1)) in (
+    let r₁ = noted r (initLine (q .0)) in
+    let b = locations-block n (noted r₁ (invLine (t .0))) ks es m (after f (invLine (t .0)) es r₁ (repeat n (init ∷ inv ∷ []) ++ ks) m (t .1) (g .1)) in (
       record { init = q .0; inv = t .0 } ∷ b .0,
       ap suc (b .1),
       cons-block r (initLine (q .0)) (invLine (t .0) ∷ flatMap locationLines (b .0)) ks e (f ∷ es) m (q .1)
@@ -112,7 +112,7 @@ unfolding thenDue
 edges-part r ks [] m h = absurd h
 edges-part r ks (e ∷ es) m h =
     let q = said e edges (h .0) in
-    let b = edges-block (q .0) (taken r (edgesLine (q .0))) ks es m (after e (edgesLine (q .0)) es r ks m (q .1) (h .1)) in
+    let b = edges-block (q .0) (noted r (edgesLine (q .0))) ks es m (after e (edgesLine (q .0)) es r ks m (q .1) (h .1)) in
     (b .0, rw (b .1) (cons-block r (edgesLine (q .0)) (map edgeLine (b .0)) ks e es m (q .1) (b .2)))
 
 locations-part : (r : Reading) (ks : List Key) (es : List Entry) (m : Model) → Follows es r (locations ∷ ks) m → (xs : List Location) × Block r (locationsLine (length xs) ∷ flatMap locationLines xs) (edges ∷ ks) es m
@@ -121,8 +121,8 @@ locations-part r ks [] m h = absurd h
 locations-part r ks (e ∷ es) m h =
     let q = said e locations (h .0) in
     let f = after e (locationsLine (q .0)) es r ks m (q .1) (h .1) in
-    let g : Follows es (taken r (locationsLine (q .0))) (repeat (q .0) (init ∷ inv ∷ []) ++ (edges ∷ ks)) m = rw append-assoc at f in
-    let b = locations-block (q .0) (taken r (locationsLine (q .0))) (edges ∷ ks) es m g in
+    let g : Follows es (noted r (locationsLine (q .0))) (repeat (q .0) (init ∷ inv ∷ []) ++ (edges ∷ ks)) m = rw append-assoc at f in
+    let b = locations-block (q .0) (noted r (locationsLine (q .0))) (edges ∷ ks) es m g in
     (b .0, rw (b .1) (cons-block r (locationsLine (q .0)) (flatMap locationLines (b .0)) (edges ∷ ks) e es m (q .1) (b .2)))
 
 automata-block : (n : ℕ) (r : Reading) (ks : List Key) (es : List Entry) (m : Model) → Follows es r (repeat n (sync ∷ locations ∷ []) ++ ks) m → (xs : List Automaton) × (length xs ≡ n) × Block r (flatMap automatonLines xs) ks es m
@@ -132,14 +132,14 @@ automata-block (suc n) r ks [] m h = absurd h
 automata-block (suc n) r ks (e ∷ es) m h =
     let q = said e sync (h .0) in
     let js = repeat n (sync ∷ locations ∷ []) ++ ks in
-    let r₁ = taken r (syncLine (q .0)) in
+    let r₁ = noted r (syncLine (q .0)) in
     let a = locations-part r₁ js es m (after e (syncLine (q .0)) es r (locations ∷ js) m (q .1) (h .1)) in
     let la = locationsLine (length (a .0)) ∷ flatMap locationLines (a .0) in
-    let b = edges-part (takes r₁ la) js (a .1 .rest) m (a .1 .follows) in
+    let b = edges-part (notedAll r₁ la) js (a .1 .rest) m (a .1 .follows) in
     let lb = edgesLine (length (b .0)) ∷ map edgeLine (b .0) in
     let x : Automaton = record { sync = q .0; locations = a .0; edges = b .0 } in
     let w : Block r (automatonLines x) js (e ∷ es) m = cons-block r (syncLine (q .0)) (la ++ lb) js e es m (q .1) (join-block r₁ la lb (edges ∷ js) js es m (a .1) (b .1)) in
-    let o = automata-block n (takes r (automatonLines x)) ks (w .rest) m (w .follows) in
+    let o = automata-block n (notedAll r (automatonLines x)) ks (w .rest) m (w .follows) in
     (x ∷ o .0, ap suc (o .1), join-block r (automatonLines x) (flatMap automatonLines (o .0)) js ks (e ∷ es) m w (o .2))
 
 automata-part : (r : Reading) (ks : List Key) (es : List Entry) (m : Model) → Follows es r (automata ∷ ks) m → (xs : List Automaton) × Block r (automataLine (length xs) ∷ flatMap automatonLines xs) ks es m
@@ -147,7 +147,7 @@ unfolding thenDue
 automata-part r ks [] m h = absurd h
 automata-part r ks (e ∷ es) m h =
     let q = said e automata (h .0) in
-    let b = automata-block (q .0) (taken r (automataLine (q .0))) ks es m (after e (automataLine (q .0)) es r ks m (q .1) (h .1)) in
+    let b = automata-block (q .0) (noted r (automataLine (q .0))) ks es m (after e (automataLine (q .0)) es r ks m (q .1) (h .1)) in
     (b .0, rw (b .1) (cons-block r (automataLine (q .0)) (flatMap automatonLines (b .0)) ks e es m (q .1) (b .2)))
 
 variables-part : (r : Reading) (ks : List Key) (es : List Entry) (m : Model) → Follows es r (variables ∷ ks) m → (xs : List Range) × Block r (variablesLine (length xs) ∷ map variableLine xs) ks es m
@@ -155,7 +155,7 @@ unfolding thenDue
 variables-part r ks [] m h = absurd h
 variables-part r ks (e ∷ es) m h =
     let q = said e variables (h .0) in
-    let b = variables-block (q .0) (taken r (variablesLine (q .0))) ks es m (after e (variablesLine (q .0)) es r ks m (q .1) (h .1)) in
+    let b = variables-block (q .0) (noted r (variablesLine (q .0))) ks es m (after e (variablesLine (q .0)) es r ks m (q .1) (h .1)) in
     (b .0, rw (b .1) (cons-block r (variablesLine (q .0)) (map variableLine (b .0)) ks e es m (q .1) (b .2)))
 
 tree-part : (r : Reading) (es : List Entry) (m : Model) → Follows es r (compose ∷ []) m → (c : Tree) × Block r (composeLine c ∷ []) [] es m
@@ -163,18 +163,18 @@ unfolding thenDue
 tree-part r [] m h = absurd h
 tree-part r (e ∷ es) m h =
     let q = said e compose (h .0) in
-    let r₁ = taken r (composeLine (q .0)) in
+    let r₁ = noted r (composeLine (q .0)) in
     (q .0, cons-block r (composeLine (q .0)) [] [] e es m (q .1) (nil-block r₁ [] es m (after e (composeLine (q .0)) es r [] m (q .1) (h .1))))
 
 rest-part : (r : Reading) (es : List Entry) (m : Model) → Follows es r (variables ∷ automata ∷ compose ∷ []) m → (vs : List Range) × (xs : List Automaton) × (c : Tree) × Block r ((variablesLine (length vs) ∷ map variableLine vs) ++ ((automataLine (length xs) ∷ flatMap automatonLines xs) ++ (composeLine c ∷ []))) [] es m
 rest-part r es m h =
     let v = variables-part r (automata ∷ compose ∷ []) es m h in
     let lv = variablesLine (length (v .0)) ∷ map variableLine (v .0) in
-    let a = automata-part (takes r lv) (compose ∷ []) (v .1 .rest) m (v .1 .follows) in
+    let a = automata-part (notedAll r lv) (compose ∷ []) (v .1 .rest) m (v .1 .follows) in
     let la = automataLine (length (a .0)) ∷ flatMap automatonLines (a .0) in
-    let t = tree-part (takes (takes r lv) la) (a .1 .rest) m (a .1 .follows) in
+    let t = tree-part (notedAll (notedAll r lv) la) (a .1 .rest) m (a .1 .follows) in
     let lt = composeLine (t .0) ∷ [] in
-    let j = join-block (takes r lv) la lt (compose ∷ []) [] (v .1 .rest) m (a .1) (t .1) in
+    let j = join-block (notedAll r lv) la lt (compose ∷ []) [] (v .1 .rest) m (a .1) (t .1) in
     (v .0, a .0, t .0, join-block r lv (la ++ lt) (automata ∷ compose ∷ []) [] es m (v .1) j)
 
 whole : (es : List Entry) (m : Model) → Follows es atFirst dueAtFirst m → (x : Model) × Block atFirst (lines x) [] es m
@@ -184,9 +184,9 @@ whole (e ∷ []) m h = absurd (after e formatLine [] atFirst (actions ∷ variab
 whole (e ∷ f ∷ es) m h =
     let q = said e format (h .0) in
     let g = after e formatLine (f ∷ es) atFirst (actions ∷ variables ∷ automata ∷ compose ∷ []) m (said e format (h .0)) (h .1) in
-    let r₁ = taken atFirst formatLine in
+    let r₁ = noted atFirst formatLine in
     let t = said f actions (g .0) in
-    let r₂ = taken r₁ (actionsLine (t .0)) in
+    let r₂ = noted r₁ (actionsLine (t .0)) in
     let o = rest-part r₂ es m (after f (actionsLine (t .0)) es r₁ (variables ∷ automata ∷ compose ∷ []) m (t .1) (g .1)) in
     let lo = (variablesLine (length (o .0)) ∷ map variableLine (o .0)) ++ ((automataLine (length (o .1)) ∷ flatMap automatonLines (o .1)) ++ (composeLine (o .2) ∷ [])) in (
       record { actions = t .0; variables = o .0; automata = o .1; tree = o .2 },
@@ -197,6 +197,6 @@ whole (e ∷ f ∷ es) m h =
 pub lines-follow : (es : List Entry) (m : Model) → Follows es atFirst dueAtFirst m → es ≡ lines m
 lines-follow es m h = let w = whole es m h in go (w .0) (w .1 .rest) (w .1 .parted) (w .1 .follows)
   where
-    go : (x : Model) (rest : List Entry) → es ≡ lines x ++ rest → Follows rest (takes atFirst (lines x)) [] m → es ≡ lines m
-    go x [] e f = e ∙ append-nil (lines x) ∙ ap lines (sym (takes-lines x) ∙ f)
+    go : (x : Model) (rest : List Entry) → es ≡ lines x ++ rest → Follows rest (notedAll atFirst (lines x)) [] m → es ≡ lines m
+    go x [] e f = e ∙ append-nil (lines x) ∙ ap lines (sym (noted-lines x) ∙ f)
     go x (d ∷ rest) e f = absurd f

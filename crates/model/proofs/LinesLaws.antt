@@ -6,26 +6,26 @@ use lib.ListN.{length}
 use Rattle.model.specs.Predicate.{Pred, Range, nodeCount}
 use Rattle.model.specs.Composition.{Tree, leaf}
 use Rattle.model.specs.Model.{Location, Edge, Automaton, Model}
-use Rattle.model.specs.Lines.{Key, format, actions, variables, variable, automata, sync, locations, init, inv, edges, edge, compose, Entry, formatLine, actionsLine, variablesLine, variableLine, automataLine, syncLine, locationsLine, initLine, invLine, edgesLine, edgeLine, composeLine, keyOf, locationLines, automatonLines, lines, dueAtFirst, repeat, thenDue, Reading, atFirst, withModel, withAutomata, withPred, onLast, addLocation, addEdge, taken}
+use Rattle.model.specs.Lines.{Key, format, actions, variables, variable, automata, sync, locations, init, inv, edges, edge, compose, Entry, formatLine, actionsLine, variablesLine, variableLine, automataLine, syncLine, locationsLine, initLine, invLine, edgesLine, edgeLine, composeLine, keyOf, locationLines, automatonLines, lines, dueAtFirst, repeat, thenDue, Reading, atFirst, withModel, withAutomata, withPred, onLast, addLocation, addEdge, noted}
 
 -- the lines of a block, and what they are taken to
-abbrev pub takes : Reading → List Entry → Reading
-takes r [] = r
-takes r (e ∷ es) = takes (taken r e) es
+abbrev pub notedAll : Reading → List Entry → Reading
+notedAll r [] = r
+notedAll r (e ∷ es) = notedAll (noted r e) es
 
-pub takes-append : (r : Reading) (a b : List Entry) → takes r (a ++ b) ≡ takes (takes r a) b
-takes-append r [] b = refl
-takes-append r (e ∷ a) b = takes-append (taken r e) a b
+pub noted-append : (r : Reading) (a b : List Entry) → notedAll r (a ++ b) ≡ notedAll (notedAll r a) b
+noted-append r [] b = refl
+noted-append r (e ∷ a) b = noted-append (noted r e) a b
 
 abbrev pub sheet : ℕ → List Range → List Automaton → Tree → Model
 sheet a rs l c = record { actions = a; variables = rs; automata = l; tree = c }
 
 -- what the lines of a model are taken to
-pub takes-ranges : (xs : List Range) (r : Reading) (a : ℕ) (rs : List Range) (l : List Automaton) (c : Tree) → r .model ≡ sheet a rs l c → takes r (map variableLine xs) .model ≡ sheet a (rs ++ xs) l c
-unfolding taken withModel
-takes-ranges [] r a rs l c h = h ∙ ap (λ q. sheet a q l c) (sym (append-nil rs))
-takes-ranges (x ∷ xs) r a rs l c h =
-    takes-ranges xs (taken r (variableLine x)) a (rs ++ x ∷ []) l c (ap (λ (q : Model). sheet (q .actions) (q .variables ++ x ∷ []) (q .automata) (q .tree)) h) ∙
+pub noted-ranges : (xs : List Range) (r : Reading) (a : ℕ) (rs : List Range) (l : List Automaton) (c : Tree) → r .model ≡ sheet a rs l c → notedAll r (map variableLine xs) .model ≡ sheet a (rs ++ xs) l c
+unfolding noted withModel
+noted-ranges [] r a rs l c h = h ∙ ap (λ q. sheet a q l c) (sym (append-nil rs))
+noted-ranges (x ∷ xs) r a rs l c h =
+    noted-ranges xs (noted r (variableLine x)) a (rs ++ x ∷ []) l c (ap (λ (q : Model). sheet (q .actions) (q .variables ++ x ∷ []) (q .automata) (q .tree)) h) ∙
     ap (λ q. sheet a q l c) (append-assoc rs (x ∷ []) xs)
 
 last-law : (f : Automaton → Automaton) (done : List Automaton) (a : Automaton) → onLast f (done ++ a ∷ []) ≡ done ++ f a ∷ []
@@ -38,50 +38,50 @@ abbrev pub auto : List ℕ → List Location → List Edge → Automaton
 auto s l e = record { sync = s; locations = l; edges = e }
 
 module _ (a : ℕ) (rs : List Range) (done : List Automaton) (c : Tree) where
-  pub takes-locations : (xs : List Location) (r : Reading) (s : List ℕ) (ls : List Location) (es : List Edge) → r .model ≡ sheet a rs (done ++ auto s ls es ∷ []) c → takes r (flatMap locationLines xs) .model ≡ sheet a rs (done ++ auto s (ls ++ xs) es ∷ []) c
-  unfolding taken withModel withAutomata withPred flatMap locationLines addLocation
-  takes-locations [] r s ls es h = h ∙ ap (λ q. sheet a rs (done ++ auto s q es ∷ []) c) (sym (append-nil ls))
-  takes-locations (x ∷ xs) r s ls es h =
-      takes-locations xs (taken (taken r (initLine (x .init))) (invLine (x .inv))) s (ls ++ x ∷ []) es
+  pub noted-locations : (xs : List Location) (r : Reading) (s : List ℕ) (ls : List Location) (es : List Edge) → r .model ≡ sheet a rs (done ++ auto s ls es ∷ []) c → notedAll r (flatMap locationLines xs) .model ≡ sheet a rs (done ++ auto s (ls ++ xs) es ∷ []) c
+  unfolding noted withModel withAutomata withPred flatMap locationLines addLocation
+  noted-locations [] r s ls es h = h ∙ ap (λ q. sheet a rs (done ++ auto s q es ∷ []) c) (sym (append-nil ls))
+  noted-locations (x ∷ xs) r s ls es h =
+      noted-locations xs (noted (noted r (initLine (x .init))) (invLine (x .inv))) s (ls ++ x ∷ []) es
       (ap (λ (q : Model). sheet (q .actions) (q .variables) (onLast (addLocation x) (q .automata)) (q .tree)) h ∙
       ap (λ q. sheet a rs q c) (last-law (addLocation x) done (auto s ls es))) ∙
       ap (λ q. sheet a rs (done ++ auto s q es ∷ []) c) (append-assoc ls (x ∷ []) xs)
 
-  takes-edges : (xs : List Edge) (r : Reading) (s : List ℕ) (ls : List Location) (es : List Edge) → r .model ≡ sheet a rs (done ++ auto s ls es ∷ []) c → takes r (map edgeLine xs) .model ≡ sheet a rs (done ++ auto s ls (es ++ xs) ∷ []) c
-  unfolding taken withModel withAutomata withPred addEdge
-  takes-edges [] r s ls es h = h ∙ ap (λ q. sheet a rs (done ++ auto s ls q ∷ []) c) (sym (append-nil es))
-  takes-edges (x ∷ xs) r s ls es h =
-      takes-edges xs (taken r (edgeLine x)) s ls (es ++ x ∷ [])
+  noted-edges : (xs : List Edge) (r : Reading) (s : List ℕ) (ls : List Location) (es : List Edge) → r .model ≡ sheet a rs (done ++ auto s ls es ∷ []) c → notedAll r (map edgeLine xs) .model ≡ sheet a rs (done ++ auto s ls (es ++ xs) ∷ []) c
+  unfolding noted withModel withAutomata withPred addEdge
+  noted-edges [] r s ls es h = h ∙ ap (λ q. sheet a rs (done ++ auto s ls q ∷ []) c) (sym (append-nil es))
+  noted-edges (x ∷ xs) r s ls es h =
+      noted-edges xs (noted r (edgeLine x)) s ls (es ++ x ∷ [])
       (ap (λ (q : Model). sheet (q .actions) (q .variables) (onLast (addEdge x) (q .automata)) (q .tree)) h ∙
       ap (λ q. sheet a rs q c) (last-law (addEdge x) done (auto s ls es))) ∙
       ap (λ q. sheet a rs (done ++ auto s ls q ∷ []) c) (append-assoc es (x ∷ []) xs)
 
-  pub takes-automaton : (x : Automaton) (r : Reading) → r .model ≡ sheet a rs done c → takes r (automatonLines x) .model ≡ sheet a rs (done ++ x ∷ []) c
-  unfolding taken withModel withAutomata automatonLines
-  takes-automaton x r h =
-      let r₁ = taken r (syncLine (x .sync)) in
+  pub noted-automaton : (x : Automaton) (r : Reading) → r .model ≡ sheet a rs done c → notedAll r (automatonLines x) .model ≡ sheet a rs (done ++ x ∷ []) c
+  unfolding noted withModel withAutomata automatonLines
+  noted-automaton x r h =
+      let r₁ = noted r (syncLine (x .sync)) in
       let h₁ : r₁ .model ≡ sheet a rs (done ++ auto (x .sync) [] [] ∷ []) c = ap (λ (q : Model). sheet (q .actions) (q .variables) (q .automata ++ auto (x .sync) [] [] ∷ []) (q .tree)) h in
-      let h₂ : takes r₁ (flatMap locationLines (x .locations)) .model ≡ sheet a rs (done ++ auto (x .sync) (x .locations) [] ∷ []) c = takes-locations (x .locations) r₁ (x .sync) [] [] h₁ in
-      ap (λ (q : Reading). q .model) (takes-append r₁ (flatMap locationLines (x .locations)) (edgesLine (length (x .edges)) ∷ map edgeLine (x .edges))) ∙
-      takes-edges (x .edges) (takes r₁ (flatMap locationLines (x .locations))) (x .sync) (x .locations) [] h₂
+      let h₂ : notedAll r₁ (flatMap locationLines (x .locations)) .model ≡ sheet a rs (done ++ auto (x .sync) (x .locations) [] ∷ []) c = noted-locations (x .locations) r₁ (x .sync) [] [] h₁ in
+      ap (λ (q : Reading). q .model) (noted-append r₁ (flatMap locationLines (x .locations)) (edgesLine (length (x .edges)) ∷ map edgeLine (x .edges))) ∙
+      noted-edges (x .edges) (notedAll r₁ (flatMap locationLines (x .locations))) (x .sync) (x .locations) [] h₂
 
-pub takes-automata : (xs : List Automaton) (r : Reading) (a : ℕ) (rs : List Range) (done : List Automaton) (c : Tree) → r .model ≡ sheet a rs done c → takes r (flatMap automatonLines xs) .model ≡ sheet a rs (done ++ xs) c
+pub noted-automata : (xs : List Automaton) (r : Reading) (a : ℕ) (rs : List Range) (done : List Automaton) (c : Tree) → r .model ≡ sheet a rs done c → notedAll r (flatMap automatonLines xs) .model ≡ sheet a rs (done ++ xs) c
 unfolding flatMap
-takes-automata [] r a rs done c h = h ∙ ap (λ q. sheet a rs q c) (sym (append-nil done))
-takes-automata (x ∷ xs) r a rs done c h =
-    ap (λ (q : Reading). q .model) (takes-append r (automatonLines x) (flatMap automatonLines xs)) ∙
-    takes-automata xs (takes r (automatonLines x)) a rs (done ++ x ∷ []) c (takes-automaton a rs done c x r h) ∙
+noted-automata [] r a rs done c h = h ∙ ap (λ q. sheet a rs q c) (sym (append-nil done))
+noted-automata (x ∷ xs) r a rs done c h =
+    ap (λ (q : Reading). q .model) (noted-append r (automatonLines x) (flatMap automatonLines xs)) ∙
+    noted-automata xs (notedAll r (automatonLines x)) a rs (done ++ x ∷ []) c (noted-automaton a rs done c x r h) ∙
     ap (λ q. sheet a rs q c) (append-assoc done (x ∷ []) xs)
 
-pub takes-lines : (m : Model) → takes atFirst (lines m) .model ≡ m
-unfolding lines taken withModel atFirst
-takes-lines m =
-    let r₂ = taken (taken atFirst formatLine) (actionsLine (m .actions)) in
-    let h₁ : takes r₂ (map variableLine (m .variables)) .model ≡ sheet (m .actions) (m .variables) [] (leaf 0) = takes-ranges (m .variables) r₂ (m .actions) [] [] (leaf 0) refl in
-    let r₃ = takes r₂ (map variableLine (m .variables)) in
-    let h₂ : takes r₃ (flatMap automatonLines (m .automata)) .model ≡ sheet (m .actions) (m .variables) (m .automata) (leaf 0) = takes-automata (m .automata) r₃ (m .actions) (m .variables) [] (leaf 0) h₁ in
-    ap (λ (q : Reading). q .model) (takes-append r₂ (map variableLine (m .variables)) (automataLine (length (m .automata)) ∷ (flatMap automatonLines (m .automata) ++ (composeLine (m .tree) ∷ [])))) ∙
-    ap (λ (q : Reading). q .model) (takes-append r₃ (flatMap automatonLines (m .automata)) (composeLine (m .tree) ∷ [])) ∙
+pub noted-lines : (m : Model) → notedAll atFirst (lines m) .model ≡ m
+unfolding lines noted withModel atFirst
+noted-lines m =
+    let r₂ = noted (noted atFirst formatLine) (actionsLine (m .actions)) in
+    let h₁ : notedAll r₂ (map variableLine (m .variables)) .model ≡ sheet (m .actions) (m .variables) [] (leaf 0) = noted-ranges (m .variables) r₂ (m .actions) [] [] (leaf 0) refl in
+    let r₃ = notedAll r₂ (map variableLine (m .variables)) in
+    let h₂ : notedAll r₃ (flatMap automatonLines (m .automata)) .model ≡ sheet (m .actions) (m .variables) (m .automata) (leaf 0) = noted-automata (m .automata) r₃ (m .actions) (m .variables) [] (leaf 0) h₁ in
+    ap (λ (q : Reading). q .model) (noted-append r₂ (map variableLine (m .variables)) (automataLine (length (m .automata)) ∷ (flatMap automatonLines (m .automata) ++ (composeLine (m .tree) ∷ [])))) ∙
+    ap (λ (q : Reading). q .model) (noted-append r₃ (flatMap automatonLines (m .automata)) (composeLine (m .tree) ∷ [])) ∙
     ap (λ (q : Model). sheet (q .actions) (q .variables) (q .automata) (m .tree)) h₂
 
 -- the lines of a model stand in the order that is due
@@ -89,52 +89,52 @@ abbrev pub Follows : List Entry → Reading → List Key → Model → Type 0
 Follows [] r [] m = r .model ≡ m
 Follows [] r (k ∷ ks) m = ⊥
 Follows (e ∷ es) r [] m = ⊥
-Follows (e ∷ es) r (k ∷ ks) m = (keyOf e ≡ k) × Follows es (taken r e) (thenDue e ++ ks) m
+Follows (e ∷ es) r (k ∷ ks) m = (keyOf e ≡ k) × Follows es (noted r e) (thenDue e ++ ks) m
 
-follow-variables : (xs : List Range) (es : List Entry) (r : Reading) (ks : List Key) (m : Model) → Follows es (takes r (map variableLine xs)) ks m → Follows (map variableLine xs ++ es) r (repeat (length xs) (variable ∷ []) ++ ks) m
+follow-variables : (xs : List Range) (es : List Entry) (r : Reading) (ks : List Key) (m : Model) → Follows es (notedAll r (map variableLine xs)) ks m → Follows (map variableLine xs ++ es) r (repeat (length xs) (variable ∷ []) ++ ks) m
 unfolding keyOf thenDue repeat
 follow-variables [] es r ks m h = h
-follow-variables (x ∷ xs) es r ks m h = (refl, follow-variables xs es (taken r (variableLine x)) ks m h)
+follow-variables (x ∷ xs) es r ks m h = (refl, follow-variables xs es (noted r (variableLine x)) ks m h)
 
-follow-edges : (xs : List Edge) (es : List Entry) (r : Reading) (ks : List Key) (m : Model) → Follows es (takes r (map edgeLine xs)) ks m → Follows (map edgeLine xs ++ es) r (repeat (length xs) (edge ∷ []) ++ ks) m
+follow-edges : (xs : List Edge) (es : List Entry) (r : Reading) (ks : List Key) (m : Model) → Follows es (notedAll r (map edgeLine xs)) ks m → Follows (map edgeLine xs ++ es) r (repeat (length xs) (edge ∷ []) ++ ks) m
 unfolding keyOf thenDue repeat
 follow-edges [] es r ks m h = h
-follow-edges (x ∷ xs) es r ks m h = (refl, follow-edges xs es (taken r (edgeLine x)) ks m h)
+follow-edges (x ∷ xs) es r ks m h = (refl, follow-edges xs es (noted r (edgeLine x)) ks m h)
 
-follow-locations : (xs : List Location) (es : List Entry) (r : Reading) (ks : List Key) (m : Model) → Follows es (takes r (flatMap locationLines xs)) ks m → Follows (flatMap locationLines xs ++ es) r (repeat (length xs) (init ∷ inv ∷ []) ++ ks) m
+follow-locations : (xs : List Location) (es : List Entry) (r : Reading) (ks : List Key) (m : Model) → Follows es (notedAll r (flatMap locationLines xs)) ks m → Follows (flatMap locationLines xs ++ es) r (repeat (length xs) (init ∷ inv ∷ []) ++ ks) m
 unfolding keyOf thenDue repeat flatMap locationLines
 follow-locations [] es r ks m h = h
-follow-locations (x ∷ xs) es r ks m h = (refl, (refl, follow-locations xs es (taken (taken r (initLine (x .init))) (invLine (x .inv))) ks m h))
+follow-locations (x ∷ xs) es r ks m h = (refl, (refl, follow-locations xs es (noted (noted r (initLine (x .init))) (invLine (x .inv))) ks m h))
 
-follow-automaton : (x : Automaton) (es : List Entry) (r : Reading) (ks : List Key) (m : Model) → Follows es (takes r (automatonLines x)) ks m → Follows (automatonLines x ++ es) r (sync ∷ locations ∷ ks) m
+follow-automaton : (x : Automaton) (es : List Entry) (r : Reading) (ks : List Key) (m : Model) → Follows es (notedAll r (automatonLines x)) ks m → Follows (automatonLines x ++ es) r (sync ∷ locations ∷ ks) m
 unfolding keyOf thenDue automatonLines
 follow-automaton x es r ks m h =
-    let r₂ = taken (taken r (syncLine (x .sync))) (locationsLine (length (x .locations))) in
+    let r₂ = noted (noted r (syncLine (x .sync))) (locationsLine (length (x .locations))) in
     let a = flatMap locationLines (x .locations) in
     let b = map edgeLine (x .edges) in
     let n = length (x .edges) in
-    let g : Follows es (takes (takes r₂ (flatMap locationLines (x .locations))) (edgesLine (length (x .edges)) ∷ map edgeLine (x .edges))) ks m = rw (← takes-append r₂ (flatMap locationLines (x .locations)) (edgesLine (length (x .edges)) ∷ map edgeLine (x .edges))) h in
-    let e : Follows ((edgesLine (length (x .edges)) ∷ map edgeLine (x .edges)) ++ es) (takes r₂ (flatMap locationLines (x .locations))) (edges ∷ ks) m = (refl, follow-edges (x .edges) es (taken (takes r₂ (flatMap locationLines (x .locations))) (edgesLine (length (x .edges)))) ks m g) in
+    let g : Follows es (notedAll (notedAll r₂ (flatMap locationLines (x .locations))) (edgesLine (length (x .edges)) ∷ map edgeLine (x .edges))) ks m = rw (← noted-append r₂ (flatMap locationLines (x .locations)) (edgesLine (length (x .edges)) ∷ map edgeLine (x .edges))) h in
+    let e : Follows ((edgesLine (length (x .edges)) ∷ map edgeLine (x .edges)) ++ es) (notedAll r₂ (flatMap locationLines (x .locations))) (edges ∷ ks) m = (refl, follow-edges (x .edges) es (noted (notedAll r₂ (flatMap locationLines (x .locations))) (edgesLine (length (x .edges)))) ks m g) in
     let l = follow-locations (x .locations) ((edgesLine (length (x .edges)) ∷ map edgeLine (x .edges)) ++ es) r₂ (edges ∷ ks) m e in
     (refl, (refl, rw (append-assoc (flatMap locationLines (x .locations)) (edgesLine (length (x .edges)) ∷ map edgeLine (x .edges)) es, append-assoc (repeat (length (x .locations)) (init ∷ inv ∷ [])) (edges ∷ []) ks) l))
 
-follow-automata : (xs : List Automaton) (es : List Entry) (r : Reading) (ks : List Key) (m : Model) → Follows es (takes r (flatMap automatonLines xs)) ks m → Follows (flatMap automatonLines xs ++ es) r (repeat (length xs) (sync ∷ locations ∷ []) ++ ks) m
+follow-automata : (xs : List Automaton) (es : List Entry) (r : Reading) (ks : List Key) (m : Model) → Follows es (notedAll r (flatMap automatonLines xs)) ks m → Follows (flatMap automatonLines xs ++ es) r (repeat (length xs) (sync ∷ locations ∷ []) ++ ks) m
 unfolding repeat flatMap
 follow-automata [] es r ks m h = h
 follow-automata (x ∷ xs) es r ks m h =
-    let g : Follows es (takes (takes r (automatonLines x)) (flatMap automatonLines xs)) ks m = rw (← takes-append r (automatonLines x) (flatMap automatonLines xs)) h in
+    let g : Follows es (notedAll (notedAll r (automatonLines x)) (flatMap automatonLines xs)) ks m = rw (← noted-append r (automatonLines x) (flatMap automatonLines xs)) h in
     rw (append-assoc (automatonLines x) (flatMap automatonLines xs) es)
-    (follow-automaton x (flatMap automatonLines xs ++ es) r (repeat (length xs) (sync ∷ locations ∷ []) ++ ks) m (follow-automata xs es (takes r (automatonLines x)) ks m g))
+    (follow-automaton x (flatMap automatonLines xs ++ es) r (repeat (length xs) (sync ∷ locations ∷ []) ++ ks) m (follow-automata xs es (notedAll r (automatonLines x)) ks m g))
 
 pub follow-lines : (m : Model) → Follows (lines m) atFirst dueAtFirst m
 unfolding lines keyOf thenDue dueAtFirst
 follow-lines m =
-    let r₃ = taken (taken (taken atFirst formatLine) (actionsLine (m .actions))) (variablesLine (length (m .variables))) in
+    let r₃ = noted (noted (noted atFirst formatLine) (actionsLine (m .actions))) (variablesLine (length (m .variables))) in
     let la = map variableLine (m .variables) in
     let lb = flatMap automatonLines (m .automata) in
     let lc = composeLine (m .tree) ∷ [] in
-    let q : takes (taken (takes r₃ (map variableLine (m .variables))) (automataLine (length (m .automata)))) (flatMap automatonLines (m .automata) ++ (composeLine (m .tree) ∷ [])) .model ≡ m = ap (λ (x : Reading). x .model) (sym (takes-append r₃ (map variableLine (m .variables)) (automataLine (length (m .automata)) ∷ (flatMap automatonLines (m .automata) ++ (composeLine (m .tree) ∷ []))))) ∙ takes-lines m in
-    let p : taken (takes (taken (takes r₃ (map variableLine (m .variables))) (automataLine (length (m .automata)))) (flatMap automatonLines (m .automata))) (composeLine (m .tree)) .model ≡ m = ap (λ (x : Reading). x .model) (sym (takes-append (taken (takes r₃ (map variableLine (m .variables))) (automataLine (length (m .automata)))) (flatMap automatonLines (m .automata)) (composeLine (m .tree) ∷ []))) ∙ q in (
+    let q : notedAll (noted (notedAll r₃ (map variableLine (m .variables))) (automataLine (length (m .automata)))) (flatMap automatonLines (m .automata) ++ (composeLine (m .tree) ∷ [])) .model ≡ m = ap (λ (x : Reading). x .model) (sym (noted-append r₃ (map variableLine (m .variables)) (automataLine (length (m .automata)) ∷ (flatMap automatonLines (m .automata) ++ (composeLine (m .tree) ∷ []))))) ∙ noted-lines m in
+    let p : noted (notedAll (noted (notedAll r₃ (map variableLine (m .variables))) (automataLine (length (m .automata)))) (flatMap automatonLines (m .automata))) (composeLine (m .tree)) .model ≡ m = ap (λ (x : Reading). x .model) (sym (noted-append (noted (notedAll r₃ (map variableLine (m .variables))) (automataLine (length (m .automata)))) (flatMap automatonLines (m .automata)) (composeLine (m .tree) ∷ []))) ∙ q in (
       refl,
       (
         refl,
@@ -142,7 +142,7 @@ follow-lines m =
           refl,
           follow-variables (m .variables) (automataLine (length (m .automata)) ∷ (flatMap automatonLines (m .automata) ++ (composeLine (m .tree) ∷ []))) r₃ (automata ∷ compose ∷ []) m (
             refl,
-            follow-automata (m .automata) (composeLine (m .tree) ∷ []) (taken (takes r₃ (map variableLine (m .variables))) (automataLine (length (m .automata)))) (compose ∷ []) m (refl, p),
+            follow-automata (m .automata) (composeLine (m .tree) ∷ []) (noted (notedAll r₃ (map variableLine (m .variables))) (automataLine (length (m .automata)))) (compose ∷ []) m (refl, p),
           ),
         ),
       ),

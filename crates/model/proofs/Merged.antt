@@ -15,11 +15,12 @@ use Rattle.model.specs.Composition.{Tree, par, syn, leaf, leaves}
 use Rattle.model.specs.Model.{Model, Location, Edge, Automaton, automaton, location, nobody, nowhere, inSet}
 use Rattle.model.specs.Limits.{rises, treeRises}
 use Rattle.model.specs.Lawful.{Lawful, LawfulAutomaton}
-use Rattle.model.specs.Rules.{State, at, val, holdsIn, Taker, mentioned, Step, Environment, moved}
-use Rattle.model.specs.Linear.{under, alone, moves, pointer, pointerRange, atAutomata, pointerMoves, mergedInit, mergedInv, mergedEdge, mergedEdges, linear}
-use Rattle.model.specs.Judge.{inits, invs, settled, isTaker, updated, led, kept, framed, fits, stepHolds}
-use Rattle.model.specs.Runs.{Shaped, beside}
-use Rattle.model.proofs.Tests.{and-left, and-right, and-same, or-none, eq-of, of-eq, not-eq, eq-self, lt-of, each-ext, each-add, exists-append, exists-map, exists-ext, every-append, every-ext}
+use Rattle.model.specs.Rules.{State, at, val, holdsIn, Taker, mentioned, Step, Environment, changed}
+use Rattle.model.specs.Moves.{under, alone, moves}
+use Rattle.model.specs.Linear.{pointer, pointerRange, atAutomata, pointerMoves, mergedInit, mergedInv, mergedEdge, mergedEdges, linear}
+use Rattle.model.specs.Judge.{hasValues, row21, row22, inits, invs, settled, isTaker, updated, led, kept, framed, fits, stepHolds}
+use Rattle.model.specs.Runs.{beside}
+use Rattle.model.proofs.Tests.{not-false, each-elim, and-left, and-right, and-same, or-none, eq-of, of-eq, not-eq, eq-self, lt-of, each-ext, each-add, exists-append, exists-map, exists-ext, every-append, every-ext}
 use Rattle.model.proofs.Lists.{keep-append, keep-all, keep-none, all-at, every-map, member-keep, member-count}
 use Rattle.model.proofs.Numbered.{leaves-all}
 use Rattle.model.proofs.Takers.{of-takers}
@@ -78,6 +79,23 @@ rises-above A last (k ∷ ks) h a l = go (ltb last k && leb k A) refl h (λ p i.
 -- the two orders of the tests
 shuffle : (u l f k : Bool) → ((u && l) && (true && (true && (f && k)))) ≡ (u && (l && (k && f)))
 shuffle u l f k = and-assoc u l (f && k) ∙ ap (λ (b : Bool). u && (l && b)) (and-comm f k)
+
+-- a state that has the sheet's shape: rows 21 and 22 do not hold of it
+pub record Shaped (m : Model) (s : State) : Type 0 where
+  pub values-are : length (s .values) ≡ length (m .variables)
+  pub locations-are : length (s .locations) ≡ length (m .automata)
+  pub placed : (k : ℕ) → k < length (m .automata) → at s k < length (automaton m k .locations)
+
+-- rows 21 and 22 do not hold: the state has the model's shape
+pub shaped : (m : Model) (s : State) → row21 m s ≡ false → row22 m s ≡ false → Shaped m s
+unfolding row21 row22 hasValues
+shaped m s p q =
+    let h = not-false _ p in
+    record {
+      values-are = eq-of _ _ (and-right (eqb (length (s .locations)) (length (m .automata))) _ h);
+      locations-are = eq-of _ _ (and-left (eqb (length (s .locations)) (length (m .automata))) (hasValues m (s .values)) h);
+      placed = λ k l. lt-of _ _ (each-elim _ (λ i. ltb (at s i) (length (automaton m i .locations))) (not-false _ q) k l);
+    }
 
 module _ (m : Model) where
   -- P names no variable that the model does not declare (row 7)
@@ -236,26 +254,39 @@ unfolding linear leaves countUp
 linear-ordered m = refl
 
 -- a step of the composition, exactly when one of the merged automaton, with the same mark
-pub steps-alike : (m : Model) → Lawful m → (s t : State) → Shaped m s → Shaped m t → (a : ℕ) → a ≤ m .actions → (b : Bool)
+pub steps-alike : (m : Model) → Lawful m → (s t : State) → row21 m s ≡ false → row22 m s ≡ false → row21 m t ≡ false → row22 m t ≡ false → (a : ℕ) → a ≤ m .actions → (b : Bool)
     → Step m s a t b ↔ Step (linear m) (beside s) a (beside t) b
-steps-alike m lawful s t g h a l b = (there, back)
+unfolding beside
+steps-alike m lawful s t p q p' q' a l b = (there, back)
   where
     marked-by : {c : Bool} (k : Model) (u w : State) → b ≡ c → Step k u a w c → Step k u a w b
     marked-by k u w e q = rw e q
 
+    g : Shaped m s
+    g = shaped m s p q
+
+    h : Shaped m t
+    h = shaped m t p' q'
+
     there : Step m s a t b → Step (linear m) (beside s) a (beside t) b
     there q = marked-by (linear m) (beside s) (beside t) (q .marked ∙ sym (marks-same m lawful a l))
-        (holds-step (linear m) (linear-ordered m) (beside s) a (beside t) (step-same m lawful s t g h a l ∙ step-holds m (lawful .tree .in-order) s a t q))
+        (holds-step (linear m) (linear-ordered m) (beside s) a (beside t) (q .ended) (step-same m lawful s t g h a l ∙ step-holds m (lawful .tree .in-order) s a t q))
 
     back : Step (linear m) (beside s) a (beside t) b → Step m s a t b
     back q = marked-by m s t (q .marked ∙ marks-same m lawful a l)
-        (holds-step m (lawful .tree .in-order) s a t (sym (step-same m lawful s t g h a l) ∙ step-holds (linear m) (linear-ordered m) (beside s) a (beside t) q))
+        (holds-step m (lawful .tree .in-order) s a t (q .ended) (sym (step-same m lawful s t g h a l) ∙ step-holds (linear m) (linear-ordered m) (beside s) a (beside t) q))
 
 -- an environment step likewise, the pointers kept
-pub environments-alike : (m : Model) → Lawful m → (s : State) (values : List ℤ) → Shaped m s → Shaped m (moved s values)
+pub environments-alike : (m : Model) → Lawful m → (s : State) (values : List ℤ) → row21 m s ≡ false → row22 m s ≡ false → row21 m (changed s values) ≡ false
     → Environment m s values ↔ Environment (linear m) (beside s) (values ++ map pos (s .locations))
 unfolding beside
-environments-alike m lawful s values g h = (
-  λ q. settled-environment (linear m) (linear-ordered m) (beside s) (values ++ map pos (s .locations)) (settled-same m lawful s (moved s values) g h ∙ environment-settled m (lawful .tree .in-order) s values q),
-  λ q. settled-environment m (lawful .tree .in-order) s values (sym (settled-same m lawful s (moved s values) g h) ∙ environment-settled (linear m) (linear-ordered m) (beside s) (values ++ map pos (s .locations)) q),
+environments-alike m lawful s values p q p' = (
+  λ e. settled-environment (linear m) (linear-ordered m) (beside s) (values ++ map pos (s .locations)) (settled-same m lawful s (changed s values) g h ∙ environment-settled m (lawful .tree .in-order) s values e),
+  λ e. settled-environment m (lawful .tree .in-order) s values (sym (settled-same m lawful s (changed s values) g h) ∙ environment-settled (linear m) (linear-ordered m) (beside s) (values ++ map pos (s .locations)) e),
 )
+  where
+    g : Shaped m s
+    g = shaped m s p q
+
+    h : Shaped m (changed s values)
+    h = shaped m (changed s values) p' (unfold row22 in q)

@@ -8,7 +8,7 @@ use Rattle.model.specs.Predicate as P
 use Rattle.model.specs.Predicate.{Pred, Preds, Expr, Word, words, wordsAll, wordsOf, operands, all, any, negate, imp, eq, le, more, num, old, new, add, sub, mul, choose, allOf, anyOf, notWord, impWord, eqWord, leWord, numWord, oldWord, newWord, addWord, subWord, mulWord, ifWord, stray}
 use Rattle.model.specs.Basic.{onSome}
 use Rattle.model.specs.Composition.{Tree, Node, nodes, par, syn, leaf, parNode, synNode, leafNode, strayNode}
-use Rattle.model.specs.Parse.{Item, predicate, expression, Stack, takePred, takeExpr, takePreds, push, stack, solePred, readPred, takeTree, pushNode, treeStack, soleTree, readTree}
+use Rattle.model.specs.Parse.{Item, predicate, expression, Stack, popPred, popExpr, popPreds, push, stack, solePred, readPred, popTree, pushNode, treeStack, soleTree, readTree}
 
 -- an option has one value
 pub none-some : {A : Type 0} (a : A) → none ≡ some a → ⊥
@@ -22,14 +22,14 @@ abbrev on-stack : Preds → Stack → Stack
 on-stack P.none s = s
 on-stack (more p ps) s = predicate p ∷ on-stack ps s
 
-take-them : (ps : Preds) (s : Stack) (f : Preds → Stack → Option Stack) → takePreds (operands ps) (on-stack ps s) f ≡ f ps s
-unfolding takePreds operands takePred
+take-them : (ps : Preds) (s : Stack) (f : Preds → Stack → Option Stack) → popPreds (operands ps) (on-stack ps s) f ≡ f ps s
+unfolding popPreds operands popPred
 take-them P.none s f = refl
 take-them (more p ps) s f = take-them ps s (λ qs t. f (more p qs) t)
 
 -- what is written is read
 mutual
-  unfolding stack words wordsAll wordsOf push onSome takePred takeExpr
+  unfolding stack words wordsAll wordsOf push onSome popPred popExpr
 
   read-p : (p : Pred) (ws : List Word) (s : Stack) → stack ws ≡ some s → stack (words p ++ ws) ≡ some (predicate p ∷ s)
   read-p (all ps) ws s e = rw (read-ps ps ws s e) (take-them ps s (λ qs t. some (predicate (all qs) ∷ t)))
@@ -63,8 +63,8 @@ flat [] = []
 flat (predicate p ∷ s) = words p ++ flat s
 flat (expression x ∷ s) = wordsOf x ++ flat s
 
-take-ps-inv : (k : ℕ) (s t : Stack) (f : Preds → Stack → Option Stack) → takePreds k s f ≡ some t → (ps : Preds) × (u : Stack) × (k ≡ operands ps) × (flat s ≡ wordsAll ps ++ flat u) × (f ps u ≡ some t)
-unfolding takePreds operands wordsAll takePred
+take-ps-inv : (k : ℕ) (s t : Stack) (f : Preds → Stack → Option Stack) → popPreds k s f ≡ some t → (ps : Preds) × (u : Stack) × (k ≡ operands ps) × (flat s ≡ wordsAll ps ++ flat u) × (f ps u ≡ some t)
+unfolding popPreds operands wordsAll popPred
 take-ps-inv zero s t f e = (P.none, s, refl, refl, e)
 take-ps-inv (suc k) [] t f e = absurd (none-some t e)
 take-ps-inv (suc k) (expression x ∷ s) t f e = absurd (none-some t e)
@@ -72,8 +72,8 @@ take-ps-inv (suc k) (predicate p ∷ s) t f e =
     let b = take-ps-inv k s t (λ ps s₂. f (more p ps) s₂) e in
     (more p (b .0), b .1, ap suc (b .2), ap (λ l. words p ++ l) (b .3) ∙ sym (append-assoc (words p) (wordsAll (b .0)) (flat (b .1))), b .4)
 
-two-x : (w : Word) (s t : Stack) (f : Expr → Expr → Item) → ((a b : Expr) (u : Stack) → flat (f a b ∷ u) ≡ w ∷ wordsOf a ++ wordsOf b ++ flat u) → takeExpr s (λ a s₁. takeExpr s₁ (λ b s₂. some (f a b ∷ s₂))) ≡ some t → w ∷ flat s ≡ flat t
-unfolding takeExpr
+two-x : (w : Word) (s t : Stack) (f : Expr → Expr → Item) → ((a b : Expr) (u : Stack) → flat (f a b ∷ u) ≡ w ∷ wordsOf a ++ wordsOf b ++ flat u) → popExpr s (λ a s₁. popExpr s₁ (λ b s₂. some (f a b ∷ s₂))) ≡ some t → w ∷ flat s ≡ flat t
+unfolding popExpr
 two-x w [] t f h e = absurd (none-some t e)
 two-x w (predicate p ∷ s) t f h e = absurd (none-some t e)
 two-x w (expression a ∷ []) t f h e = absurd (none-some t e)
@@ -81,7 +81,7 @@ two-x w (expression a ∷ predicate p ∷ s) t f h e = absurd (none-some t e)
 two-x w (expression a ∷ expression b ∷ s) t f h e = rw (← got _ _ e, h a b s, append-assoc)
 
 push-flat : (w : Word) (s t : Stack) → push w s ≡ some t → w ∷ flat s ≡ flat t
-unfolding push words wordsOf takePred takeExpr
+unfolding push words wordsOf popPred popExpr
 push-flat (allOf k) s t e =
     let a = take-ps-inv k s t (λ ps s₁. some (predicate (all ps) ∷ s₁)) e in
     ap (λ l. allOf k ∷ l) (a .3) ∙ ap (λ n. allOf n ∷ wordsAll (a .0) ++ flat (a .1)) (a .2) ∙ ap flat (got _ _ (a .4))
@@ -141,7 +141,7 @@ words-of-read ws p e = go (stack ws) refl e
 
 -- the same of trees
 read-tree-in : (c : Tree) (ns : List Node) (s : List Tree) → treeStack ns ≡ some s → treeStack (nodes c ++ ns) ≡ some (c ∷ s)
-unfolding treeStack nodes onSome pushNode takeTree
+unfolding treeStack nodes onSome pushNode popTree
 read-tree-in (par c d) ns s e = rw (append-assoc (nodes c) (nodes d) ns, read-tree-in c (nodes d ++ ns) (d ∷ s) (read-tree-in d ns s e))
 read-tree-in (syn l c) ns s e = rw (read-tree-in c ns s e)
 read-tree-in (leaf k) ns s e = rw e
@@ -155,7 +155,7 @@ tree-flat [] = []
 tree-flat (c ∷ s) = nodes c ++ tree-flat s
 
 tree-push-flat : (n : Node) (s t : List Tree) → pushNode n s ≡ some t → n ∷ tree-flat s ≡ tree-flat t
-unfolding pushNode takeTree nodes
+unfolding pushNode popTree nodes
 tree-push-flat parNode [] t e = absurd (none-some t e)
 tree-push-flat parNode (c ∷ []) t e = absurd (none-some t e)
 tree-push-flat parNode (c ∷ d ∷ s) t e = rw (← got _ _ e, append-assoc (nodes c) (nodes d) (tree-flat s))

@@ -7,7 +7,7 @@ use lib.ListN.{length, length-append, length-map}
 use Rattle.model.specs.Basic.{sum}
 use Rattle.model.specs.Bounds.{maxLocations, tableWords}
 use Rattle.model.specs.Predicate.{Pred, Range, words, nodeCount}
-use Rattle.model.specs.Composition.{Node, nodes, treeNodes, parNode, synNode, leafNode, strayNode}
+use Rattle.model.specs.Composition.{Node, nodes, treeSize, parNode, synNode, leafNode, strayNode}
 use Rattle.model.specs.Model.{Location, Edge, Automaton, Model, edgeTotal}
 use Rattle.model.specs.Lines.{Entry, formatLine, actionsLine, variablesLine, variableLine, automataLine, syncLine, locationsLine, initLine, invLine, edgesLine, edgeLine, composeLine, locationLines, automatonLines, lines}
 use Rattle.model.specs.Lawful.{Lawful, locationNodes, automatonNodes, nodeTotal}
@@ -81,7 +81,7 @@ size-nodes [] = omega arith
 size-nodes (n ∷ ns) = omega (arith, length-append (nodeWords n) (flatMap nodeWords ns), size-node n, size-nodes ns)
 
 lines-fit : (m : Model) → Lawful m → size (lines m) ≤ tableWords
-unfolding lines lineWords treeNodes
+unfolding lines lineWords treeSize
 lines-fit m w =
     let automataPart = flatMap automatonLines (m .automata) in
     let tail = automataPart ++ composeLine (m .tree) ∷ [] in

@@ -8,7 +8,7 @@ use lib.Dec.{eqb}
 use Rattle.model.specs.Composition.{Tree, par, syn, leaf}
 use Rattle.model.specs.Model.{Model, Edge, automaton, inSet}
 use Rattle.model.specs.Rules.{Taker}
-use Rattle.model.specs.Linear.{under, pairs, sides, alone, moves}
+use Rattle.model.specs.Moves.{under, pairs, sides, alone, moves}
 use Rattle.model.specs.Judge.{isTaker}
 use Rattle.model.proofs.Tests.{eq-of, of-eq, exists-elim}
 use Rattle.model.proofs.Lists.{keep-in, keep-out}

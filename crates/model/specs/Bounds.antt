@@ -1,4 +1,4 @@
--- The format's numbers, each named once. Every row, limit and table position cites them.
+-- The format's limits and ranges, each named once, for the rows, the table and the code to cite.
 use Prim.Native.Nat.{ℕ}
 use lib.IntN.{ℤ, pos, negsuc}
 

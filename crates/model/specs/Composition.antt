@@ -27,5 +27,5 @@ nodes (par c d) = parNode ∷ nodes c ++ nodes d
 nodes (syn list c) = synNode list ∷ nodes c
 nodes (leaf k) = leafNode k ∷ []
 
-unfoldable pub treeNodes : Tree → ℕ
-treeNodes c = length (nodes c)
+unfoldable pub treeSize : Tree → ℕ
+treeSize c = length (nodes c)

@@ -11,8 +11,8 @@ use Rattle.model.specs.Basic.{eqZ, between, each, every, exists}
 use Rattle.model.specs.Predicate.{Range, range, holds}
 use Rattle.model.specs.Model.{Model, automaton, location, inSet}
 use Rattle.model.specs.Table.{Opened, unopened, opened, openTable}
-use Rattle.model.specs.Rules.{Phase, start, running, State, reached, at, val, holdsIn, Taker, mentioned, moved}
-use Rattle.model.specs.Linear.{moves}
+use Rattle.model.specs.Rules.{Phase, start, running, State, reached, at, val, holdsIn, Taker, mentioned, changed}
+use Rattle.model.specs.Moves.{moves}
 
 -- the step judge says `marked` (yes, with its mark), `no` or `refused`; the environment judge `yes`, `no` or `refused`
 pub data Answer : Type 0 where
@@ -20,26 +20,29 @@ pub data Answer : Type 0 where
   yes no : Answer
   refused : ℕ → Answer
 
--- Row 20: the phase is neither 0 nor 1.
+-- Row 20: what the phases' numbers are.
 unfoldable pub phaseOf : ℕ → Option Phase
 phaseOf p = elim (eqb p 0) [ true ↦ some start | false ↦ elim (eqb p 1) [ true ↦ some running | false ↦ none ] ]
 
--- Row 21: a list of locations is not N long, or one of values not V.
-unfoldable pub row21 : Model → State → Bool
-row21 m s = not (eqb (length (s .locations)) (length (m .automata)) && eqb (length (s .values)) (length (m .variables)))
+-- Row 21: one location for each automaton, one value for each variable?
+unfoldable pub hasValues : Model → List ℤ → Bool
+hasValues m values = eqb (length values) (length (m .variables))
 
--- Row 22: a location is not in its automaton.
+unfoldable pub row21 : Model → State → Bool
+row21 m s = not (eqb (length (s .locations)) (length (m .automata)) && hasValues m (s .values))
+
+-- Row 22: does each automaton have the location?
 unfoldable pub row22 : Model → State → Bool
 row22 m s = not (each (length (m .automata)) (λ k. ltb (at s k) (length (automaton m k .locations))))
 
--- Row 23: a value is outside its range.
+-- Row 23: does each variable's range have the value?
 unfoldable pub rangeOf : Model → ℕ → Range
 rangeOf m k = getD (m .variables) k (range (pos 0) (pos 0))
 
 unfoldable pub row23 : Model → State → Bool
 row23 m s = not (each (length (m .variables)) (λ k. between (rangeOf m k .low) (rangeOf m k .high) (val s k)))
 
--- Row 24: the action is above A.
+-- Row 24: does the model have the action?
 unfoldable pub row24 : Model → ℕ → Bool
 row24 m a = ltb (m .actions) a
 
@@ -82,20 +85,23 @@ unfoldable pub stepHolds : Model → State → ℕ → State → Bool
 stepHolds m s a t = settled m s t && exists (fits m s t) (moves m a (m .tree))
 
 -- Rows 21 to 24, then the rules. (The laws step-by-rules and environment-by-rules.)
-unfoldable pub judgeStep : Model → State → ℕ → State → Answer
-judgeStep m s a t =
+unfoldable pub judgeTo : Model → State → ℕ → State → Answer
+judgeTo m s a t =
     cond (row21 m s || row21 m t) (refused 21)
     (cond (row22 m s || row22 m t) (refused 22)
     (cond (row23 m s || row23 m t) (refused 23)
     (cond (row24 m a) (refused 24)
     (cond (stepHolds m s a t) (marked (inSet m a (m .tree))) no))))
 
+abbrev pub judgeStep : Model → State → ℕ → List ℕ → List ℤ → Answer
+judgeStep m s a locations values = judgeTo m s a (reached locations values)
+
 unfoldable pub judgeEnvironment : Model → State → List ℤ → Answer
 judgeEnvironment m s values =
-    cond (row21 m s || row21 m (moved s values)) (refused 21)
+    cond (row21 m s || row21 m (changed s values)) (refused 21)
     (cond (row22 m s) (refused 22)
-    (cond (row23 m s || row23 m (moved s values)) (refused 23)
-    (cond (settled m s (moved s values)) yes no)))
+    (cond (row23 m s || row23 m (changed s values)) (refused 23)
+    (cond (settled m s (changed s values)) yes no)))
 
 -- The two calls over a table: rows 18, 19 and 20 come first.
 unfoldable pub judgeAt : List ℕ → (phase : ℕ) → List ℕ → List ℤ → (Model → State → Answer) → Answer
@@ -111,7 +117,7 @@ judgeAt table phase locations values judge =
 
 unfoldable pub stepAnswer : List ℕ → (phase : ℕ) → List ℕ → List ℤ → (action : ℕ) → List ℕ → List ℤ → Answer
 stepAnswer table phase locations values action newLocations newValues =
-    judgeAt table phase locations values (λ m s. judgeStep m s action (reached newLocations newValues))
+    judgeAt table phase locations values (λ m s. judgeStep m s action newLocations newValues)
 
 unfoldable pub environmentAnswer : List ℕ → (phase : ℕ) → List ℕ → List ℤ → List ℤ → Answer
 environmentAnswer table phase locations values newValues =
@@ -134,6 +140,6 @@ pub record StepPasses (m : Model) (s : State) (a : ℕ) (t : State) : Type 0 whe
   pub no-24 : row24 m a ≡ false
 
 pub record EnvironmentPasses (m : Model) (s : State) (values : List ℤ) : Type 0 where
-  pub no-21 : (row21 m s || row21 m (moved s values)) ≡ false
+  pub no-21 : (row21 m s || row21 m (changed s values)) ≡ false
   pub no-22 : row22 m s ≡ false
-  pub no-23 : (row23 m s || row23 m (moved s values)) ≡ false
+  pub no-23 : (row23 m s || row23 m (changed s values)) ≡ false

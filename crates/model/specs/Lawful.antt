@@ -8,7 +8,7 @@ use lib.Signed.{leZ}
 use Rattle.model.specs.Basic.{between, every, sum, countUp}
 use Rattle.model.specs.Bounds.{maxActions, maxVariables, maxAutomata, maxLocations, maxEdges, maxDepth, maxNodes, maxTreeNodes, leastNumber, greatestNumber}
 use Rattle.model.specs.Predicate.{Pred, Range, words, depth, allStay, namesOutside, namesNew, nodeCount}
-use Rattle.model.specs.Composition.{Tree, leaves, treeNodes}
+use Rattle.model.specs.Composition.{Tree, leaves, treeSize}
 use Rattle.model.specs.Model.{Location, Edge, Automaton, Model, edgeTotal}
 use Rattle.model.specs.Limits.{inRange, rises, treeRises, listsFilled}
 
@@ -62,7 +62,7 @@ pub record LawfulTree (A N : ℕ) (c : Tree) : Type 0 where
   pub lists : treeRises A c ≡ true
   pub filled : listsFilled c ≡ true
   pub in-order : leaves c ≡ countUp 0 N
-  pub size : treeNodes c ≤ maxTreeNodes
+  pub size : treeSize c ≤ maxTreeNodes
 
 -- rows 3, 11 and 15
 pub record Lawful (m : Model) : Type 0 where

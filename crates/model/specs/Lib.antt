@@ -9,6 +9,7 @@ pub mod Limits
 pub mod Lawful
 pub mod Table
 pub mod Rules
-pub mod Linear
+pub mod Moves
 pub mod Judge
+pub mod Linear
 pub mod Runs

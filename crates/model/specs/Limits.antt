@@ -1,4 +1,5 @@
--- "Refused", rows 3 to 16 as conditions on what a line says. The text's rows cite them, and a table must meet them (row 19).
+-- "Refused": what the rows up to 16 ask of what a line says. The text's rows cite these conditions, and so does row 19, since a
+-- table says the same things. (Rows 2 and 6 are about spelling alone; the conditions of 7 and 8 stand in Predicate.)
 use Prim.Native.Nat.{ℕ, _+_}
 use mathlib.Core.Bool.{Bool, true, false, not, _&&_, _||_}
 use mathlib.Core.List.{List, [], _∷_}
@@ -10,9 +11,9 @@ use lib.Dec.{eqb, leb, ltb}
 use Rattle.model.specs.Basic.{between, every, same, countUp, lacks}
 use Rattle.model.specs.Bounds.{maxActions, maxVariables, maxAutomata, maxLocations, maxEdges, maxOperands, maxDepth, maxNodes, maxTreeNodes, lastVariable, lastLocation, lastAutomaton, leastNumber, greatestNumber}
 use Rattle.model.specs.Predicate.{Pred, Word, Range, words, depth, allStay, namesOutside, namesNew, allOf, anyOf, notWord, impWord, eqWord, leWord, numWord, oldWord, newWord, addWord, subWord, mulWord, ifWord, stray}
-use Rattle.model.specs.Composition.{Tree, par, syn, leaf, leaves, treeNodes}
+use Rattle.model.specs.Composition.{Tree, par, syn, leaf, leaves, treeSize}
 use Rattle.model.specs.Model.{Edge, Model, edgeTotal}
-use Rattle.model.specs.Lines.{Entry, formatLine, actionsLine, variablesLine, variableLine, automataLine, syncLine, locationsLine, initLine, invLine, edgesLine, edgeLine, composeLine, lines, Reading, atFirst, taken, lastOf}
+use Rattle.model.specs.Lines.{Entry, formatLine, actionsLine, variablesLine, variableLine, automataLine, syncLine, locationsLine, initLine, invLine, edgesLine, edgeLine, composeLine, lines, Reading, atFirst, noted, lastOf}
 
 -- Row 3: every number is in its range.
 unfoldable pub inRange : Word → Bool
@@ -51,7 +52,7 @@ numbersInRange (edgeLine e) =
     leb (e .from) lastLocation && (leb (e .action) maxActions && (leb (e .to) lastLocation && every inRange (words (e .update))))
 numbersInRange (composeLine c) = treeInRange c
 
--- Row 4: LO above HI.
+-- Row 4: the range is empty.
 unfoldable pub isCrossed : Range → Bool
 isCrossed x = not (leZ (x .low) (x .high))
 
@@ -70,8 +71,8 @@ treeRises A (leaf k) = true
 unfoldable pub isTooDeep : Pred → Bool
 isTooDeep p = ltb maxDepth (depth p)
 
-unfoldable pub leavesSpan : List Range → Pred → Bool
-leavesSpan declared p = not (allStay declared p)
+unfoldable pub exceedsSpan : List Range → Pred → Bool
+exceedsSpan declared p = not (allStay declared p)
 
 unfoldable pub passesNodes : ℕ → List Word → Bool
 passesNodes before ws = ltb maxNodes (before + length ws)
@@ -83,7 +84,7 @@ variableCount r = length (r .model .variables)
 unfoldable pub locationCount : Reading → ℕ
 locationCount r = length (lastOf (r .model .automata) .locations)
 
--- Row 12: an edge's location or action is not in the model.
+-- Row 12: an edge starts, ends or acts outside the model.
 unfoldable pub isAstray : Reading → (from action to : ℕ) → Bool
 isAstray r from action to = leb (locationCount r) from || (ltb (r .model .actions) action || leb (locationCount r) to)
 
@@ -94,14 +95,14 @@ listsFilled (syn [] c) = false
 listsFilled (syn (k ∷ ks) c) = listsFilled c
 listsFilled (leaf k) = true
 
--- Row 14: the leaves, left to right, are not 0 to N-1. Row 16: the tree is too large.
+-- Row 14: each automaton is to stand in the tree once, in order. Row 16: how many nodes it may have.
 unfoldable pub isDisordered : ℕ → Tree → Bool
 isDisordered N c = not (same (leaves c) (countUp 0 N))
 
 unfoldable pub isTooLarge : ℕ → Bool
 isTooLarge nodes = ltb maxTreeNodes nodes
 
--- Row 15: E more edges take the total past the limit.
+-- Row 15: are E more edges too many?
 unfoldable pub passesEdges : Reading → ℕ → Bool
 passesEdges r E = ltb maxEdges (edgeTotal (r .model .automata) + E)
 
@@ -114,46 +115,46 @@ broken row false rest = rest
 unfoldable pub predFault : Reading → Pred → Option ℕ → Option ℕ
 predFault r p rest =
     broken 9 (isTooDeep p)
-    (broken 10 (leavesSpan (r .model .variables) p)
+    (broken 10 (exceedsSpan (r .model .variables) p)
     (broken 11 (passesNodes (r .nodes) (words p))
     rest))
 
-unfoldable pub stateFault : Reading → Pred → Option ℕ
-stateFault r p =
+unfoldable pub locationFault : Reading → Pred → Option ℕ
+locationFault r p =
     broken 7 (namesOutside (variableCount r) (words p))
     (broken 8 (namesNew (words p))
     (predFault r p none))
 
-unfoldable pub saidFault : Reading → Entry → Option ℕ
-saidFault r formatLine = none
-saidFault r (actionsLine n) = none
-saidFault r (variablesLine n) = none
-saidFault r (variableLine x) = broken 4 (isCrossed x) none
-saidFault r (automataLine n) = none
-saidFault r (syncLine list) = broken 5 (not (rises (r .model .actions) 0 list)) none
-saidFault r (locationsLine n) = none
-saidFault r (initLine p) = stateFault r p
-saidFault r (invLine p) = stateFault r p
-saidFault r (edgesLine n) = broken 15 (passesEdges r n) none
-saidFault r (edgeLine e) =
+unfoldable pub contentFault : Reading → Entry → Option ℕ
+contentFault r formatLine = none
+contentFault r (actionsLine n) = none
+contentFault r (variablesLine n) = none
+contentFault r (variableLine x) = broken 4 (isCrossed x) none
+contentFault r (automataLine n) = none
+contentFault r (syncLine list) = broken 5 (not (rises (r .model .actions) 0 list)) none
+contentFault r (locationsLine n) = none
+contentFault r (initLine p) = locationFault r p
+contentFault r (invLine p) = locationFault r p
+contentFault r (edgesLine n) = broken 15 (passesEdges r n) none
+contentFault r (edgeLine e) =
     broken 7 (namesOutside (variableCount r) (words (e .update)))
     (predFault r (e .update)
     (broken 12 (isAstray r (e .from) (e .action) (e .to))
     none))
-saidFault r (composeLine c) =
+contentFault r (composeLine c) =
     broken 5 (not (treeRises (r .model .actions) c))
     (broken 13 (not (listsFilled c))
     (broken 14 (isDisordered (length (r .model .automata)) c)
-    (broken 16 (isTooLarge (treeNodes c))
+    (broken 16 (isTooLarge (treeSize c))
     none)))
 
 unfoldable pub faultOf : Reading → Entry → Option ℕ
-faultOf r e = broken 3 (not (numbersInRange e)) (saidFault r e)
+faultOf r e = broken 3 (not (numbersInRange e)) (contentFault r e)
 
 -- no line, in file order, breaks a row
 unfoldable pub withinLimits : Reading → List Entry → Bool
 withinLimits r [] = true
-withinLimits r (e ∷ es) = lacks (faultOf r e) && withinLimits (taken r e) es
+withinLimits r (e ∷ es) = lacks (faultOf r e) && withinLimits (noted r e) es
 
 -- what an accepted model meets. (Its text then has at most 65,536 bytes: text-fits.)
 unfoldable pub limits : Model → Bool

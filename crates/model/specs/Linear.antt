@@ -1,58 +1,20 @@
--- "The merged text": Definition 4 of source document 003, the linearization, with the format's two differences: a pointer's
--- range stands for the membership conjunct, and equal edges stay two.
-use Prim.Native.Nat.{ℕ, suc, pred, _+_, _*_}
-use mathlib.Core.Bool.{Bool, true, false, _&&_}
+-- "The merged text": Definition 4 of source document 003, the linearization. The format departs from it twice: the pointers'
+-- ranges say what its second conjunct of `init` says, and the edges are a list, in which an edge may stand again.
+use Prim.Native.Nat.{ℕ, suc, pred, _+_}
+use mathlib.Core.Bool.{Bool}
 use mathlib.Core.List.{List, [], _∷_, _++_, map, flatMap}
 use mathlib.Core.Option.{Option, none}
 use lib.IntN.{ℤ, pos}
 use lib.ListN.{length}
-use lib.Dec.{eqb, ltb}
+use lib.Dec.{ltb}
 use Rattle.model.specs.Basic.{exists, keep, sum, countUp}
 use Rattle.model.specs.Bounds.{maxVariables, maxEdges, maxNodes}
 use Rattle.model.specs.Predicate.{Pred, all, imp, eq, num, old, new, preds, Range, range, nodeCount}
-use Rattle.model.specs.Composition.{Tree, par, syn, leaf}
-use Rattle.model.specs.Model.{Model, Location, Edge, Automaton, automaton, inSet}
+use Rattle.model.specs.Composition.{leaf}
+use Rattle.model.specs.Model.{Model, Location, Edge, Automaton, inSet}
 use Rattle.model.specs.Limits.{isTooDeep, broken}
 use Rattle.model.specs.Rules.{Taker}
-
--- The edges: rules 17 to 19 and 21 of Table 3, each transition by its takers.
-
--- each of the left with each of the right, the left slowest
-unfoldable pub pairs : List (List Taker) → List (List Taker) → List (List Taker)
-pairs [] ys = []
-pairs (x ∷ xs) ys = map (λ y. x ++ y) ys ++ pairs xs ys
-
--- by whether the action is in the left's set, and in the right's: in both (rule 19), or one side alone, if the other's set
--- lacks it (rule 18), the left's before the right's
-unfoldable pub sides : Bool → Bool → List (List Taker) → List (List Taker) → List (List Taker)
-sides true true left right = pairs left right
-sides true false left right = left
-sides false true left right = right
-sides false false left right = left ++ right
-
--- an automaton's edges under an action, in file order
-unfoldable pub under : ℕ → List Edge → List Edge
-under a es = keep (λ e. eqb (e .action) a) es
-
-abbrev pub alone : ℕ → Edge → List Taker
-alone k e = record { automaton = k; edge = e } ∷ []
-
-unfoldable pub moves : Model → ℕ → Tree → List (List Taker)
-moves m a (par c d) = sides (inSet m a c) (inSet m a d) (moves m a c) (moves m a d)
-moves m a (syn list c) = moves m a c
-moves m a (leaf k) = map (alone k) (under a (automaton m k .edges))
-
--- how many they are, without listing them
-unfoldable pub sidesCount : Bool → Bool → ℕ → ℕ → ℕ
-sidesCount true true left right = left * right
-sidesCount true false left right = left
-sidesCount false true left right = right
-sidesCount false false left right = left + right
-
-unfoldable pub moveCount : Model → ℕ → Tree → ℕ
-moveCount m a (par c d) = sidesCount (inSet m a c) (inSet m a d) (moveCount m a c) (moveCount m a d)
-moveCount m a (syn list c) = moveCount m a c
-moveCount m a (leaf k) = length (under a (automaton m k .edges))
+use Rattle.model.specs.Moves.{moves, moveCount}
 
 -- a pointer's values are its automaton's locations
 unfoldable pub pointerRange : Automaton → Range
@@ -90,7 +52,7 @@ module _ (m : Model) where
   mergedEdge a takers =
       record { from = 0; action = a; to = 0; update = all (preds (map (λ x. x .edge .update) takers ++ pointerMoves takers)) }
 
-  -- by action, from 0 up
+  -- the silent action's edges first, those of action A last
   unfoldable pub mergedEdges : List Edge
   mergedEdges = flatMap (λ a. map (mergedEdge a) (moves m a (m .tree))) (countUp 0 (suc (m .actions)))
 

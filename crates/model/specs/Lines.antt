@@ -76,7 +76,8 @@ thenDue (edgesLine n) = repeat n (edge ∷ [])
 thenDue (edgeLine e) = []
 thenDue (composeLine c) = []
 
--- what has been read: the model so far, the init whose inv is due next, and the nodes of all predicates so far
+-- what has been read: the model so far, the latest predicate (at an inv line that is the init before it), and the nodes of all
+-- predicates so far
 pub record Reading : Type 0 where
   pub model : Model
   pub init : Pred
@@ -112,17 +113,17 @@ unfoldable pub withPred : Reading → Pred → Reading
 withPred r p = record { model = r .model; init = p; nodes = r .nodes + nodeCount p }
 
 -- what a line adds
-unfoldable pub taken : Reading → Entry → Reading
-taken r formatLine = r
-taken r (actionsLine n) = withModel r n (r .model .variables) (r .model .automata) (r .model .tree)
-taken r (variablesLine n) = r
-taken r (variableLine x) = withModel r (r .model .actions) (r .model .variables ++ x ∷ []) (r .model .automata) (r .model .tree)
-taken r (automataLine n) = r
-taken r (syncLine list) = withAutomata r (r .model .automata ++ record { sync = list; locations = []; edges = [] } ∷ [])
-taken r (locationsLine n) = r
-taken r (initLine p) = withPred r p
-taken r (invLine p) =
+unfoldable pub noted : Reading → Entry → Reading
+noted r formatLine = r
+noted r (actionsLine n) = withModel r n (r .model .variables) (r .model .automata) (r .model .tree)
+noted r (variablesLine n) = r
+noted r (variableLine x) = withModel r (r .model .actions) (r .model .variables ++ x ∷ []) (r .model .automata) (r .model .tree)
+noted r (automataLine n) = r
+noted r (syncLine list) = withAutomata r (r .model .automata ++ record { sync = list; locations = []; edges = [] } ∷ [])
+noted r (locationsLine n) = r
+noted r (initLine p) = withPred r p
+noted r (invLine p) =
     withAutomata (withPred r p) (onLast (addLocation (record { init = r .init; inv = p })) (r .model .automata))
-taken r (edgesLine n) = r
-taken r (edgeLine e) = withAutomata (withPred r (e .update)) (onLast (addEdge e) (r .model .automata))
-taken r (composeLine c) = withModel r (r .model .actions) (r .model .variables) (r .model .automata) c
+noted r (edgesLine n) = r
+noted r (edgeLine e) = withAutomata (withPred r (e .update)) (onLast (addEdge e) (r .model .automata))
+noted r (composeLine c) = withModel r (r .model .actions) (r .model .variables) (r .model .automata) c

@@ -1,4 +1,4 @@
--- "The sheet text": what a sheet says. V, N, L and E are the lengths of the lists; items are numbered from 0 in file order.
+-- "The sheet text": what a sheet says. An item's number is its place in its list, and V, N, L and E are the lists' lengths.
 use Prim.Native.Nat.{ℕ, _+_}
 use mathlib.Core.Bool.{Bool, _||_}
 use mathlib.Core.List.{List, [], _∷_}
@@ -24,7 +24,7 @@ pub record Automaton : Type 0 where
   pub locations : List Location
   pub edges : List Edge
 
--- actions 1 to `actions` can be shared; action 0 is the silent one
+-- `actions` is A, the highest action; 0 is the silent action, which no set holds
 pub record Model : Type 0 where
   pub actions : ℕ
   pub variables : List Range
@@ -44,7 +44,7 @@ automaton m k = getD (m .automata) k nobody
 abbrev pub location : Model → ℕ → ℕ → Location
 location m k j = getD (automaton m k .locations) j nowhere
 
--- "Steps": action a is in the synchronising set of a composition: for `par` the union of both sides, for `syn` the list added
+-- "Steps": is action a in the synchronising set of a composition?
 unfoldable pub inSet : Model → ℕ → Tree → Bool
 inSet m a (par c d) = inSet m a c || inSet m a d
 inSet m a (syn list c) = member a list || inSet m a c

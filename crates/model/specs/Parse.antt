@@ -16,34 +16,34 @@ abbrev pub Stack : Type 0
 Stack = List Item
 
 -- take one predicate, one expression, k predicates off the stack and go on with them
-unfoldable pub takePred : Stack → (Pred → Stack → Option Stack) → Option Stack
-takePred [] next = none
-takePred (predicate p ∷ s) next = next p s
-takePred (expression x ∷ s) next = none
+unfoldable pub popPred : Stack → (Pred → Stack → Option Stack) → Option Stack
+popPred [] next = none
+popPred (predicate p ∷ s) next = next p s
+popPred (expression x ∷ s) next = none
 
-unfoldable pub takeExpr : Stack → (Expr → Stack → Option Stack) → Option Stack
-takeExpr [] next = none
-takeExpr (predicate p ∷ s) next = none
-takeExpr (expression x ∷ s) next = next x s
+unfoldable pub popExpr : Stack → (Expr → Stack → Option Stack) → Option Stack
+popExpr [] next = none
+popExpr (predicate p ∷ s) next = none
+popExpr (expression x ∷ s) next = next x s
 
-unfoldable pub takePreds : ℕ → Stack → (Preds → Stack → Option Stack) → Option Stack
-takePreds zero s next = next P.none s
-takePreds (suc k) s next = takePred s (λ p s₁. takePreds k s₁ (λ ps s₂. next (more p ps) s₂))
+unfoldable pub popPreds : ℕ → Stack → (Preds → Stack → Option Stack) → Option Stack
+popPreds zero s next = next P.none s
+popPreds (suc k) s next = popPred s (λ p s₁. popPreds k s₁ (λ ps s₂. next (more p ps) s₂))
 
 unfoldable pub push : Word → Stack → Option Stack
-push (allOf k) s = takePreds k s (λ ps s₁. some (predicate (all ps) ∷ s₁))
-push (anyOf k) s = takePreds k s (λ ps s₁. some (predicate (any ps) ∷ s₁))
-push notWord s = takePred s (λ p s₁. some (predicate (negate p) ∷ s₁))
-push impWord s = takePred s (λ p s₁. takePred s₁ (λ q s₂. some (predicate (imp p q) ∷ s₂)))
-push eqWord s = takeExpr s (λ x s₁. takeExpr s₁ (λ y s₂. some (predicate (eq x y) ∷ s₂)))
-push leWord s = takeExpr s (λ x s₁. takeExpr s₁ (λ y s₂. some (predicate (le x y) ∷ s₂)))
+push (allOf k) s = popPreds k s (λ ps s₁. some (predicate (all ps) ∷ s₁))
+push (anyOf k) s = popPreds k s (λ ps s₁. some (predicate (any ps) ∷ s₁))
+push notWord s = popPred s (λ p s₁. some (predicate (negate p) ∷ s₁))
+push impWord s = popPred s (λ p s₁. popPred s₁ (λ q s₂. some (predicate (imp p q) ∷ s₂)))
+push eqWord s = popExpr s (λ x s₁. popExpr s₁ (λ y s₂. some (predicate (eq x y) ∷ s₂)))
+push leWord s = popExpr s (λ x s₁. popExpr s₁ (λ y s₂. some (predicate (le x y) ∷ s₂)))
 push (numWord z) s = some (expression (num z) ∷ s)
 push (oldWord k) s = some (expression (old k) ∷ s)
 push (newWord k) s = some (expression (new k) ∷ s)
-push addWord s = takeExpr s (λ x s₁. takeExpr s₁ (λ y s₂. some (expression (add x y) ∷ s₂)))
-push subWord s = takeExpr s (λ x s₁. takeExpr s₁ (λ y s₂. some (expression (sub x y) ∷ s₂)))
-push mulWord s = takeExpr s (λ x s₁. takeExpr s₁ (λ y s₂. some (expression (mul x y) ∷ s₂)))
-push ifWord s = takePred s (λ p s₁. takeExpr s₁ (λ x s₂. takeExpr s₂ (λ y s₃. some (expression (choose p x y) ∷ s₃))))
+push addWord s = popExpr s (λ x s₁. popExpr s₁ (λ y s₂. some (expression (add x y) ∷ s₂)))
+push subWord s = popExpr s (λ x s₁. popExpr s₁ (λ y s₂. some (expression (sub x y) ∷ s₂)))
+push mulWord s = popExpr s (λ x s₁. popExpr s₁ (λ y s₂. some (expression (mul x y) ∷ s₂)))
+push ifWord s = popPred s (λ p s₁. popExpr s₁ (λ x s₂. popExpr s₂ (λ y s₃. some (expression (choose p x y) ∷ s₃))))
 push stray s = none
 
 unfoldable pub stack : List Word → Option Stack
@@ -60,13 +60,13 @@ unfoldable pub readPred : List Word → Option Pred
 readPred ws = onSome solePred (stack ws)
 
 -- the same for trees
-unfoldable pub takeTree : List Tree → (Tree → List Tree → Option (List Tree)) → Option (List Tree)
-takeTree [] next = none
-takeTree (c ∷ s) next = next c s
+unfoldable pub popTree : List Tree → (Tree → List Tree → Option (List Tree)) → Option (List Tree)
+popTree [] next = none
+popTree (c ∷ s) next = next c s
 
 unfoldable pub pushNode : Node → List Tree → Option (List Tree)
-pushNode parNode s = takeTree s (λ c s₁. takeTree s₁ (λ d s₂. some (par c d ∷ s₂)))
-pushNode (synNode list) s = takeTree s (λ c s₁. some (syn list c ∷ s₁))
+pushNode parNode s = popTree s (λ c s₁. popTree s₁ (λ d s₂. some (par c d ∷ s₂)))
+pushNode (synNode list) s = popTree s (λ c s₁. some (syn list c ∷ s₁))
 pushNode (leafNode k) s = some (leaf k ∷ s)
 pushNode strayNode s = none
 

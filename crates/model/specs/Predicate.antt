@@ -149,7 +149,7 @@ namesNew ws = exists (λ w. isNew (named w)) ws
 unfoldable pub mentions : ℕ → Pred → Bool
 mentions k p = exists (λ w. isNewOf k (named w)) (words p)
 
--- a node with no operand has depth 1
+-- how deep the nodes nest; a leaf counts 1
 unfoldable mutual
   pub depth : Pred → ℕ
   depth (all ps) = suc (depthAll ps)
@@ -172,7 +172,7 @@ unfoldable mutual
   depthOf (mul x y) = suc (max (depthOf x) (depthOf y))
   depthOf (choose p x y) = suc (max (depth p) (max (depthOf x) (depthOf y)))
 
--- Row 10: the interval of an expression, from the declared ranges.
+-- Row 10: between which numbers an expression can lie, its variables being anywhere in their ranges.
 pub record Range : Type 0 where
   pub low : ℤ
   pub high : ℤ

@@ -20,7 +20,7 @@ pub record State : Type 0 where
   pub locations : List ℕ
   pub values : List ℤ
 
--- every step ends in phase 1
+-- what a step leads to: the oven runs from then on
 abbrev pub reached : List ℕ → List ℤ → State
 reached locations values = record { phase = running; locations = locations; values = values }
 
@@ -40,13 +40,13 @@ pub record Taker : Type 0 where
   pub automaton : ℕ
   pub edge : Edge
 
--- some taking edge mentions `nK`
+-- is `nK` in the update of one of the edges that are taken?
 unfoldable pub mentioned : ℕ → List Taker → Bool
 mentioned k takers = exists (λ x. mentions k (x .edge .update)) takers
 
 -- from state s to state t under action a
 module _ (m : Model) (s : State) (a : ℕ) (t : State) where
-  -- rule 1: automaton k takes edge e. Its last line, which holds variables to their values, is `frame` of Step below.
+  -- rule 1 without its last premise, for which `frame` of Step below stands: automaton k takes edge e
   pub record Takes (k : ℕ) (e : Edge) : Type 0 where
     pub listed : List·Memᴰ e (automaton m k .edges)
     pub action : e .action ≡ a
@@ -72,8 +72,8 @@ module _ (m : Model) (s t : State) where
     rule-7 : {list : List ℕ} {c : Tree} → Rests c → Rests (syn list c)
 
 module _ (m : Model) (s : State) (a : ℕ) (t : State) where
-  -- rules 1, 3, 4 and 6: a composition takes the action, by these takers. In `par` both sides take what is in both sets;
-  -- otherwise one side takes it, if the other's set lacks it, while the other is still.
+  -- rules 1, 3, 4 and 6: the takers by whom a composition takes the action. Rule 3 is for an action that both sides of a `par`
+  -- synchronise on; rule 4 leaves the side at rest that does not.
   pub data Moves : Tree → List Taker → Type 0 where
     rule-1 : {k : ℕ} {e : Edge} → Takes m s a t k e → Moves (leaf k) (record { automaton = k; edge = e } ∷ [])
     rule-3 : {c d : Tree} {x y : List Taker} → inSet m a c ≡ true → inSet m a d ≡ true → Moves c x → Moves d y → Moves (par c d) (x ++ y)
@@ -81,26 +81,27 @@ module _ (m : Model) (s : State) (a : ℕ) (t : State) where
     rule-4-right : {c d : Tree} {y : List Taker} → Rests m s t c → Moves d y → inSet m a c ≡ false → Moves (par c d) y
     rule-6 : {list : List ℕ} {c : Tree} {x : List Taker} → Moves c x → Moves (syn list c) x
 
-  -- the same rules as Table 1 prints them, each with its mark; the law table-1-is says that the two are one
-  pub data Table1 : Tree → Bool → List Taker → Type 0 where
-    printed-1 : {k : ℕ} {e : Edge} → Takes m s a t k e → Table1 (leaf k) (member a (automaton m k .sync)) (record { automaton = k; edge = e } ∷ [])
-    printed-3 : {c d : Tree} {x y : List Taker} → Table1 c true x → Table1 d true y → Table1 (par c d) true (x ++ y)
-    printed-4-left : {c d : Tree} {b : Bool} {x : List Taker} → Table1 c b x → Rests m s t d → inSet m a d ≡ false → Table1 (par c d) b x
-    printed-4-right : {c d : Tree} {b : Bool} {y : List Taker} → Rests m s t c → Table1 d b y → inSet m a c ≡ false → Table1 (par c d) b y
-    printed-6 : {list : List ℕ} {c : Tree} {b : Bool} {x : List Taker} → Table1 c b x → Table1 (syn list c) (b || member a list) x
+  -- the same rules with the marks that Table 1 gives them; the law table-1-is says that both state the same
+  pub data MarkedMoves : Tree → Bool → List Taker → Type 0 where
+    marked-1 : {k : ℕ} {e : Edge} → Takes m s a t k e → MarkedMoves (leaf k) (member a (automaton m k .sync)) (record { automaton = k; edge = e } ∷ [])
+    marked-3 : {c d : Tree} {x y : List Taker} → MarkedMoves c true x → MarkedMoves d true y → MarkedMoves (par c d) true (x ++ y)
+    marked-4-left : {c d : Tree} {b : Bool} {x : List Taker} → MarkedMoves c b x → Rests m s t d → inSet m a d ≡ false → MarkedMoves (par c d) b x
+    marked-4-right : {c d : Tree} {b : Bool} {y : List Taker} → Rests m s t c → MarkedMoves d b y → inSet m a c ≡ false → MarkedMoves (par c d) b y
+    marked-6 : {list : List ℕ} {c : Tree} {b : Bool} {x : List Taker} → MarkedMoves c b x → MarkedMoves (syn list c) (b || member a list) x
 
   pub record Step (mark : Bool) : Type 0 where
     pub takers : List Taker
     pub moves : Moves (m .tree) takers
-    -- The format's difference from Table 1: a variable may change if some taker's edge mentions its new value, whichever
-    -- automaton that is; every other variable keeps its value.
+    pub ended : t .phase ≡ running
+    -- Where the format departs from Table 1: the takers' updates together say which variables they set, and the others stay.
+    -- (Table 1 holds the variables to their values for each automaton by itself.)
     pub frame : (k : ℕ) → k < length (m .variables) → mentioned k takers ≡ false → val s k ≡ val t k
     -- the mark: is the action in the whole's set?
     pub marked : mark ≡ inSet m a (m .tree)
 
--- an environment step keeps the locations and may change any variable, while every automaton is still
-abbrev pub moved : State → List ℤ → State
-moved s values = reached (s .locations) values
+-- rules 2, 5 and 7 for the whole: the locations stay, and the values may become others that every invariant allows
+abbrev pub changed : State → List ℤ → State
+changed s values = reached (s .locations) values
 
 pub record Environment (m : Model) (s : State) (values : List ℤ) : Type 0 where
-  pub still : Rests m s (moved s values) (m .tree)
+  pub still : Rests m s (changed s values) (m .tree)

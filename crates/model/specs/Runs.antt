@@ -2,25 +2,18 @@
 use mathlib.Core.Path.{_≡_}
 use mathlib.Core.Bool.{Bool, true, false, not, _||_}
 use mathlib.Core.List.{List, [], _∷_, _++_, map}
-use Prim.Native.Nat.{ℕ, _<_}
+use Prim.Native.Nat.{ℕ}
 use lib.IntN.{ℤ, pos}
 use lib.ListN.{length, drop}
-use lib.Dec.{eqb}
-use Rattle.model.specs.Model.{Model, automaton}
-use Rattle.model.specs.Rules.{Phase, start, running, State, at, reached, moved}
-use Rattle.model.specs.Judge.{Answer, marked, yes, no, refused, row21, row22, row23, judgeStep, judgeEnvironment, Call, step, environment, answerTo}
+use Rattle.model.specs.Model.{Model}
+use Rattle.model.specs.Rules.{Phase, start, running, State, reached, changed}
+use Rattle.model.specs.Judge.{Answer, marked, yes, no, refused, hasValues, row21, row22, row23, judgeStep, judgeEnvironment, Call, step, environment, answerTo}
 
 -- a state of the sheet: rows 21 to 23 do not hold of it
 pub record IsState (m : Model) (s : State) : Type 0 where
   pub no-21 : row21 m s ≡ false
   pub no-22 : row22 m s ≡ false
   pub no-23 : row23 m s ≡ false
-
--- a state that has the sheet's shape: rows 21 and 22 do not hold of it
-pub record Shaped (m : Model) (s : State) : Type 0 where
-  pub values-are : length (s .values) ≡ length (m .variables)
-  pub locations-are : length (s .locations) ≡ length (m .automata)
-  pub placed : (k : ℕ) → k < length (m .automata) → at s k < length (automaton m k .locations)
 
 -- action, new locations and new values for the step judge; new values for the environment judge
 pub data Proposal : Type 0 where
@@ -30,14 +23,14 @@ pub data Proposal : Type 0 where
 -- what is proposed, from state s
 unfoldable pub proposed : State → Proposal → State
 proposed s (toStep a locations values) = reached locations values
-proposed s (toEnvironment values) = moved s values
+proposed s (toEnvironment values) = changed s values
 
 -- A judge as a run meets it: the answer to a proposal made from a state. Over a model, and over a table.
 abbrev pub Judge : Type 0
 Judge = State → Proposal → Answer
 
 unfoldable pub modelJudge : Model → Judge
-modelJudge m s (toStep a locations values) = judgeStep m s a (reached locations values)
+modelJudge m s (toStep a locations values) = judgeStep m s a locations values
 modelJudge m s (toEnvironment values) = judgeEnvironment m s values
 
 unfoldable pub phaseNumber : Phase → ℕ
@@ -51,7 +44,7 @@ callOf s (toEnvironment values) = environment (phaseNumber (s .phase)) (s .locat
 unfoldable pub tableJudge : List ℕ → Judge
 tableJudge table s p = answerTo table (callOf s p)
 
--- a yes moves the run to what was proposed; after a no or a refusal it stands where it was
+-- only a yes takes the run to the proposed state
 unfoldable pub goes : Answer → State → State → State
 goes (marked b) s t = t
 goes yes s t = t
@@ -70,28 +63,28 @@ unfoldable pub run : Judge → State → List Proposal → Run Answer
 run judge s [] = record { answers = []; end = s }
 run judge s (p ∷ ps) = andThen (judge s p) (run judge (goes (judge s p) s (proposed s p)) ps)
 
--- The merged run starts in the same phase, at location 0, with the values followed by the locations.
+-- The state of the merged automaton that goes with a state: its one location, and a pointer behind the values for each location.
 unfoldable pub beside : State → State
 beside s = record { phase = s .phase; locations = 0 ∷ []; values = s .values ++ map pos (s .locations) }
 
--- A proposal to it: new location 0, and the new values followed by the new locations; to the environment judge the new
--- values followed by the pointers as they stand, which are what comes after the first V values of state u.
+-- The proposal that goes with a proposal: pointers are added to the values. For the environment judge they are those of state
+-- u, where the merged run is: whatever comes after the first V values there.
 unfoldable pub translate : Model → State → Proposal → Proposal
 translate m u (toStep a locations values) = toStep a (0 ∷ []) (values ++ map pos locations)
 translate m u (toEnvironment values) = toEnvironment (values ++ drop (length (m .variables)) (u .values))
 
--- what 21 or 22 refuses has no translation
+-- is there one? The proposal must have the sheet's shape
 unfoldable pub translates : Model → Proposal → Bool
 translates m (toStep a locations values) = not (row21 m (reached locations values) || row22 m (reached locations values))
-translates m (toEnvironment values) = eqb (length values) (length (m .variables))
+translates m (toEnvironment values) = hasValues m values
 
 -- what the merged run says beside an answer: its own answer, or nothing, because the proposal was not put to it
-pub data Beside : Type 0 where
-  put : Answer → Beside
-  notPut : Beside
+pub data Reply : Type 0 where
+  put : Answer → Reply
+  notPut : Reply
 
--- u is where the merged run stands; it moves by its own answers
-unfoldable pub mergedRun : Model → Judge → State → List Proposal → Run Beside
+-- the merged run from state u, which only its own answers decide
+unfoldable pub mergedRun : Model → Judge → State → List Proposal → Run Reply
 mergedRun m judge u [] = record { answers = []; end = u }
 mergedRun m judge u (p ∷ ps) =
     elim (translates m p) [
@@ -102,7 +95,7 @@ mergedRun m judge u (p ∷ ps) =
     ]
 
 -- alike: yes, with its mark where there is one; no; refusals 23 and 24; and what is refused by 21 or 22 and not put
-pub data Alike : Answer → Beside → Type 0 where
+pub data Alike : Answer → Reply → Type 0 where
   both-marked : {b : Bool} → Alike (marked b) (put (marked b))
   both-yes : Alike yes (put yes)
   both-no : Alike no (put no)
@@ -111,12 +104,12 @@ pub data Alike : Answer → Beside → Type 0 where
   only-21 : Alike (refused 21) notPut
   only-22 : Alike (refused 22) notPut
 
-pub data AllAlike : List Answer → List Beside → Type 0 where
+pub data AllAlike : List Answer → List Reply → Type 0 where
   ended : AllAlike [] []
-  then : {a : Answer} {b : Beside} {as' : List Answer} {bs : List Beside} → Alike a b → AllAlike as' bs → AllAlike (a ∷ as') (b ∷ bs)
+  then : {a : Answer} {b : Reply} {as' : List Answer} {bs : List Reply} → Alike a b → AllAlike as' bs → AllAlike (a ∷ as') (b ∷ bs)
 
--- One statement about a whole list of proposals: the answers are alike one by one, and at the end the merged run stands
--- beside where the run stands: same phase, same values, and pointers that name its locations.
+-- Both runs over one list: the answers are alike, place by place, and the merged run ends at the state that goes with where the
+-- run ends: phase, values, and pointers for its locations.
 pub record RunsAlike (m : Model) (judge merged : Judge) (s : State) (ps : List Proposal) : Type 0 where
   pub answers : AllAlike (run judge s ps .answers) (mergedRun m merged (beside s) ps .answers)
   pub end : mergedRun m merged (beside s) ps .end ≡ beside (run judge s ps .end)

@@ -1,4 +1,4 @@
--- The table of a model, docs/TABLE.md: the lines' words in file order, then zeros up to 8,192 words.
+-- The table of a model (docs/TABLE.md): line after line as words, then zeros up to 8,192 words.
 use Prim.Native.Nat.{ℕ, zero, suc, _+_, _-_, _*_, _/_, _%_, _^_}
 use mathlib.Core.Bool.{Bool, true, false, _&&_}
 use mathlib.Core.List.{List, [], _∷_, _++_, map, flatMap}
@@ -9,11 +9,11 @@ use lib.Dec.{eqb, leb, ltb}
 use Rattle.model.specs.Basic.{keep, same, countUp, onSome, lacks}
 use Rattle.model.specs.Bounds.{tableWords, bias}
 use Rattle.model.specs.Predicate.{Pred, Range, range, Word, words, nodeCount, allOf, anyOf, notWord, impWord, eqWord, leWord, numWord, oldWord, newWord, addWord, subWord, mulWord, ifWord, stray}
-use Rattle.model.specs.Composition.{Tree, Node, nodes, treeNodes, parNode, synNode, leafNode}
+use Rattle.model.specs.Composition.{Tree, Node, nodes, treeSize, parNode, synNode, leafNode}
 use Rattle.model.specs.Composition as C
 use Rattle.model.specs.Parse.{readPred, readTree}
 use Rattle.model.specs.Model.{Edge, Model}
-use Rattle.model.specs.Lines.{Key, Entry, format, actions, variables, variable, automata, sync, locations, init, inv, edges, edge, compose, formatLine, actionsLine, variablesLine, variableLine, automataLine, syncLine, locationsLine, initLine, invLine, edgesLine, edgeLine, composeLine, lines, dueAtFirst, thenDue, Reading, atFirst, taken}
+use Rattle.model.specs.Lines.{Key, Entry, format, actions, variables, variable, automata, sync, locations, init, inv, edges, edge, compose, formatLine, actionsLine, variablesLine, variableLine, automataLine, syncLine, locationsLine, initLine, invLine, edgesLine, edgeLine, composeLine, lines, dueAtFirst, thenDue, Reading, atFirst, noted}
 use Rattle.model.specs.Limits.{faultOf, limits}
 
 -- a number, moved up so that none is negative
@@ -72,7 +72,7 @@ lineWords (initLine p) = predWords p
 lineWords (invLine p) = predWords p
 lineWords (edgesLine n) = n ∷ []
 lineWords (edgeLine e) = e .from ∷ e .action ∷ e .to ∷ predWords (e .update)
-lineWords (composeLine c) = treeNodes c ∷ flatMap nodeWords (nodes c)
+lineWords (composeLine c) = treeSize c ∷ flatMap nodeWords (nodes c)
 
 unfoldable pub sheetWords : Model → List ℕ
 sheetWords m = flatMap lineWords (lines m)
@@ -100,64 +100,64 @@ unfoldable pub wordOf : ℕ → Word
 wordOf w = getD (kinds (w / 16)) (w % 16) stray
 
 -- what was taken, and the words that are left
-pub record Taken (A : Type 0) : Type 0 where
+pub record Split (A : Type 0) : Type 0 where
   pub item : A
   pub rest : List ℕ
 
-unfoldable pub took : {A : Type 0} → A → List ℕ → Option (Taken A)
-took a ws = some (record { item = a; rest = ws })
+unfoldable pub split : {A : Type 0} → A → List ℕ → Option (Split A)
+split a ws = some (record { item = a; rest = ws })
 
-unfoldable pub takeNumber : (ℕ → Entry) → List ℕ → Option (Taken Entry)
-takeNumber f [] = none
-takeNumber f (n ∷ ws) = took (f n) ws
+unfoldable pub splitNumber : (ℕ → Entry) → List ℕ → Option (Split Entry)
+splitNumber f [] = none
+splitNumber f (n ∷ ws) = split (f n) ws
 
-unfoldable pub takePair : (ℕ → ℕ → Entry) → List ℕ → Option (Taken Entry)
-takePair f [] = none
-takePair f (a ∷ []) = none
-takePair f (a ∷ b ∷ ws) = took (f a b) ws
+unfoldable pub splitPair : (ℕ → ℕ → Entry) → List ℕ → Option (Split Entry)
+splitPair f [] = none
+splitPair f (a ∷ []) = none
+splitPair f (a ∷ b ∷ ws) = split (f a b) ws
 
-unfoldable pub takePredicate : (Pred → Entry) → List ℕ → Option (Taken Entry)
-takePredicate f [] = none
-takePredicate f (n ∷ ws) = onSome (λ p. took (f p) (drop n ws)) (readPred (map wordOf (take n ws)))
+unfoldable pub splitPred : (Pred → Entry) → List ℕ → Option (Split Entry)
+splitPred f [] = none
+splitPred f (n ∷ ws) = onSome (λ p. split (f p) (drop n ws)) (readPred (map wordOf (take n ws)))
 
 unfoldable pub edgeTo : ℕ → ℕ → ℕ → Pred → Entry
 edgeTo from action to p = edgeLine (record { from = from; action = action; to = to; update = p })
 
-unfoldable pub takeEdge : List ℕ → Option (Taken Entry)
-takeEdge [] = none
-takeEdge (a ∷ []) = none
-takeEdge (a ∷ b ∷ []) = none
-takeEdge (a ∷ b ∷ c ∷ ws) = takePredicate (edgeTo a b c) ws
+unfoldable pub splitEdge : List ℕ → Option (Split Entry)
+splitEdge [] = none
+splitEdge (a ∷ []) = none
+splitEdge (a ∷ b ∷ []) = none
+splitEdge (a ∷ b ∷ c ∷ ws) = splitPred (edgeTo a b c) ws
 
-unfoldable pub andNode : Node → Option (Taken (List Node)) → Option (Taken (List Node))
-andNode node others = onSome (λ t. took (node ∷ t .item) (t .rest)) others
+unfoldable pub andNode : Node → Option (Split (List Node)) → Option (Split (List Node))
+andNode node others = onSome (λ t. split (node ∷ t .item) (t .rest)) others
 
-unfoldable pub takeNodes : ℕ → List ℕ → Option (Taken (List Node))
-takeNodes zero ws = took [] ws
-takeNodes (suc n) [] = none
-takeNodes (suc n) (zero ∷ ws) = andNode parNode (takeNodes n ws)
-takeNodes (suc n) (suc zero ∷ []) = none
-takeNodes (suc n) (suc zero ∷ a ∷ []) = none
-takeNodes (suc n) (suc zero ∷ a ∷ b ∷ ws) = andNode (synNode (setOf a b)) (takeNodes n ws)
-takeNodes (suc n) (suc (suc k) ∷ ws) = andNode (leafNode k) (takeNodes n ws)
+unfoldable pub splitNodes : ℕ → List ℕ → Option (Split (List Node))
+splitNodes zero ws = split [] ws
+splitNodes (suc n) [] = none
+splitNodes (suc n) (zero ∷ ws) = andNode parNode (splitNodes n ws)
+splitNodes (suc n) (suc zero ∷ []) = none
+splitNodes (suc n) (suc zero ∷ a ∷ []) = none
+splitNodes (suc n) (suc zero ∷ a ∷ b ∷ ws) = andNode (synNode (setOf a b)) (splitNodes n ws)
+splitNodes (suc n) (suc (suc k) ∷ ws) = andNode (leafNode k) (splitNodes n ws)
 
-unfoldable pub takeTreeLine : List ℕ → Option (Taken Entry)
-takeTreeLine [] = none
-takeTreeLine (n ∷ ws) = onSome (λ t. onSome (λ c. took (composeLine c) (t .rest)) (readTree (t .item))) (takeNodes n ws)
+unfoldable pub splitTree : List ℕ → Option (Split Entry)
+splitTree [] = none
+splitTree (n ∷ ws) = onSome (λ t. onSome (λ c. split (composeLine c) (t .rest)) (readTree (t .item))) (splitNodes n ws)
 
-unfoldable pub takeEntry : Key → List ℕ → Option (Taken Entry)
-takeEntry format ws = takeNumber (λ n. formatLine) ws
-takeEntry actions ws = takeNumber actionsLine ws
-takeEntry variables ws = takeNumber variablesLine ws
-takeEntry variable ws = takePair (λ a b. variableLine (range (unbiased a) (unbiased b))) ws
-takeEntry automata ws = takeNumber automataLine ws
-takeEntry sync ws = takePair (λ a b. syncLine (setOf a b)) ws
-takeEntry locations ws = takeNumber locationsLine ws
-takeEntry init ws = takePredicate initLine ws
-takeEntry inv ws = takePredicate invLine ws
-takeEntry edges ws = takeNumber edgesLine ws
-takeEntry edge ws = takeEdge ws
-takeEntry compose ws = takeTreeLine ws
+unfoldable pub splitEntry : Key → List ℕ → Option (Split Entry)
+splitEntry format ws = splitNumber (λ n. formatLine) ws
+splitEntry actions ws = splitNumber actionsLine ws
+splitEntry variables ws = splitNumber variablesLine ws
+splitEntry variable ws = splitPair (λ a b. variableLine (range (unbiased a) (unbiased b))) ws
+splitEntry automata ws = splitNumber automataLine ws
+splitEntry sync ws = splitPair (λ a b. syncLine (setOf a b)) ws
+splitEntry locations ws = splitNumber locationsLine ws
+splitEntry init ws = splitPred initLine ws
+splitEntry inv ws = splitPred invLine ws
+splitEntry edges ws = splitNumber edgesLine ws
+splitEntry edge ws = splitEdge ws
+splitEntry compose ws = splitTree ws
 
 -- each line takes a word at least, so a table of so many words has no more lines; a line that breaks a row ends it
 unfoldable pub decode : ℕ → Reading → List Key → List ℕ → Option Model
@@ -166,19 +166,20 @@ decode zero r (k ∷ ks) ws = none
 decode (suc n) r [] ws = some (r .model)
 decode (suc n) r (k ∷ ks) ws =
     onSome
-    (λ t. elim (lacks (faultOf r (t .item))) [ true ↦ decode n (taken r (t .item)) (thenDue (t .item) ++ ks) (t .rest) | false ↦ none ])
-    (takeEntry k ws)
+    (λ t. elim (lacks (faultOf r (t .item))) [ true ↦ decode n (noted r (t .item)) (thenDue (t .item) ++ ks) (t .rest) | false ↦ none ])
+    (splitEntry k ws)
 
--- the model whose table a table's first 8,192 words are
+-- do the first 8,192 words of t make up the table of m?
 unfoldable pub isTableOf : List ℕ → Model → Bool
 isTableOf t m = limits m && same (take tableWords t) (tableOf m)
 
+-- the model whose table this is
 unfoldable pub modelOf : List ℕ → Option Model
 modelOf t = onSome (λ m. elim (isTableOf t m) [ true ↦ some m | false ↦ none ]) (decode tableWords atFirst dueAtFirst t)
 
--- Row 18: the table is too short. Row 19: no accepted text gives it (the law table-given says so of `modelOf`).
-unfoldable pub row18 : List ℕ → Bool
-row18 t = ltb (length t) tableWords
+-- Row 18, for a table of so many words. Row 19: it is no model's table, and so no text's (the law given-by-text).
+unfoldable pub row18 : (words : ℕ) → Bool
+row18 words = ltb words tableWords
 
 unfoldable pub row19 : List ℕ → Bool
 row19 t = lacks (modelOf t)
@@ -189,4 +190,4 @@ pub data Opened : Type 0 where
   opened : Model → Opened
 
 unfoldable pub openTable : List ℕ → Opened
-openTable t = elim (row18 t) [ true ↦ unopened 18 | false ↦ elim (modelOf t) [ none ↦ unopened 19 | some m ↦ opened m ] ]
+openTable t = elim (row18 (length t)) [ true ↦ unopened 18 | false ↦ elim (modelOf t) [ none ↦ unopened 19 | some m ↦ opened m ] ]

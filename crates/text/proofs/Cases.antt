@@ -15,7 +15,8 @@ use Rattle.model.specs.Judge.{Answer, marked, yes, no, Call, answerTo}
 use Rattle.text.specs.Bytes.{Bytes, LF}
 use Rattle.text.specs.Reader.{refused, accepted, readAnswer}
 use Rattle.text.specs.Writer.{unwritten, written, writeAnswer}
-use Rattle.text.specs.Program.{programOutput, unmerged, merged, mergeAnswer}
+use Rattle.text.specs.Merger.{unmerged, merged, mergeAnswer}
+use Rattle.text.specs.Program.{programOutput}
 
 -- lines to a text; a piece so many times
 abbrev pub sheet : List Bytes → Bytes

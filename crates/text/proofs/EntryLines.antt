@@ -16,9 +16,9 @@ use Rattle.model.specs.Parse.{readPred, readTree}
 use Rattle.model.specs.Predicate as P
 use Rattle.model.specs.Predicate.{Pred, all, range}
 use Rattle.text.specs.Bytes.{Bytes, LF, comma, joined, ledBy, parts}
-use Rattle.text.specs.Number.{count, decimal, integer, signed}
+use Rattle.text.specs.Number.{naturalOf, decimal, integerOf, signed}
 use Rattle.text.specs.Reader.{linesOf, ontoLine}
-use Rattle.text.specs.Rows.{Line, entry, field, fields, is, listItems, place, predOf, predTokens, predWordsOf, syncList, thePred, theRange, theTree, treeTokens, treeNodesOf, treeOf, valueOf}
+use Rattle.text.specs.Rows.{Line, entry, field, fields, is, listItems, place, predOf, predTokens, wordsIn, syncList, thePred, theRange, theTree, treeTokens, nodesIn, treeOf, valueOf}
 use Rattle.text.specs.Spelling.{lineText, spelling, textOfList, textOfPred, textOfTree, valueText}
 use Rattle.text.specs.Tokens.{readNodes, readWords, tokens}
 use Rattle.text.proofs.BytesLaws.{Each, Free, parts-free, parts-joined}
@@ -112,8 +112,8 @@ items-back (k ∷ ks) =
     let d = leading k in
     items-first (textOfList (k ∷ ks)) _ _ (list-first k ks (d .first) (d .rest) (d .whole)) ∙ list-parts k ks
 
-pub list-back : (l : List ℕ) → map count (listItems (textOfList l)) ≡ l
-list-back l = ap (map count) (items-back l) ∙ counts-back l
+pub list-back : (l : List ℕ) → map naturalOf (listItems (textOfList l)) ≡ l
+list-back l = ap (map naturalOf) (items-back l) ∙ counts-back l
 
 pub more-fields : (k : Key) (t : Bytes) (ts : List Bytes) → Free 44 t → Each (Free 44) ts → parts comma (drop (length (spelling k)) (spelling k ++ joined comma (t ∷ ts))) ≡ t ∷ ts
 more-fields k t ts h f = ap (parts comma) (dropped (spelling k) (joined comma (t ∷ ts))) ∙ parts-joined comma t ts h f
@@ -139,21 +139,21 @@ ListedEntry (composeLine c) = listsFilled c ≡ true
 
 -- what an entry's line says is the entry
 pub entry-line : (e : Entry) → ListedEntry e → entry (keyOf e) (lineOf e) ≡ e
-unfolding entry keyOf valueText fields field is place valueOf thePred predOf predWordsOf predTokens theTree treeOf treeTokens treeNodesOf syncList theRange range
+unfolding entry keyOf valueText fields field is place valueOf thePred predOf wordsIn predTokens theTree treeOf treeTokens nodesIn syncList theRange range
 entry-line formatLine h = refl
-entry-line (actionsLine n) h = ap (λ s. actionsLine (count s)) (sole-field actions (decimal n) (decimal-free n)) ∙ ap actionsLine (count-decimal n)
-entry-line (variablesLine n) h = ap (λ s. variablesLine (count s)) (sole-field variables (decimal n) (decimal-free n)) ∙ ap variablesLine (count-decimal n)
+entry-line (actionsLine n) h = ap (λ s. actionsLine (naturalOf s)) (sole-field actions (decimal n) (decimal-free n)) ∙ ap actionsLine (count-decimal n)
+entry-line (variablesLine n) h = ap (λ s. variablesLine (naturalOf s)) (sole-field variables (decimal n) (decimal-free n)) ∙ ap variablesLine (count-decimal n)
 entry-line (variableLine r) h =
-    ap (λ l. variableLine (range (integer (getD l 0 [])) (integer (getD l 1 [])))) (more-fields variable (signed (r .low)) (signed (r .high) ∷ []) (signed-free (r .low)) (signed-free (r .high), tt)) ∙
+    ap (λ l. variableLine (range (integerOf (getD l 0 [])) (integerOf (getD l 1 [])))) (more-fields variable (signed (r .low)) (signed (r .high) ∷ []) (signed-free (r .low)) (signed-free (r .high), tt)) ∙
     rw (integer-signed (r .low), integer-signed (r .high))
-entry-line (automataLine n) h = ap (λ s. automataLine (count s)) (sole-field automata (decimal n) (decimal-free n)) ∙ ap automataLine (count-decimal n)
-entry-line (syncLine l) h = ap (λ s. syncLine (map count (listItems s))) (dropped (spelling sync) (textOfList l)) ∙ ap syncLine (list-back l)
-entry-line (locationsLine n) h = ap (λ s. locationsLine (count s)) (sole-field locations (decimal n) (decimal-free n)) ∙ ap locationsLine (count-decimal n)
+entry-line (automataLine n) h = ap (λ s. automataLine (naturalOf s)) (sole-field automata (decimal n) (decimal-free n)) ∙ ap automataLine (count-decimal n)
+entry-line (syncLine l) h = ap (λ s. syncLine (map naturalOf (listItems s))) (dropped (spelling sync) (textOfList l)) ∙ ap syncLine (list-back l)
+entry-line (locationsLine n) h = ap (λ s. locationsLine (naturalOf s)) (sole-field locations (decimal n) (decimal-free n)) ∙ ap locationsLine (count-decimal n)
 entry-line (initLine p) h = ap initLine (pred-back _ p (sole-field init (textOfPred p) (pred-free p)))
 entry-line (invLine p) h = ap invLine (pred-back _ p (sole-field inv (textOfPred p) (pred-free p)))
-entry-line (edgesLine n) h = ap (λ s. edgesLine (count s)) (sole-field edges (decimal n) (decimal-free n)) ∙ ap edgesLine (count-decimal n)
+entry-line (edgesLine n) h = ap (λ s. edgesLine (naturalOf s)) (sole-field edges (decimal n) (decimal-free n)) ∙ ap edgesLine (count-decimal n)
 entry-line (edgeLine e) h =
-    ap (λ l. edgeLine (record { from = count (getD l 0 []); action = count (getD l 1 []); to = count (getD l 2 []); update = orElse (all P.none) (readPred (readWords (tokens (getD l 3 [])))) }))
+    ap (λ l. edgeLine (record { from = naturalOf (getD l 0 []); action = naturalOf (getD l 1 []); to = naturalOf (getD l 2 []); update = orElse (all P.none) (readPred (readWords (tokens (getD l 3 [])))) }))
     (more-fields edge (decimal (e .from)) (decimal (e .action) ∷ decimal (e .to) ∷ textOfPred (e .update) ∷ []) (decimal-free (e .from)) (decimal-free (e .action), (decimal-free (e .to), (pred-free (e .update), tt)))) ∙
     rw (count-decimal (e .from), count-decimal (e .action), count-decimal (e .to), pred-back (textOfPred (e .update)) (e .update) refl)
 entry-line (composeLine c) h = ap (λ s. composeLine (orElse (leaf 0) (readTree (readNodes (tokens s))))) (dropped (spelling compose) (textOfTree c)) ∙ ap (λ o. composeLine (orElse (leaf 0) o)) (tree-read c h) ∙ the-tree c

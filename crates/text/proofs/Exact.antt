@@ -10,8 +10,9 @@ use lib.Dec.{ltb}
 use lib.ListN.{length}
 use Rattle.model.specs.Basic.{lacks}
 use Rattle.model.specs.Bounds.{maxBytes, tableWords}
-use Rattle.model.specs.Limits.{faultOf, limits, listsFilled, numbersInRange, saidFault, treeRises, withinLimits}
-use Rattle.model.specs.Lines.{Entry, Key, Reading, actionsLine, atFirst, automataLine, composeLine, dueAtFirst, edgeLine, edgesLine, formatLine, initLine, invLine, keyOf, lines, locationsLine, syncLine, taken, thenDue, variableLine, variablesLine}
+use Rattle.model.specs.Table.{row18}
+use Rattle.model.specs.Limits.{faultOf, limits, listsFilled, numbersInRange, contentFault, treeRises, withinLimits}
+use Rattle.model.specs.Lines.{Entry, Key, Reading, actionsLine, atFirst, automataLine, composeLine, dueAtFirst, edgeLine, edgesLine, formatLine, initLine, invLine, keyOf, lines, locationsLine, syncLine, noted, thenDue, variableLine, variablesLine}
 use Rattle.model.specs.Model.{Model}
 use Rattle.model.proofs.LinesBack.{lines-follow}
 use Rattle.model.proofs.LinesLaws.{Follows, follow-lines}
@@ -44,7 +45,7 @@ fault-law r (composeLine c) = compose-fault r c
 
 -- an entry that breaks no row has no empty list
 listed-entry : (r : Reading) (e : Entry) → faultOf r e ≡ none → ListedEntry e
-unfolding faultOf saidFault
+unfolding faultOf contentFault
 listed-entry r formatLine h = tt
 listed-entry r (actionsLine n) h = tt
 listed-entry r (variablesLine n) h = tt
@@ -62,15 +63,15 @@ listed-entry r (composeLine c) h =
     not-false (listsFilled c) (broken-inv 13 (not (listsFilled c)) _ (b .1) .0)
 
 -- one step of reading
-pub read-case : (r : Reading) (k : Key) (ks : List Key) (n : ℕ) (l : Line) (ls : List Line) (o : Option ℕ) → fault r k l ≡ o → read r (k ∷ ks) n (l ∷ ls) ≡ elim o [ some row ↦ refused row n | none ↦ read (taken r (entry k l)) (thenDue (entry k l) ++ ks) (suc n) ls ]
+pub read-case : (r : Reading) (k : Key) (ks : List Key) (n : ℕ) (l : Line) (ls : List Line) (o : Option ℕ) → fault r k l ≡ o → read r (k ∷ ks) n (l ∷ ls) ≡ elim o [ some row ↦ refused row n | none ↦ read (noted r (entry k l)) (thenDue (entry k l) ++ ks) (suc n) ls ]
 unfolding read
-read-case r k ks n l ls o e = ap (λ (x : Option ℕ). elim x as (λ q. ReadAnswer) [ some row ↦ refused row n | none ↦ read (taken r (entry k l)) (thenDue (entry k l) ++ ks) (suc n) ls ]) e
+read-case r k ks n l ls o e = ap (λ (x : Option ℕ). elim x as (λ q. ReadAnswer) [ some row ↦ refused row n | none ↦ read (noted r (entry k l)) (thenDue (entry k l) ++ ks) (suc n) ls ]) e
 
 -- the lines of a model within the limits are read as the model
-read-entry : (r : Reading) (e : Entry) (ks : List Key) (n : ℕ) (ls : List Line) → faultOf r e ≡ none → read r (keyOf e ∷ ks) n (lineOf e ∷ ls) ≡ read (taken r e) (thenDue e ++ ks) (suc n) ls
+read-entry : (r : Reading) (e : Entry) (ks : List Key) (n : ℕ) (ls : List Line) → faultOf r e ≡ none → read r (keyOf e ∷ ks) n (lineOf e ∷ ls) ≡ read (noted r e) (thenDue e ++ ks) (suc n) ls
 read-entry r e ks n ls h =
     read-case r (keyOf e) ks n (lineOf e) ls none (fault-law r e ∙ h) ∙
-    ap (λ (x : Entry). read (taken r x) (thenDue x ++ ks) (suc n) ls) (entry-line e (listed-entry r e h))
+    ap (λ (x : Entry). read (noted r x) (thenDue x ++ ks) (suc n) ls) (entry-line e (listed-entry r e h))
 
 no-fault : (o : Option ℕ) → lacks o ≡ true → o ≡ none
 unfolding lacks
@@ -88,8 +89,8 @@ follow-read [] r (k ∷ ks) n m f w = absurd f
 follow-read (e ∷ es) r [] n m f w = absurd f
 follow-read (e ∷ es) r (k ∷ ks) n m f w =
     ap (λ q. read r (q ∷ ks) n (lineOf e ∷ map lineOf es)) (sym (f .0)) ∙
-    read-entry r e ks n (map lineOf es) (no-fault (faultOf r e) (and-left (lacks (faultOf r e)) (withinLimits (taken r e) es) w)) ∙
-    follow-read es (taken r e) (thenDue e ++ ks) (suc n) m (f .1) (and-right (lacks (faultOf r e)) (withinLimits (taken r e) es) w)
+    read-entry r e ks n (map lineOf es) (no-fault (faultOf r e) (and-left (lacks (faultOf r e)) (withinLimits (noted r e) es) w)) ∙
+    follow-read es (noted r e) (thenDue e ++ ks) (suc n) m (f .1) (and-right (lacks (faultOf r e)) (withinLimits (noted r e) es) w)
 
 read-text-of : (m : Model) → limits m ≡ true → read atFirst dueAtFirst 1 (linesOf (textOf m)) ≡ accepted m
 unfolding limits textOf
@@ -106,7 +107,7 @@ entry-fault : (r : Reading) (k : Key) (l : Line) → fault r k l ≡ none → fa
 entry-fault r k l h =
     sym (fault-law r (entry k l)) ∙ ap (λ j. fault r j (lineOf (entry k l))) (entry-key k l) ∙ ap (fault r k) (sym (line-written r k l h)) ∙ h
 
-accepts-more : (r : Reading) (k : Key) (ks : List Key) (l : Line) (ls : List Line) (m : Model) → fault r k l ≡ none → Accepts (taken r (entry k l)) (thenDue (entry k l) ++ ks) ls m → Accepts r (k ∷ ks) (l ∷ ls) m
+accepts-more : (r : Reading) (k : Key) (ks : List Key) (l : Line) (ls : List Line) (m : Model) → fault r k l ≡ none → Accepts (noted r (entry k l)) (thenDue (entry k l) ++ ks) ls m → Accepts r (k ∷ ks) (l ∷ ls) m
 unfolding withinLimits lacks
 accepts-more r k ks l ls m h a =
     record {
@@ -124,9 +125,9 @@ unfolding read withinLimits
 accepts [] r [] n m h = let e : r .model ≡ m = cc in record { entries = []; follows = e; spelled = refl; limited = refl }
 accepts [] r (k ∷ ks) n m h = absurd (no-refusal 2 n m h)
 accepts (l ∷ ls) r [] n m h = absurd (no-refusal 2 n m h)
-accepts (l ∷ ls) r (k ∷ ks) n m h = go (accepts ls (taken r (entry k l)) (thenDue (entry k l) ++ ks) (suc n) m) (fault r k l) refl h
+accepts (l ∷ ls) r (k ∷ ks) n m h = go (accepts ls (noted r (entry k l)) (thenDue (entry k l) ++ ks) (suc n) m) (fault r k l) refl h
   where
-    go : (read (taken r (entry k l)) (thenDue (entry k l) ++ ks) (suc n) ls ≡ accepted m → Accepts (taken r (entry k l)) (thenDue (entry k l) ++ ks) ls m) → (o : Option ℕ) → fault r k l ≡ o → elim o [ some row ↦ refused row n | none ↦ read (taken r (entry k l)) (thenDue (entry k l) ++ ks) (suc n) ls ] ≡ accepted m → Accepts r (k ∷ ks) (l ∷ ls) m
+    go : (read (noted r (entry k l)) (thenDue (entry k l) ++ ks) (suc n) ls ≡ accepted m → Accepts (noted r (entry k l)) (thenDue (entry k l) ++ ks) ls m) → (o : Option ℕ) → fault r k l ≡ o → elim o [ some row ↦ refused row n | none ↦ read (noted r (entry k l)) (thenDue (entry k l) ++ ks) (suc n) ls ] ≡ accepted m → Accepts r (k ∷ ks) (l ∷ ls) m
     go ih none e g = accepts-more r k ks l ls m e (ih g)
     go ih (some row) e g = absurd (no-refusal row n m g)
 
@@ -151,7 +152,7 @@ exactly text table m a b h =
 
 -- an accepted text is exactly that
 pub accepted-then : (text : Bytes) (table : ℕ) (m : Model) → readAnswer text table ≡ accepted m → Exactly text table m
-unfolding readAnswer row1
+unfolding readAnswer row1 row18
 accepted-then text table m h = go (ltb table tableWords) refl h
   where
     next : tableWords ≤ table → (v : Bool) → ltb maxBytes (length text) ≡ v → elim v [ true ↦ refused 1 0 | false ↦ read atFirst dueAtFirst 1 (linesOf text) ] ≡ accepted m → Exactly text table m
@@ -164,7 +165,7 @@ accepted-then text table m h = go (ltb table tableWords) refl h
 
 -- a text that is short enough is read, for a table with room
 pub answer-reads : (text : Bytes) (table : ℕ) → tableWords ≤ table → length text ≤ maxBytes → readAnswer text table ≡ read atFirst dueAtFirst 1 (linesOf text)
-unfolding readAnswer row1
+unfolding readAnswer row1 row18
 answer-reads text table a b = rw (le-ltb table tableWords a, le-ltb maxBytes (length text) b, readAnswer)
 
 -- and all of that is accepted

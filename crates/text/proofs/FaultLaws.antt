@@ -11,7 +11,7 @@ use lib.ListN.{length, getD}
 use lib.IntN.{pos}
 use Rattle.model.specs.Basic.{between, every, lacks, orElse}
 use Rattle.model.specs.Bounds.{greatestNumber, lastLocation, leastNumber, maxActions, maxAutomata, maxEdges, maxLocations, maxVariables}
-use Rattle.model.specs.Limits.{broken, faultOf, inRange, isCrossed, isTooDeep, leavesSpan, numbersInRange, passesEdges, passesNodes, predFault, rises, saidFault, stateFault, variableCount}
+use Rattle.model.specs.Limits.{broken, faultOf, inRange, isCrossed, isTooDeep, exceedsSpan, numbersInRange, passesEdges, passesNodes, predFault, rises, contentFault, locationFault, variableCount}
 use Rattle.model.specs.Lines.{Entry, Key, Reading, actions, actionsLine, automata, automataLine, composeLine, edge, edgeLine, edges, edgesLine, format, formatLine, init, initLine, inv, invLine, keyOf, locations, locationsLine, sync, syncLine, variable, variableLine, variables, variablesLine}
 use Rattle.model.specs.Model.{Edge}
 use Rattle.model.specs.Parse.{readPred}
@@ -19,8 +19,8 @@ use Rattle.model.specs.Predicate as P
 use Rattle.model.specs.Predicate.{Pred, Range, all, namesOutside, range, words}
 use Rattle.model.proofs.Tests.{and-intro, and-same}
 use Rattle.text.specs.Bytes.{Bytes, begins, comma, parts}
-use Rattle.text.specs.Number.{count, decimal, integer, signed, within}
-use Rattle.text.specs.Rows.{Line, fault, field, fieldCount, fields, hasPred, is, listItems, numbersSound, place, predOf, predTokens, predWordsOf, printable, row10, row11, row12, row13, row14, row15, row16, row2, row3, row4, row5, row6, row7, row8, row9, syncList, thePred, theRange, valueOf}
+use Rattle.text.specs.Number.{naturalOf, decimal, integerOf, signed, within}
+use Rattle.text.specs.Rows.{Line, fault, field, fieldCount, fields, hasPred, is, listItems, numbersSound, place, predOf, predTokens, wordsIn, printable, row10, row11, row12, row13, row14, row15, row16, row2, row3, row4, row5, row6, row7, row8, row9, syncList, thePred, theRange, valueOf}
 use Rattle.text.specs.Spelling.{spelling, textOfList, textOfPred, valueText}
 use Rattle.text.specs.Tokens.{readWords, sounds, tokens}
 use Rattle.text.proofs.EntryLines.{dropped, items-back, list-back, more-fields, sole-field, sole-part}
@@ -96,27 +96,27 @@ one-number r e b h k = h ∙ skip 2 (row2 (keyOf e) (lineOf e)) (broken 3 (row3 
 
 module _ (r : Reading) where
   pub actions-fault : (n : ℕ) → fault r actions (lineOf (actionsLine n)) ≡ faultOf r (actionsLine n)
-  unfolding fault row3 row4 row5 row6 row7 row8 row9 row10 row11 row12 row13 row14 row15 row16 is place hasPred broken keyOf numbersSound field fields valueOf valueText faultOf saidFault numbersInRange
+  unfolding fault row3 row4 row5 row6 row7 row8 row9 row10 row11 row12 row13 row14 row15 row16 is place hasPred broken keyOf numbersSound field fields valueOf valueText faultOf contentFault numbersInRange
   actions-fault n = one-number r (actionsLine n) (not (leb n maxActions)) refl (ap (λ s. not (within (pos 0) (pos maxActions) s)) (sole-field actions (decimal n) (decimal-free n)) ∙ ap not (within-zero maxActions n))
 
   pub variables-fault : (n : ℕ) → fault r variables (lineOf (variablesLine n)) ≡ faultOf r (variablesLine n)
-  unfolding fault row3 row4 row5 row6 row7 row8 row9 row10 row11 row12 row13 row14 row15 row16 is place hasPred broken keyOf numbersSound field fields valueOf valueText faultOf saidFault numbersInRange
+  unfolding fault row3 row4 row5 row6 row7 row8 row9 row10 row11 row12 row13 row14 row15 row16 is place hasPred broken keyOf numbersSound field fields valueOf valueText faultOf contentFault numbersInRange
   variables-fault n = one-number r (variablesLine n) (not (leb n maxVariables)) refl (ap (λ s. not (within (pos 0) (pos maxVariables) s)) (sole-field variables (decimal n) (decimal-free n)) ∙ ap not (within-zero maxVariables n))
 
   pub automata-fault : (n : ℕ) → fault r automata (lineOf (automataLine n)) ≡ faultOf r (automataLine n)
-  unfolding fault row3 row4 row5 row6 row7 row8 row9 row10 row11 row12 row13 row14 row15 row16 is place hasPred broken keyOf numbersSound field fields valueOf valueText faultOf saidFault numbersInRange
+  unfolding fault row3 row4 row5 row6 row7 row8 row9 row10 row11 row12 row13 row14 row15 row16 is place hasPred broken keyOf numbersSound field fields valueOf valueText faultOf contentFault numbersInRange
   automata-fault n = one-number r (automataLine n) (not (leb 1 n && leb n maxAutomata)) refl (ap (λ s. not (within (pos 1) (pos maxAutomata) s)) (sole-field automata (decimal n) (decimal-free n)) ∙ ap not (within-nat 1 maxAutomata n))
 
   pub locations-fault : (n : ℕ) → fault r locations (lineOf (locationsLine n)) ≡ faultOf r (locationsLine n)
-  unfolding fault row3 row4 row5 row6 row7 row8 row9 row10 row11 row12 row13 row14 row15 row16 is place hasPred broken keyOf numbersSound field fields valueOf valueText faultOf saidFault numbersInRange
+  unfolding fault row3 row4 row5 row6 row7 row8 row9 row10 row11 row12 row13 row14 row15 row16 is place hasPred broken keyOf numbersSound field fields valueOf valueText faultOf contentFault numbersInRange
   locations-fault n = one-number r (locationsLine n) (not (leb 1 n && leb n maxLocations)) refl (ap (λ s. not (within (pos 1) (pos maxLocations) s)) (sole-field locations (decimal n) (decimal-free n)) ∙ ap not (within-nat 1 maxLocations n))
 
   pub edges-fault : (n : ℕ) → fault r edges (lineOf (edgesLine n)) ≡ faultOf r (edgesLine n)
-  unfolding fault row3 row4 row5 row6 row7 row8 row9 row10 row11 row12 row13 row14 row15 row16 is place hasPred broken keyOf numbersSound field fields valueOf valueText faultOf saidFault numbersInRange
+  unfolding fault row3 row4 row5 row6 row7 row8 row9 row10 row11 row12 row13 row14 row15 row16 is place hasPred broken keyOf numbersSound field fields valueOf valueText faultOf contentFault numbersInRange
   edges-fault n =
       let e : getD (parts comma (valueOf edges (lineOf (edgesLine n)))) 0 [] ≡ decimal n = sole-field edges (decimal n) (decimal-free n) in
       skip 2 (row2 edges (lineOf (edgesLine n))) _ (row2-of (edgesLine n)) ∙
-      ap (λ x. broken 3 (not (within (pos 0) (pos maxEdges) x)) (broken 15 (passesEdges r (count x)) none)) e ∙
+      ap (λ x. broken 3 (not (within (pos 0) (pos maxEdges) x)) (broken 15 (passesEdges r (naturalOf x)) none)) e ∙
       rw (within-zero maxEdges n, count-decimal n)
 
   -- the tokens of a predicate are sound exactly when its numbers are in range
@@ -125,12 +125,12 @@ module _ (r : Reading) where
 
   -- rows 3 and 6 to 11 of a line with P
   module _ (k : Key) (l : Line) (p : Pred) (t : predTokens k l ≡ tokens (textOfPred p)) (has : hasPred k ≡ true) where
-    its-words : predWordsOf k l ≡ words p
-    unfolding predWordsOf
+    its-words : wordsIn k l ≡ words p
+    unfolding wordsIn
     its-words = ap readWords t ∙ text-words p
 
     its-p : predOf k l ≡ some p
-    unfolding predOf predWordsOf
+    unfolding predOf wordsIn
     its-p = ap (λ x. readPred (readWords x)) t ∙ text-read p
 
     its-pred : thePred k l ≡ p
@@ -149,7 +149,7 @@ module _ (r : Reading) where
     unfolding row9
     r9 = rw (has, its-pred)
 
-    r10 : row10 r k l ≡ leavesSpan (r .model .variables) p
+    r10 : row10 r k l ≡ exceedsSpan (r .model .variables) p
     unfolding row10
     r10 = rw (has, its-pred)
 
@@ -174,34 +174,34 @@ module _ (r : Reading) where
   has-inv = refl
 
   pub init-fault : (p : Pred) → fault r init (lineOf (initLine p)) ≡ faultOf r (initLine p)
-  unfolding fault faultOf saidFault stateFault predFault numbersInRange row3 row4 row5 row8 row12 row13 row14 row15 row16 is place broken keyOf numbersSound
+  unfolding fault faultOf contentFault locationFault predFault numbersInRange row3 row4 row5 row8 row12 row13 row14 row15 row16 is place broken keyOf numbersSound
   init-fault p =
       let t = init-tokens p in
       rw (row2-of (initLine p), t, sounds-of p, r6 init (lineOf (initLine p)) p t has-init, r7 init (lineOf (initLine p)) p t has-init, its-words init (lineOf (initLine p)) p t has-init, r9 init (lineOf (initLine p)) p t has-init, r10 init (lineOf (initLine p)) p t has-init, r11 init (lineOf (initLine p)) p t has-init)
 
   pub inv-fault : (p : Pred) → fault r inv (lineOf (invLine p)) ≡ faultOf r (invLine p)
-  unfolding fault faultOf saidFault stateFault predFault numbersInRange row3 row4 row5 row8 row12 row13 row14 row15 row16 is place broken keyOf numbersSound
+  unfolding fault faultOf contentFault locationFault predFault numbersInRange row3 row4 row5 row8 row12 row13 row14 row15 row16 is place broken keyOf numbersSound
   inv-fault p =
       let t = inv-tokens p in
       rw (row2-of (invLine p), t, sounds-of p, r6 inv (lineOf (invLine p)) p t has-inv, r7 inv (lineOf (invLine p)) p t has-inv, its-words inv (lineOf (invLine p)) p t has-inv, r9 inv (lineOf (invLine p)) p t has-inv, r10 inv (lineOf (invLine p)) p t has-inv, r11 inv (lineOf (invLine p)) p t has-inv)
 
   pub format-fault : fault r format (lineOf formatLine) ≡ faultOf r formatLine
-  unfolding fault row3 row4 row5 row6 row7 row8 row9 row10 row11 row12 row13 row14 row15 row16 is place hasPred broken keyOf numbersSound field fields valueOf valueText faultOf saidFault numbersInRange
+  unfolding fault row3 row4 row5 row6 row7 row8 row9 row10 row11 row12 row13 row14 row15 row16 is place hasPred broken keyOf numbersSound field fields valueOf valueText faultOf contentFault numbersInRange
   format-fault = one-number r formatLine false refl (ap (λ s. not (within (pos 1) (pos 1) s)) (sole-field format (decimal 1) (decimal-free 1)) ∙ ap not (within-nat 1 1 1))
 
   pub variable-fault : (x : Range) → fault r variable (lineOf (variableLine x)) ≡ faultOf r (variableLine x)
-  unfolding fault faultOf saidFault numbersInRange row3 row4 row5 row6 row7 row8 row9 row10 row11 row12 row13 row14 row15 row16 is place hasPred broken keyOf numbersSound field fields valueOf valueText theRange syncList range every
+  unfolding fault faultOf contentFault numbersInRange row3 row4 row5 row6 row7 row8 row9 row10 row11 row12 row13 row14 row15 row16 is place hasPred broken keyOf numbersSound field fields valueOf valueText theRange syncList range every
   variable-fault x =
       let e = more-fields variable (signed (x .low)) (signed (x .high) ∷ []) (signed-free (x .low)) (signed-free (x .high), tt) in
       skip 2 (row2 variable (lineOf (variableLine x))) _ (row2-of (variableLine x)) ∙
-      ap (λ (q : List Bytes). broken 3 (not (every (within leastNumber greatestNumber) q)) (broken 4 (isCrossed (range (integer (getD q 0 [])) (integer (getD q 1 [])))) none)) e ∙
+      ap (λ (q : List Bytes). broken 3 (not (every (within leastNumber greatestNumber) q)) (broken 4 (isCrossed (range (integerOf (getD q 0 [])) (integerOf (getD q 1 [])))) none)) e ∙
       rw (within-signed leastNumber greatestNumber (x .low), within-signed leastNumber greatestNumber (x .high), and-true (between leastNumber greatestNumber (x .high)), integer-signed (x .low), integer-signed (x .high))
 
   pub sync-fault : (l : List ℕ) → fault r sync (lineOf (syncLine l)) ≡ faultOf r (syncLine l)
-  unfolding fault faultOf saidFault numbersInRange row3 row4 row5 row6 row7 row8 row9 row10 row11 row12 row13 row14 row15 row16 is place hasPred broken keyOf numbersSound field fields valueOf valueText theRange syncList range every
+  unfolding fault faultOf contentFault numbersInRange row3 row4 row5 row6 row7 row8 row9 row10 row11 row12 row13 row14 row15 row16 is place hasPred broken keyOf numbersSound field fields valueOf valueText theRange syncList range every
   sync-fault l =
       skip 2 (row2 sync (lineOf (syncLine l))) _ (row2-of (syncLine l)) ∙
-      ap (λ (v : Bytes). broken 3 (not (every (within (pos 0) (pos maxActions)) (listItems v))) (broken 5 (not (rises (r .model .actions) 0 (map count (listItems v))) || false) none)) (dropped (spelling sync) (textOfList l)) ∙
+      ap (λ (v : Bytes). broken 3 (not (every (within (pos 0) (pos maxActions)) (listItems v))) (broken 5 (not (rises (r .model .actions) 0 (map naturalOf (listItems v))) || false) none)) (dropped (spelling sync) (textOfList l)) ∙
       rw (list-back l, items-back l, every-decimal l, or-false (not (rises (r .model .actions) 0 l)))
 
   edge-tokens : (e : Edge) → predTokens edge (lineOf (edgeLine e)) ≡ tokens (textOfPred (e .update))
@@ -217,7 +217,7 @@ module _ (r : Reading) where
   edge-fields e = more-fields edge (decimal (e .from)) (decimal (e .action) ∷ decimal (e .to) ∷ textOfPred (e .update) ∷ []) (decimal-free (e .from)) (decimal-free (e .action), (decimal-free (e .to), (pred-free (e .update), tt)))
 
   pub edge-fault : (e : Edge) → fault r edge (lineOf (edgeLine e)) ≡ faultOf r (edgeLine e)
-  unfolding fault faultOf saidFault stateFault predFault numbersInRange row3 row4 row5 row8 row12 row13 row14 row15 row16 is place broken keyOf numbersSound field
+  unfolding fault faultOf contentFault locationFault predFault numbersInRange row3 row4 row5 row8 row12 row13 row14 row15 row16 is place broken keyOf numbersSound field
   edge-fault e =
       let t = edge-tokens e in
       rw (row2-of (edgeLine e), t, sounds-of (e .update), r6 edge (lineOf (edgeLine e)) (e .update) t has-edge, r7 edge (lineOf (edgeLine e)) (e .update) t has-edge, r9 edge (lineOf (edgeLine e)) (e .update) t has-edge, r10 edge (lineOf (edgeLine e)) (e .update) t has-edge, r11 edge (lineOf (edgeLine e)) (e .update) t has-edge, edge-fields e, within-zero lastLocation (e .from), within-zero maxActions (e .action), within-zero lastLocation (e .to), count-decimal (e .from), count-decimal (e .action), count-decimal (e .to))

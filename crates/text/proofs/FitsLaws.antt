@@ -11,7 +11,7 @@ use lib.Dec.{leb, ltb}
 use Rattle.model.specs.Basic.{between, every, sum}
 use Rattle.model.specs.Bounds.{maxActions, maxLocations, maxEdges, maxBytes, leastNumber, greatestNumber}
 use Rattle.model.specs.Predicate.{Pred, Range, Word, words, nodeCount, allOf, anyOf, notWord, impWord, eqWord, leWord, numWord, oldWord, newWord, addWord, subWord, mulWord, ifWord, stray}
-use Rattle.model.specs.Composition.{Tree, par, syn, leaf, nodes, treeNodes}
+use Rattle.model.specs.Composition.{Tree, par, syn, leaf, nodes, treeSize}
 use Rattle.model.specs.Model.{Location, Edge, Automaton, Model, edgeTotal}
 use Rattle.model.specs.Lines.{Entry, formatLine, actionsLine, variablesLine, variableLine, automataLine, syncLine, locationsLine, initLine, invLine, edgesLine, edgeLine, composeLine, keyOf, locationLines, automatonLines, lines}
 use Rattle.model.specs.Limits.{inRange, rises, treeRises, treeInRange}
@@ -132,8 +132,8 @@ nodes-size A (syn list c) a h r =
     omega arith
 nodes-size A (leaf k) a h r = let l = leb-true k _ r in let d = decimal-width 1 k (omega arith) in omega arith
 
-tree-size : (A : ℕ) (c : Tree) → A ≤ maxActions → treeRises A c ≡ true → treeInRange c ≡ true → length (textOfTree c) ≤ 194 * treeNodes c
-unfolding textOfTree treeNodes
+tree-size : (A : ℕ) (c : Tree) → A ≤ maxActions → treeRises A c ≡ true → treeInRange c ≡ true → length (textOfTree c) ≤ 194 * treeSize c
+unfolding textOfTree treeSize
 tree-size A c a h r = let w = nodes-size A c a h r in let j = size-joined space (flatMap spelledNode (nodes c)) in omega arith
 
 -- a line: its key, its value and LF

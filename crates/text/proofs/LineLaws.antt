@@ -20,8 +20,8 @@ use Rattle.model.specs.Predicate.{Pred, all, range}
 use Rattle.model.proofs.Parsing.{none-some}
 use Rattle.model.proofs.Tests.{and-left, and-right}
 use Rattle.text.specs.Bytes.{Bytes, begins, comma, joined, ledBy, parts}
-use Rattle.text.specs.Number.{count, decimal, integer, signed, within}
-use Rattle.text.specs.Rows.{Line, entry, fault, field, fieldCount, fields, hasPred, is, listItems, numbersSound, place, predOf, predTokens, predWordsOf, printable, row10, row11, row12, row13, row2, row3, row4, row5, row6, row7, row8, row9, syncList, thePred, theRange, theTree, treeTokens, treeNodesOf, treeOf, valueOf}
+use Rattle.text.specs.Number.{naturalOf, decimal, integerOf, signed, within}
+use Rattle.text.specs.Rows.{Line, entry, fault, field, fieldCount, fields, hasPred, is, listItems, numbersSound, place, predOf, predTokens, wordsIn, printable, row10, row11, row12, row13, row2, row3, row4, row5, row6, row7, row8, row9, syncList, thePred, theRange, theTree, treeTokens, nodesIn, treeOf, valueOf}
 use Rattle.text.specs.Spelling.{spelling, textOfList, textOfPred, textOfTree, valueText}
 use Rattle.text.specs.Tokens.{readNodes, readWords, sounds, tokens}
 use Rattle.text.proofs.BytesLaws.{joined-parts}
@@ -113,18 +113,18 @@ unfolding joined ledBy
 one-part v h = sym (joined-parts comma v) ∙ ap (joined comma) (list-1 (parts comma v) h) ∙ append-nil (getD (parts comma v) 0 [])
 
 -- the numbers of a line
-count-value : (lo hi : ℕ) (s : Bytes) → within (pos lo) (pos hi) s ≡ true → s ≡ decimal (count s)
+count-value : (lo hi : ℕ) (s : Bytes) → within (pos lo) (pos hi) s ≡ true → s ≡ decimal (naturalOf s)
 unfolding signed between
 count-value lo hi s h = let i = within-inv (pos lo) (pos hi) s h in go (i .0) (i .1) (i .2)
   where
-    go : (z : ℤ) → s ≡ signed z → between (pos lo) (pos hi) z ≡ true → s ≡ decimal (count s)
-    go (pos n) k l = k ∙ ap decimal (sym (ap count k ∙ count-decimal n))
+    go : (z : ℤ) → s ≡ signed z → between (pos lo) (pos hi) z ≡ true → s ≡ decimal (naturalOf s)
+    go (pos n) k l = k ∙ ap decimal (sym (ap naturalOf k ∙ count-decimal n))
     go (negsuc n) k l = absurd (false-true l)
 
-signed-value : (lo hi : ℤ) (s : Bytes) → within lo hi s ≡ true → s ≡ signed (integer s)
-signed-value lo hi s h = let i = within-inv lo hi s h in i .1 ∙ ap signed (sym (ap integer (i .1) ∙ integer-signed (i .0)))
+signed-value : (lo hi : ℤ) (s : Bytes) → within lo hi s ≡ true → s ≡ signed (integerOf s)
+signed-value lo hi s h = let i = within-inv lo hi s h in i .1 ∙ ap signed (sym (ap integerOf (i .1) ∙ integer-signed (i .0)))
 
-list-text : (v : Bytes) → every (within (pos 0) (pos maxActions)) (listItems v) ≡ true → v ≡ textOfList (map count (listItems v))
+list-text : (v : Bytes) → every (within (pos 0) (pos maxActions)) (listItems v) ≡ true → v ≡ textOfList (map naturalOf (listItems v))
 unfolding listItems textOfList
 list-text [] h = unfold joined in refl
 list-text (b ∷ t) h = sym (joined-parts comma (b ∷ t)) ∙ ap (joined comma) (items-decimal (parts comma (b ∷ t)) h)
@@ -137,7 +137,7 @@ p-written s (some q) e h k = read-text s q k e .text
 
 -- the value of a line, by its key
 module _ (l : Line) where
-  one-number : (k : Key) (lo hi : ℕ) → length (parts comma (valueOf k l)) ≡ 1 → within (pos lo) (pos hi) (getD (parts comma (valueOf k l)) 0 []) ≡ true → valueOf k l ≡ decimal (count (getD (parts comma (valueOf k l)) 0 []))
+  one-number : (k : Key) (lo hi : ℕ) → length (parts comma (valueOf k l)) ≡ 1 → within (pos lo) (pos hi) (getD (parts comma (valueOf k l)) 0 []) ≡ true → valueOf k l ≡ decimal (naturalOf (getD (parts comma (valueOf k l)) 0 []))
   one-number k lo hi h w = one-part (valueOf k l) h ∙ count-value lo hi (getD (parts comma (valueOf k l)) 0 []) w
 
   one-p : (k : Key) → length (parts comma (valueOf k l)) ≡ 1 → lacks (readPred (readWords (tokens (getD (parts comma (valueOf k l)) 0 [])))) ≡ false → sounds [] (tokens (getD (parts comma (valueOf k l)) 0 [])) ≡ true → valueOf k l ≡ textOfPred (orElse (all P.none) (readPred (readWords (tokens (getD (parts comma (valueOf k l)) 0 [])))))
@@ -155,7 +155,7 @@ module _ (l : Line) where
           k ∙ ap decimal z
       go (negsuc n) k m = absurd (false-true m)
 
-  two-numbers : (v : Bytes) → length (parts comma v) ≡ 2 → every (within leastNumber greatestNumber) (parts comma v) ≡ true → v ≡ joined comma (signed (integer (getD (parts comma v) 0 [])) ∷ signed (integer (getD (parts comma v) 1 [])) ∷ [])
+  two-numbers : (v : Bytes) → length (parts comma v) ≡ 2 → every (within leastNumber greatestNumber) (parts comma v) ≡ true → v ≡ joined comma (signed (integerOf (getD (parts comma v) 0 [])) ∷ signed (integerOf (getD (parts comma v) 1 [])) ∷ [])
   two-numbers v h w =
       let e = list-2 (parts comma v) h in
       let u : every (within leastNumber greatestNumber) (getD (parts comma v) 0 [] ∷ getD (parts comma v) 1 [] ∷ []) ≡ true = ap (every (within leastNumber greatestNumber)) (sym e) ∙ w in
@@ -163,7 +163,7 @@ module _ (l : Line) where
       let b = every-cons (within leastNumber greatestNumber) (getD (parts comma v) 1 []) [] (a .1) in
       sym (joined-parts comma v) ∙ ap (joined comma) e ∙
       ap (λ x. joined comma (x ∷ getD (parts comma v) 1 [] ∷ [])) (signed-value leastNumber greatestNumber (getD (parts comma v) 0 []) (a .0)) ∙
-      ap (λ x. joined comma (signed (integer (getD (parts comma v) 0 [])) ∷ x ∷ [])) (signed-value leastNumber greatestNumber (getD (parts comma v) 1 []) (b .0))
+      ap (λ x. joined comma (signed (integerOf (getD (parts comma v) 0 [])) ∷ x ∷ [])) (signed-value leastNumber greatestNumber (getD (parts comma v) 1 []) (b .0))
 
   four-parts : (v a b c d : Bytes) → length (parts comma v) ≡ 4 → getD (parts comma v) 0 [] ≡ a → getD (parts comma v) 1 [] ≡ b → getD (parts comma v) 2 [] ≡ c → getD (parts comma v) 3 [] ≡ d → v ≡ joined comma (a ∷ b ∷ c ∷ d ∷ [])
   four-parts v a b c d h ea eb ec ed = sym (joined-parts comma v) ∙ ap (joined comma) (list-4 (parts comma v) h ∙ rw (ea, eb, ec, ed))
@@ -175,7 +175,7 @@ c-written s none e h k = absurd (false-true (sym h))
 c-written s (some c) e h k = tree-law s c k e
 
 value-written : (k : Key) (l : Line) → length (fields k l) ≡ fieldCount k → numbersSound k l ≡ true → row6 k l ≡ false → row13 k l ≡ false → valueOf k l ≡ valueText (entry k l)
-unfolding numbersSound fields field fieldCount is place entry valueText row6 row13 hasPred predOf predWordsOf predTokens thePred theTree treeOf treeTokens treeNodesOf syncList theRange range
+unfolding numbersSound fields field fieldCount is place entry valueText row6 row13 hasPred predOf wordsIn predTokens thePred theTree treeOf treeTokens nodesIn syncList theRange range
 value-written format l c n s t = one-part (valueOf format l) c ∙ format-value l (getD (parts comma (valueOf format l)) 0 []) n
 value-written actions l c n s t = one-number l actions 0 maxActions c n
 value-written variables l c n s t = one-number l variables 0 maxVariables c n

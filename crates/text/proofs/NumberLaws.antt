@@ -12,7 +12,7 @@ use lib.Dec.{eqb, leb}
 use lib.IntN.{ℤ, pos, negsuc}
 use Rattle.model.proofs.Parsing.{got, none-some}
 use Rattle.text.specs.Bytes.{Bytes, minus}
-use Rattle.text.specs.Number.{decimal, decimalIn, digit, digits, natural, negative, number, positive, signed}
+use Rattle.text.specs.Number.{decimal, decimalIn, digit, digits, natural, negative, number, unsigned, signed}
 
 pub false-true : false ≡ true → ⊥
 false-true h = true≢false (sym h)
@@ -178,12 +178,12 @@ decimal-natural (b ∷ c ∷ t) n e = go (eqb b 48) refl e
     go false h k = print-first b (c ∷ t) n (eqb-false b 48 h) k
 
 -- with the sign
-number-plain : (b : ℕ) (t : Bytes) → 46 ≤ b → number (b ∷ t) ≡ positive (natural (b ∷ t))
+number-plain : (b : ℕ) (t : Bytes) → 46 ≤ b → number (b ∷ t) ≡ unsigned (natural (b ∷ t))
 unfolding number
 number-plain b t h = rw (ne-eqb b 45 (omega arith), number)
 
-positive-some : (n : ℕ) → positive (some n) ≡ some (pos n)
-unfolding positive
+positive-some : (n : ℕ) → unsigned (some n) ≡ some (pos n)
+unfolding unsigned
 positive-some n = refl
 
 -- a number with its sign is read as the number
@@ -192,11 +192,11 @@ unfolding signed
 number-signed (pos n) =
     let l = leading n in
     let f : 48 ≤ l .first = l .low in
-    ap number (l .whole) ∙ number-plain (l .first) (l .rest) (omega arith) ∙ ap (λ s. positive (natural s)) (sym (l .whole)) ∙ ap positive (natural-decimal n) ∙ positive-some n
+    ap number (l .whole) ∙ number-plain (l .first) (l .rest) (omega arith) ∙ ap (λ s. unsigned (natural s)) (sym (l .whole)) ∙ ap unsigned (natural-decimal n) ∙ positive-some n
 number-signed (negsuc n) = unfold number negative in rw (natural-decimal (suc n))
 
-positive-inv : (o : Option ℕ) (z : ℤ) → positive o ≡ some z → (n : ℕ) × (o ≡ some n) × (pos n ≡ z)
-unfolding positive
+positive-inv : (o : Option ℕ) (z : ℤ) → unsigned o ≡ some z → (n : ℕ) × (o ≡ some n) × (pos n ≡ z)
+unfolding unsigned
 positive-inv none z e = absurd (none-some z e)
 positive-inv (some n) z e = (n, refl, got _ _ e)
 
@@ -212,7 +212,7 @@ unfolding number signed
 signed-number [] z e = absurd (none-some z e)
 signed-number (b ∷ t) z e = go (eqb b 45) refl e
   where
-    go : (v : Bool) → eqb b 45 ≡ v → elim v [ true ↦ negative (natural t) | false ↦ positive (natural (b ∷ t)) ] ≡ some z → b ∷ t ≡ signed z
+    go : (v : Bool) → eqb b 45 ≡ v → elim v [ true ↦ negative (natural t) | false ↦ unsigned (natural (b ∷ t)) ] ≡ some z → b ∷ t ≡ signed z
     go true h k =
         let i = negative-inv (natural t) z k in
         ap (λ c. c ∷ t) (eqb-true b 45 h) ∙ ap (λ u. minus ∷ u) (decimal-natural t (suc (i .0)) (i .1)) ∙ ap signed (i .2)

@@ -61,7 +61,7 @@ quiet = bytes "edges=0" ∷ []
 abbrev heavyEdge : Bytes → Bytes
 heavyEdge more = bytes "edge=0,1,0," ++ (more ++ (bytes "all 341" ++ times 341 (bytes " not not not eq v0 0")))
 
-abbrev heavy : Bytes → Bytes
+abbrev pub heavy : Bytes → Bytes
 heavy more = small true' true' (bytes "edges=2" ∷ heavyEdge [] ∷ heavyEdge more ∷ []) (bytes "a0")
 
 abbrev ovenCases : List Case

@@ -16,9 +16,9 @@ use Rattle.model.specs.Limits.{inRange}
 use Rattle.model.specs.Predicate.{Word, all, allOf, any, anyOf, newWord, numWord, oldWord, stray}
 use Rattle.model.proofs.Tests.{and-intro, and-left, and-right, or-cases}
 use Rattle.text.specs.Bytes.{'a, 'n, 'v, Bytes, bytes}
-use Rattle.text.specs.Number.{count, decimal, digit, integer, isBetween, number, signed, within}
+use Rattle.text.specs.Number.{naturalOf, decimal, digit, integerOf, isBetween, number, signed, within}
 use Rattle.text.specs.Spelling.{spelled}
-use Rattle.text.specs.Tokens.{Numeral, bare, counted, find, judged, lastAfter, lettered, numeral, readWords, sound, sounds, spellings, unjudged, variableWord, word}
+use Rattle.text.specs.Tokens.{Numeral, bare, counted, find, numberSound, lastAfter, lettered, numeral, readWords, sound, sounds, spellings, unjudged, variableWord, word}
 use Rattle.text.proofs.BytesLaws.{Free, same-is}
 use Rattle.text.proofs.NumberLaws.{digit-is, false-true, signed-number}
 use Rattle.text.proofs.TokenLaws.{Plain, count-decimal, counted-bare, every-cons, integer-signed, judged-plain, plain-by, plain-first, plain-letter-n, plain-letter-v, read-all, read-any, read-nil, read-one, sound-bare, sound-lettered, sounds-step, word-bare, word-lettered, word-unjudged}
@@ -127,52 +127,52 @@ spellings-good = (
   ),
 )
 
-good-num : (t s : Bytes) → t ≡ s → Plain t → within leastNumber greatestNumber s ≡ true → Good t (numWord (integer s))
+good-num : (t s : Bytes) → t ≡ s → Plain t → within leastNumber greatestNumber s ≡ true → Good t (numWord (integerOf s))
 good-num t s e p h =
     let i = within-inv leastNumber greatestNumber s h in
-    let x : integer s ≡ i .0 = ap integer (i .1) ∙ integer-signed (i .0) in
+    let x : integerOf s ≡ i .0 = ap integerOf (i .1) ∙ integer-signed (i .0) in
     rw x (record { spells = unfold spelled in ap (λ u. u ∷ []) (sym (i .1) ∙ sym e); ranged = unfold inRange in i .2; no-syn = p .no-syn })
 
 -- a variable's number
-pub number-of : (h : ℕ) (s : Bytes) → within (pos 0) (pos h) s ≡ true → (s ≡ decimal (count s)) × (leb (count s) h ≡ true)
+pub number-of : (h : ℕ) (s : Bytes) → within (pos 0) (pos h) s ≡ true → (s ≡ decimal (naturalOf s)) × (leb (naturalOf s) h ≡ true)
 number-of h s e =
     let i = natural-inv h s e in
-    let x : count s ≡ i .0 = ap count (i .1) ∙ count-decimal (i .0) in
-    let y : s ≡ decimal (count s) = i .1 ∙ ap decimal (sym x) in
+    let x : naturalOf s ≡ i .0 = ap naturalOf (i .1) ∙ count-decimal (i .0) in
+    let y : s ≡ decimal (naturalOf s) = i .1 ∙ ap decimal (sym x) in
     (y, ap (λ n. leb n h) x ∙ le-leb (i .0) h (i .2))
 
 -- a list of actions
-pub items-decimal : (ss : List Bytes) → every (within (pos 0) (pos maxActions)) ss ≡ true → ss ≡ map decimal (map count ss)
+pub items-decimal : (ss : List Bytes) → every (within (pos 0) (pos maxActions)) ss ≡ true → ss ≡ map decimal (map naturalOf ss)
 items-decimal [] h = refl
 items-decimal (s ∷ ss) h =
     let i = every-cons (within (pos 0) (pos maxActions)) s ss h in
-    ap (λ u. u ∷ ss) (number-of maxActions s (i .0) .0) ∙ ap (λ l. decimal (count s) ∷ l) (items-decimal ss (i .1))
+    ap (λ u. u ∷ ss) (number-of maxActions s (i .0) .0) ∙ ap (λ l. decimal (naturalOf s) ∷ l) (items-decimal ss (i .1))
 
-good-old : (t s : Bytes) (a : ℕ) → t ≡ a ∷ s → a ≡ 'v → within (pos 0) (lastAfter a) s ≡ true → Good t (oldWord (count s))
+good-old : (t s : Bytes) (a : ℕ) → t ≡ a ∷ s → a ≡ 'v → within (pos 0) (lastAfter a) s ≡ true → Good t (oldWord (naturalOf s))
 unfolding spelled inRange lastAfter
 good-old t s a e f h =
     let x : within (pos 0) (pos lastVariable) s ≡ true = ap (λ c. within (pos 0) (lastAfter c) s) (sym f) ∙ h in
     let i = number-of lastVariable s x in
-    let y : t ≡ 'v ∷ decimal (count s) = e ∙ ap (λ c. c ∷ s) f ∙ ap (λ u. 'v ∷ u) (i .0) in
-    record { spells = ap (λ u. u ∷ []) (sym y); ranged = i .1; no-syn = ap (λ u. same u (bytes "syn")) y ∙ plain-letter-v (decimal (count s)) .no-syn }
+    let y : t ≡ 'v ∷ decimal (naturalOf s) = e ∙ ap (λ c. c ∷ s) f ∙ ap (λ u. 'v ∷ u) (i .0) in
+    record { spells = ap (λ u. u ∷ []) (sym y); ranged = i .1; no-syn = ap (λ u. same u (bytes "syn")) y ∙ plain-letter-v (decimal (naturalOf s)) .no-syn }
 
-good-new : (t s : Bytes) (a : ℕ) → t ≡ a ∷ s → a ≡ 'n → within (pos 0) (lastAfter a) s ≡ true → Good t (newWord (count s))
+good-new : (t s : Bytes) (a : ℕ) → t ≡ a ∷ s → a ≡ 'n → within (pos 0) (lastAfter a) s ≡ true → Good t (newWord (naturalOf s))
 unfolding spelled inRange lastAfter
 good-new t s a e f h =
     let x : within (pos 0) (pos lastVariable) s ≡ true = ap (λ c. within (pos 0) (lastAfter c) s) (sym f) ∙ h in
     let i = number-of lastVariable s x in
-    let y : t ≡ 'n ∷ decimal (count s) = e ∙ ap (λ c. c ∷ s) f ∙ ap (λ u. 'n ∷ u) (i .0) in
-    record { spells = ap (λ u. u ∷ []) (sym y); ranged = i .1; no-syn = ap (λ u. same u (bytes "syn")) y ∙ plain-letter-n (decimal (count s)) .no-syn }
+    let y : t ≡ 'n ∷ decimal (naturalOf s) = e ∙ ap (λ c. c ∷ s) f ∙ ap (λ u. 'n ∷ u) (i .0) in
+    record { spells = ap (λ u. u ∷ []) (sym y); ranged = i .1; no-syn = ap (λ u. same u (bytes "syn")) y ∙ plain-letter-n (decimal (naturalOf s)) .no-syn }
 
-good-variable : (t s : Bytes) (a : ℕ) → t ≡ a ∷ s → within (pos 0) (lastAfter a) s ≡ true → (variableWord a (count s) ≡ stray → ⊥) → Good t (variableWord a (count s))
+good-variable : (t s : Bytes) (a : ℕ) → t ≡ a ∷ s → within (pos 0) (lastAfter a) s ≡ true → (variableWord a (naturalOf s) ≡ stray → ⊥) → Good t (variableWord a (naturalOf s))
 unfolding variableWord
 good-variable t s a e h n = go (eqb a 'v) refl n
   where
-    last : (v : Bool) → eqb a 'n ≡ v → (elim v [ true ↦ newWord (count s) | false ↦ stray ] ≡ stray → ⊥) → Good t (elim v [ true ↦ newWord (count s) | false ↦ stray ])
+    last : (v : Bool) → eqb a 'n ≡ v → (elim v [ true ↦ newWord (naturalOf s) | false ↦ stray ] ≡ stray → ⊥) → Good t (elim v [ true ↦ newWord (naturalOf s) | false ↦ stray ])
     last true k m = good-new t s a e (eqb-true a 'n k) h
     last false k m = absurd (m refl)
 
-    go : (v : Bool) → eqb a 'v ≡ v → (elim v [ true ↦ oldWord (count s) | false ↦ elim (eqb a 'n) [ true ↦ newWord (count s) | false ↦ stray ] ] ≡ stray → ⊥) → Good t (elim v [ true ↦ oldWord (count s) | false ↦ elim (eqb a 'n) [ true ↦ newWord (count s) | false ↦ stray ] ])
+    go : (v : Bool) → eqb a 'v ≡ v → (elim v [ true ↦ oldWord (naturalOf s) | false ↦ elim (eqb a 'n) [ true ↦ newWord (naturalOf s) | false ↦ stray ] ] ≡ stray → ⊥) → Good t (elim v [ true ↦ oldWord (naturalOf s) | false ↦ elim (eqb a 'n) [ true ↦ newWord (naturalOf s) | false ↦ stray ] ])
     go true k m = good-old t s a e (eqb-true a 'v k) h
     go false k m = last (eqb a 'n) refl m
 
@@ -191,19 +191,19 @@ one b t p h n = go (numeral t) refl
         rw e (good-variable t s a (lettered-is t s a k) (sym (judged-plain b s (pos 0) (lastAfter a) p) ∙ sym (sound-lettered b t s a k) ∙ h) (λ q. n (e ∙ q)))
 
 -- a count
-counted-good : (w : ℕ → Word) (b k : Bytes) → ((s : Bytes) (lo hi : ℤ) → judged b s lo hi ≡ within (pos 0) (pos maxOperands) s) → sound b k ≡ true → (counted w k ≡ stray → ⊥) → (counted w k ≡ w (count k)) × (k ≡ decimal (count k)) × (leb (count k) maxOperands ≡ true) × Plain k
+counted-good : (w : ℕ → Word) (b k : Bytes) → ((s : Bytes) (lo hi : ℤ) → numberSound b s lo hi ≡ within (pos 0) (pos maxOperands) s) → sound b k ≡ true → (counted w k ≡ stray → ⊥) → (counted w k ≡ w (naturalOf k)) × (k ≡ decimal (naturalOf k)) × (leb (naturalOf k) maxOperands ≡ true) × Plain k
 counted-good w b k j h n = go (numeral k) refl
   where
-    other : (x : Numeral) → numeral k ≡ x → counted w k ≡ elim x [ unjudged ↦ stray | bare s ↦ w (count s) | lettered a s ↦ stray ]
-    other x e = unfold counted in ap (λ (y : Numeral). elim y as (λ q. Word) [ unjudged ↦ stray | bare s ↦ w (count s) | lettered a s ↦ stray ]) e
+    other : (x : Numeral) → numeral k ≡ x → counted w k ≡ elim x [ unjudged ↦ stray | bare s ↦ w (naturalOf s) | lettered a s ↦ stray ]
+    other x e = unfold counted in ap (λ (y : Numeral). elim y as (λ q. Word) [ unjudged ↦ stray | bare s ↦ w (naturalOf s) | lettered a s ↦ stray ]) e
 
-    go : (x : Numeral) → numeral k ≡ x → (counted w k ≡ w (count k)) × (k ≡ decimal (count k)) × (leb (count k) maxOperands ≡ true) × Plain k
+    go : (x : Numeral) → numeral k ≡ x → (counted w k ≡ w (naturalOf k)) × (k ≡ decimal (naturalOf k)) × (leb (naturalOf k) maxOperands ≡ true) × Plain k
     go unjudged e = absurd (n (other unjudged e))
     go (lettered a s) e = absurd (n (other (lettered a s) e))
     go (bare s) e =
         let i = bare-is k s e in
         let x = number-of maxOperands k (ap (within (pos 0) (pos maxOperands)) (i .0) ∙ sym (j s leastNumber greatestNumber) ∙ sym (sound-bare b k s e) ∙ h) in
-        (counted-bare w k s e ∙ ap (λ u. w (count u)) (sym (i .0)), x .0, x .1, i .1)
+        (counted-bare w k s e ∙ ap (λ u. w (naturalOf u)) (sym (i .0)), x .0, x .1, i .1)
 
 -- all the tokens
 pub sounds-inv : (b t : Bytes) (ts : List Bytes) → sounds b (t ∷ ts) ≡ true → (sound b t ≡ true) × (sounds t ts ≡ true)
@@ -219,20 +219,20 @@ spells-one : (w : Word) (t : Bytes) (ws : List Word) (ts : List Bytes) → Good 
 unfolding flatMap every
 spells-one w t ws ts g s = record { spells = ap (λ l. l ++ flatMap spelled ws) (g .spells) ∙ ap (λ l. t ∷ l) (s .spells); ranged = and-intro (g .ranged) (s .ranged) }
 
-spells-all : (k : Bytes) (ws : List Word) (ts : List Bytes) → k ≡ decimal (count k) → leb (count k) maxOperands ≡ true → Spells ws ts → Spells (allOf (count k) ∷ ws) (bytes "all" ∷ k ∷ ts)
+spells-all : (k : Bytes) (ws : List Word) (ts : List Bytes) → k ≡ decimal (naturalOf k) → leb (naturalOf k) maxOperands ≡ true → Spells ws ts → Spells (allOf (naturalOf k) ∷ ws) (bytes "all" ∷ k ∷ ts)
 unfolding flatMap spelled inRange every
 spells-all k ws ts e h s = record { spells = ap (λ u. bytes "all" ∷ u ∷ flatMap spelled ws) (sym e) ∙ ap (λ l. bytes "all" ∷ k ∷ l) (s .spells); ranged = and-intro h (s .ranged) }
 
-spells-any : (k : Bytes) (ws : List Word) (ts : List Bytes) → k ≡ decimal (count k) → leb (count k) maxOperands ≡ true → Spells ws ts → Spells (anyOf (count k) ∷ ws) (bytes "any" ∷ k ∷ ts)
+spells-any : (k : Bytes) (ws : List Word) (ts : List Bytes) → k ≡ decimal (naturalOf k) → leb (naturalOf k) maxOperands ≡ true → Spells ws ts → Spells (anyOf (naturalOf k) ∷ ws) (bytes "any" ∷ k ∷ ts)
 unfolding flatMap spelled inRange every
 spells-any k ws ts e h s = record { spells = ap (λ u. bytes "any" ∷ u ∷ flatMap spelled ws) (sym e) ∙ ap (λ l. bytes "any" ∷ k ∷ l) (s .spells); ranged = and-intro h (s .ranged) }
 
-judged-all : (s : Bytes) (lo hi : ℤ) → judged (bytes "all") s lo hi ≡ within (pos 0) (pos maxOperands) s
-unfolding judged same
+judged-all : (s : Bytes) (lo hi : ℤ) → numberSound (bytes "all") s lo hi ≡ within (pos 0) (pos maxOperands) s
+unfolding numberSound same
 judged-all s lo high = refl
 
-judged-any : (s : Bytes) (lo hi : ℤ) → judged (bytes "any") s lo hi ≡ within (pos 0) (pos maxOperands) s
-unfolding judged same
+judged-any : (s : Bytes) (lo hi : ℤ) → numberSound (bytes "any") s lo hi ≡ within (pos 0) (pos maxOperands) s
+unfolding numberSound same
 judged-any s lo high = refl
 
 back-all : (b k : Bytes) (ts : List Bytes) → sounds b (bytes "all" ∷ k ∷ ts) ≡ true → Free stray (readWords (bytes "all" ∷ k ∷ ts)) → (Plain k → sounds k ts ≡ true → Free stray (readWords ts) → Spells (readWords ts) ts) → Spells (readWords (bytes "all" ∷ k ∷ ts)) (bytes "all" ∷ k ∷ ts)

@@ -7,7 +7,7 @@ use mathlib.Core.Option.{Option, none, some}
 use native.Mathlib.Omega.{arith}
 use lib.ListN.{length}
 use Rattle.model.specs.Bounds.{maxBytes, tableWords}
-use Rattle.model.specs.Lines.{Key, Reading, atFirst, dueAtFirst, taken, thenDue}
+use Rattle.model.specs.Lines.{Key, Reading, atFirst, dueAtFirst, noted, thenDue}
 use Rattle.text.specs.Bytes.{Bytes}
 use Rattle.text.specs.Reader.{linesOf, read, readAnswer, refused}
 use Rattle.text.specs.Rows.{Line, entry, fault}
@@ -19,7 +19,7 @@ pub data Stops : Reading → List Key → List Line → (row n : ℕ) → Type 0
   extra : {r : Reading} {l : Line} {ls : List Line} → Stops r [] (l ∷ ls) 2 1
   lacking : {r : Reading} {k : Key} {ks : List Key} → Stops r (k ∷ ks) [] 2 1
   faulty : {r : Reading} {k : Key} {ks : List Key} {l : Line} {ls : List Line} {row : ℕ} → fault r k l ≡ some row → Stops r (k ∷ ks) (l ∷ ls) row 1
-  later : {r : Reading} {k : Key} {ks : List Key} {l : Line} {ls : List Line} {row n : ℕ} → fault r k l ≡ none → Stops (taken r (entry k l)) (thenDue (entry k l) ++ ks) ls row n → Stops r (k ∷ ks) (l ∷ ls) row (suc n)
+  later : {r : Reading} {k : Key} {ks : List Key} {l : Line} {ls : List Line} {row n : ℕ} → fault r k l ≡ none → Stops (noted r (entry k l)) (thenDue (entry k l) ++ ks) ls row n → Stops r (k ∷ ks) (l ∷ ls) row (suc n)
 
 stops-read : {r : Reading} {ks : List Key} {ls : List Line} {row n : ℕ} (m : ℕ) → Stops r ks ls row n → read r ks (suc m) ls ≡ refused row (m + n)
 stops-read m extra = unfold read in ap (refused 2) (omega arith)
@@ -48,9 +48,9 @@ unfolding read
 read-stops [] r [] m row line h = absurd (no-refusal row line (r .model) (sym h))
 read-stops [] r (k ∷ ks) m row line h = here r (k ∷ ks) [] m 2 row line lacking h
 read-stops (l ∷ ls) r [] m row line h = here r [] (l ∷ ls) m 2 row line extra h
-read-stops (l ∷ ls) r (k ∷ ks) m row line h = go (read-stops ls (taken r (entry k l)) (thenDue (entry k l) ++ ks) (suc m) row line) (fault r k l) refl h
+read-stops (l ∷ ls) r (k ∷ ks) m row line h = go (read-stops ls (noted r (entry k l)) (thenDue (entry k l) ++ ks) (suc m) row line) (fault r k l) refl h
   where
-    go : (read (taken r (entry k l)) (thenDue (entry k l) ++ ks) (suc (suc m)) ls ≡ refused row line → StopsAt (taken r (entry k l)) (thenDue (entry k l) ++ ks) ls (suc m) row line) → (o : Option ℕ) → fault r k l ≡ o → elim o [ some at ↦ refused at (suc m) | none ↦ read (taken r (entry k l)) (thenDue (entry k l) ++ ks) (suc (suc m)) ls ] ≡ refused row line → StopsAt r (k ∷ ks) (l ∷ ls) m row line
+    go : (read (noted r (entry k l)) (thenDue (entry k l) ++ ks) (suc (suc m)) ls ≡ refused row line → StopsAt (noted r (entry k l)) (thenDue (entry k l) ++ ks) ls (suc m) row line) → (o : Option ℕ) → fault r k l ≡ o → elim o [ some at ↦ refused at (suc m) | none ↦ read (noted r (entry k l)) (thenDue (entry k l) ++ ks) (suc (suc m)) ls ] ≡ refused row line → StopsAt r (k ∷ ks) (l ∷ ls) m row line
     go ih (some at) e g = here r (k ∷ ks) (l ∷ ls) m at row line (faulty e) g
     go ih none e g =
         let s = ih g in

@@ -10,7 +10,7 @@ use Rattle.model.specs.Judge.{marked, yes, no, Call, step, environment}
 use Rattle.text.specs.Bytes.{Bytes, bytes}
 use Rattle.text.proofs.Computing.{computing}
 use Rattle.text.proofs.Cases.{sheet, times, Case, accepts, refuses, refusesTable, answers, answersTable, prints, writes, merges, refusesWrite, refusesMerge, sameBool, sameAnswer, tableOfText, refusedWith, passes, failing}
-use Rattle.text.proofs.Oven.{oven, ovenMerged, small, true', quiet}
+use Rattle.text.proofs.Oven.{oven, ovenMerged, small, true', quiet, heavy}
 
 -- the start of a sheet with some variables' lines, and one automaton around an init
 abbrev begin : Bytes
@@ -27,18 +27,30 @@ moving edges = small true' true' edges (bytes "a0")
 abbrev composed : Bytes → Bytes
 composed c = small true' true' quiet c
 
+-- two actions, and an edge with this one
+abbrev acting : Bytes → Bytes
+acting a = begin ++ (bytes "variable=0,1\nautomata=1\nsync=\nlocations=1\ninit=all 0\ninv=all 0\nedges=1\nedge=0," ++ (a ++ bytes ",0,all 0\ncompose=a0\n"))
+
+-- two automata, composed so
+abbrev paired : Bytes → Bytes
+paired c =
+    sheet (bytes "format=1" ∷ bytes "actions=0" ∷ bytes "variables=0" ∷ bytes "automata=2" ∷ (one ++ (one ++ (bytes "compose=" ++ c) ∷ [])))
+  where
+    one : List Bytes
+    one = bytes "sync=" ∷ bytes "locations=1" ∷ bytes "init=all 0" ∷ bytes "inv=all 0" ∷ bytes "edges=0" ∷ []
+
 -- two automata in parallel that share action 1 and have so many edges for it
 abbrev edgesOf : ℕ → List Bytes
 edgesOf zero = []
 edgesOf (suc n) = bytes "edge=0,1,0,all 0" ∷ edgesOf n
 
 abbrev sharer : Bytes → ℕ → List Bytes
-sharer count n = bytes "sync=1" ∷ bytes "locations=1" ∷ bytes "init=all 0" ∷ bytes "inv=all 0" ∷ (bytes "edges=" ++ count) ∷ edgesOf n
+sharer naturalOf n = bytes "sync=1" ∷ bytes "locations=1" ∷ bytes "init=all 0" ∷ bytes "inv=all 0" ∷ (bytes "edges=" ++ naturalOf) ∷ edgesOf n
 
-abbrev sharing : (count : Bytes) (n : ℕ) (count' : Bytes) (n' : ℕ) → Bytes
-sharing count n count' n' =
+abbrev sharing : (naturalOf : Bytes) (n : ℕ) (count' : Bytes) (n' : ℕ) → Bytes
+sharing naturalOf n count' n' =
     sheet (bytes "format=1" ∷ bytes "actions=1" ∷ bytes "variables=0" ∷ bytes "automata=2" ∷
-    (sharer count n ++ (sharer count' n' ++ bytes "compose=par a0 a1" ∷ [])))
+    (sharer naturalOf n ++ (sharer count' n' ++ bytes "compose=par a0 a1" ∷ [])))
 
 -- V variables and nine automata
 abbrev manyVariables : ℕ → List Bytes
@@ -53,8 +65,8 @@ nine = quietOnes 9
     quietOnes (suc n) = bytes "sync=" ∷ bytes "locations=1" ∷ bytes "init=all 0" ∷ bytes "inv=all 0" ∷ bytes "edges=0" ∷ quietOnes n
 
 abbrev wide : Bytes → ℕ → Bytes
-wide count n =
-    sheet (bytes "format=1" ∷ bytes "actions=0" ∷ (bytes "variables=" ++ count) ∷ (manyVariables n ++
+wide naturalOf n =
+    sheet (bytes "format=1" ∷ bytes "actions=0" ∷ (bytes "variables=" ++ naturalOf) ∷ (manyVariables n ++
     (bytes "automata=9" ∷ (nine ++ bytes "compose=par a0 par a1 par a2 par a3 par a4 par a5 par a6 par a7 a8" ∷ []))))
 
 -- 512 edges whose updates have two nodes, so that each merged edge has nine; or one node, so that it has eight
@@ -63,7 +75,7 @@ heavyEdges zero p = []
 heavyEdges (suc n) p = (bytes "edge=0,0,0," ++ p) ∷ heavyEdges n p
 
 abbrev manyNodes : Bytes → ℕ → Bytes → Bytes
-manyNodes count n p = moving ((bytes "edges=" ++ count) ∷ heavyEdges n p)
+manyNodes naturalOf n p = moving ((bytes "edges=" ++ naturalOf) ∷ heavyEdges n p)
 
 -- a call on the oven
 abbrev call : (phase : ℕ) (locations : List ℕ) (v0 action : ℕ) → Call
@@ -85,9 +97,13 @@ refusedCases =
     refuses (small (times 24 (bytes "not ") ++ true') true' quiet (bytes "a0")) 9 8 ∷
     refuses (ranged (bytes "0,2000") (bytes "eq mul mul v0 v0 v0 0")) 10 8 ∷
     accepts (ranged (bytes "0,1290") (bytes "eq mul mul v0 v0 v0 0")) ∷
-    refuses (moving (bytes "edges=1" ∷ bytes "edge=0,3,0,all 0" ∷ [])) 12 11 ∷
+    refuses (heavy (bytes "not ")) 11 12 ∷
+    accepts (heavy []) ∷
+    refuses (acting (bytes "3")) 12 11 ∷
+    accepts (acting (bytes "2")) ∷
     refuses (composed (bytes "par a0")) 13 11 ∷
-    refuses (composed (bytes "par a1 a0")) 14 11 ∷
+    refuses (paired (bytes "par a1 a0")) 14 15 ∷
+    accepts (paired (bytes "par a0 a1")) ∷
     refuses (sharing (bytes "300") 300 (bytes "213") 0) 15 314 ∷
     refuses (composed (times 64 (bytes "syn 1 ") ++ bytes "a0")) 16 11 ∷
     accepts (composed (times 63 (bytes "syn 1 ") ++ bytes "a0")) ∷

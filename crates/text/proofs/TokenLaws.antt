@@ -13,9 +13,9 @@ use Rattle.model.specs.Limits.{inRange}
 use Rattle.model.specs.Predicate.{Word, add, addWord, all, allOf, any, anyOf, eq, eqWord, ifWord, imp, impWord, le, leWord, mul, mulWord, newWord, notWord, numWord, oldWord, stray, sub, subWord}
 use Rattle.model.proofs.Tests.{and-intro, and-left, and-right}
 use Rattle.text.specs.Bytes.{'n, 'v, Bytes, bytes, minus}
-use Rattle.text.specs.Number.{count, decimal, digit, integer, isBetween, signed, within}
+use Rattle.text.specs.Number.{naturalOf, decimal, digit, integerOf, isBetween, signed, within}
 use Rattle.text.specs.Spelling.{spelled}
-use Rattle.text.specs.Tokens.{bare, counted, find, judged, lastAfter, lettered, numeral, readWords, sound, sounds, spellings, unjudged, variableWord, word}
+use Rattle.text.specs.Tokens.{bare, counted, find, numberSound, lastAfter, lettered, numeral, readWords, sound, sounds, spellings, unjudged, variableWord, word}
 use Rattle.text.proofs.BytesLaws.{Free, differ-first}
 use Rattle.text.proofs.NumberLaws.{false-true, is-digit, leading, natural-decimal, number-signed}
 
@@ -98,12 +98,12 @@ within-decimal : (h n : ℕ) → n ≤ h → within (pos 0) (pos h) (decimal n) 
 unfolding signed between
 within-decimal h n l = within-signed (pos 0) (pos h) (pos n) ∙ rw (le-leb 0 n (omega arith), le-leb n h l)
 
-pub integer-signed : (z : ℤ) → integer (signed z) ≡ z
-unfolding integer orElse
+pub integer-signed : (z : ℤ) → integerOf (signed z) ≡ z
+unfolding integerOf orElse
 integer-signed z = rw (number-signed z)
 
-pub count-decimal : (n : ℕ) → count (decimal n) ≡ n
-unfolding count orElse
+pub count-decimal : (n : ℕ) → naturalOf (decimal n) ≡ n
+unfolding naturalOf orElse
 count-decimal n = rw (natural-decimal n)
 
 -- one token, by its numeral
@@ -111,17 +111,17 @@ sound-unjudged : (b t : Bytes) → numeral t ≡ unjudged → sound b t ≡ true
 unfolding sound
 sound-unjudged b t h = rw (h, sound)
 
-pub sound-bare : (b t s : Bytes) → numeral t ≡ bare s → sound b t ≡ judged b s leastNumber greatestNumber
+pub sound-bare : (b t s : Bytes) → numeral t ≡ bare s → sound b t ≡ numberSound b s leastNumber greatestNumber
 unfolding sound
 sound-bare b t s h = rw (h, sound)
 
-pub sound-lettered : (b t s : Bytes) (c : ℕ) → numeral t ≡ lettered c s → sound b t ≡ judged b s (pos 0) (lastAfter c)
+pub sound-lettered : (b t s : Bytes) (c : ℕ) → numeral t ≡ lettered c s → sound b t ≡ numberSound b s (pos 0) (lastAfter c)
 unfolding sound
 sound-lettered b t s c h = rw (h, sound)
 
-pub judged-plain : (b s : Bytes) (lo hi : ℤ) → Plain b → judged b s lo hi ≡ within lo hi s
-unfolding judged
-judged-plain b s lo hi h = rw (h .no-all, h .no-any, h .no-syn, judged)
+pub judged-plain : (b s : Bytes) (lo hi : ℤ) → Plain b → numberSound b s lo hi ≡ within lo hi s
+unfolding numberSound
+judged-plain b s lo hi h = rw (h .no-all, h .no-any, h .no-syn, numberSound)
 
 -- what the words spell is sound, and is read
 pub every-cons : {A : Type 0} (f : A → Bool) (x : A) (xs : List A) → every f (x ∷ xs) ≡ true → (f x ≡ true) × (every f xs ≡ true)
@@ -157,13 +157,13 @@ spelled-sound b (allOf k ∷ ws) h e =
     let i = every-cons inRange (allOf k) ws e in
     sounds-make b (bytes "all") (decimal k ∷ flatMap spelled ws) (sound-unjudged b (bytes "all") refl)
     (sounds-make (bytes "all") (decimal k) (flatMap spelled ws)
-    (sound-bare (bytes "all") (decimal k) (decimal k) (numeral-decimal k) ∙ (unfold judged same in within-decimal maxOperands k (leb-true k maxOperands (i .0))))
+    (sound-bare (bytes "all") (decimal k) (decimal k) (numeral-decimal k) ∙ (unfold numberSound same in within-decimal maxOperands k (leb-true k maxOperands (i .0))))
     (spelled-sound (decimal k) ws (plain-decimal k) (i .1)))
 spelled-sound b (anyOf k ∷ ws) h e =
     let i = every-cons inRange (anyOf k) ws e in
     sounds-make b (bytes "any") (decimal k ∷ flatMap spelled ws) (sound-unjudged b (bytes "any") refl)
     (sounds-make (bytes "any") (decimal k) (flatMap spelled ws)
-    (sound-bare (bytes "any") (decimal k) (decimal k) (numeral-decimal k) ∙ (unfold judged same in within-decimal maxOperands k (leb-true k maxOperands (i .0))))
+    (sound-bare (bytes "any") (decimal k) (decimal k) (numeral-decimal k) ∙ (unfold numberSound same in within-decimal maxOperands k (leb-true k maxOperands (i .0))))
     (spelled-sound (decimal k) ws (plain-decimal k) (i .1)))
 spelled-sound b (notWord ∷ ws) h e =
     let q = plain-by (bytes "not") refl refl refl in
@@ -207,11 +207,11 @@ spelled-sound b (ifWord ∷ ws) h e =
 spelled-sound b (stray ∷ ws) h e = absurd (false-true (every-cons inRange stray ws e .0))
 
 -- one word read
-pub word-bare : (t s : Bytes) → numeral t ≡ bare s → word t ≡ numWord (integer s)
+pub word-bare : (t s : Bytes) → numeral t ≡ bare s → word t ≡ numWord (integerOf s)
 unfolding word
 word-bare t s h = rw (h, word)
 
-pub word-lettered : (t s : Bytes) (b : ℕ) → numeral t ≡ lettered b s → word t ≡ variableWord b (count s)
+pub word-lettered : (t s : Bytes) (b : ℕ) → numeral t ≡ lettered b s → word t ≡ variableWord b (naturalOf s)
 unfolding word
 word-lettered t s b h = rw (h, word)
 
@@ -219,7 +219,7 @@ pub word-unjudged : (t : Bytes) → numeral t ≡ unjudged → word t ≡ find s
 unfolding word
 word-unjudged t h = rw (h, word)
 
-pub counted-bare : (w : ℕ → Word) (t s : Bytes) → numeral t ≡ bare s → counted w t ≡ w (count s)
+pub counted-bare : (w : ℕ → Word) (t s : Bytes) → numeral t ≡ bare s → counted w t ≡ w (naturalOf s)
 unfolding counted
 counted-bare w t s h = rw (h, counted)
 
@@ -267,9 +267,9 @@ spelled-read (anyOf k ∷ ws) e =
 spelled-read (numWord z ∷ ws) e =
     read-step (signed z) (flatMap spelled ws) (plain-signed z) ∙ ap (λ w. w ∷ readWords (flatMap spelled ws)) (word-bare (signed z) (signed z) (numeral-signed z) ∙ ap numWord (integer-signed z)) ∙ ap (λ l. numWord z ∷ l) (spelled-read ws (e .1))
 spelled-read (oldWord k ∷ ws) e =
-    read-step ('v ∷ decimal k) (flatMap spelled ws) (plain-letter-v (decimal k)) ∙ ap (λ w. w ∷ readWords (flatMap spelled ws)) (word-lettered ('v ∷ decimal k) (decimal k) 'v (numeral-old k) ∙ variable-v (count (decimal k)) ∙ ap oldWord (count-decimal k)) ∙ ap (λ l. oldWord k ∷ l) (spelled-read ws (e .1))
+    read-step ('v ∷ decimal k) (flatMap spelled ws) (plain-letter-v (decimal k)) ∙ ap (λ w. w ∷ readWords (flatMap spelled ws)) (word-lettered ('v ∷ decimal k) (decimal k) 'v (numeral-old k) ∙ variable-v (naturalOf (decimal k)) ∙ ap oldWord (count-decimal k)) ∙ ap (λ l. oldWord k ∷ l) (spelled-read ws (e .1))
 spelled-read (newWord k ∷ ws) e =
-    read-step ('n ∷ decimal k) (flatMap spelled ws) (plain-letter-n (decimal k)) ∙ ap (λ w. w ∷ readWords (flatMap spelled ws)) (word-lettered ('n ∷ decimal k) (decimal k) 'n (numeral-new k) ∙ variable-n (count (decimal k)) ∙ ap newWord (count-decimal k)) ∙ ap (λ l. newWord k ∷ l) (spelled-read ws (e .1))
+    read-step ('n ∷ decimal k) (flatMap spelled ws) (plain-letter-n (decimal k)) ∙ ap (λ w. w ∷ readWords (flatMap spelled ws)) (word-lettered ('n ∷ decimal k) (decimal k) 'n (numeral-new k) ∙ variable-n (naturalOf (decimal k)) ∙ ap newWord (count-decimal k)) ∙ ap (λ l. newWord k ∷ l) (spelled-read ws (e .1))
 spelled-read (notWord ∷ ws) e =
     read-step (bytes "not") (flatMap spelled ws) (plain-by (bytes "not") refl refl refl) ∙ ap (λ l. notWord ∷ l) (spelled-read ws (e .1))
 spelled-read (impWord ∷ ws) e =

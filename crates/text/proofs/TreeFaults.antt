@@ -10,17 +10,17 @@ use lib.ListN.{length}
 use lib.IntN.{pos}
 use Rattle.model.specs.Basic.{every, lacks, orElse, same}
 use Rattle.model.specs.Bounds.{greatestNumber, lastAutomaton, leastNumber, maxActions}
-use Rattle.model.specs.Composition.{Node, Tree, leaf, nodes, par, strayNode, syn, treeNodes}
-use Rattle.model.specs.Limits.{broken, faultOf, isDisordered, isTooLarge, listsFilled, numbersInRange, rises, saidFault, treeInRange, treeRises}
+use Rattle.model.specs.Composition.{Node, Tree, leaf, nodes, par, strayNode, syn, treeSize}
+use Rattle.model.specs.Limits.{broken, faultOf, isDisordered, isTooLarge, listsFilled, numbersInRange, rises, contentFault, treeInRange, treeRises}
 use Rattle.model.specs.Lines.{Reading, compose, composeLine, keyOf}
 use Rattle.model.specs.Parse.{readTree}
 use Rattle.model.proofs.Parsing.{nodes-of-read}
 use Rattle.model.proofs.Tests.{and-intro}
 use Rattle.text.specs.Bytes.{'a, Bytes, bytes, comma, joined, ledBy}
 use Rattle.text.specs.Number.{decimal, digit, within}
-use Rattle.text.specs.Rows.{fault, field, fields, hasPred, is, numbersSound, place, row10, row11, row12, row13, row14, row15, row16, row2, row3, row4, row5, row6, row7, row8, row9, theTree, treeTokens, treeNodesOf, treeOf, valueOf}
+use Rattle.text.specs.Rows.{fault, field, fields, hasPred, is, numbersSound, place, row10, row11, row12, row13, row14, row15, row16, row2, row3, row4, row5, row6, row7, row8, row9, theTree, treeTokens, nodesIn, treeOf, valueOf}
 use Rattle.text.specs.Spelling.{spelledNode, spelling, textOfList, textOfTree, valueText}
-use Rattle.text.specs.Tokens.{allListed, lastAfter, listed, node, numeral, readNodes, sound, sounds, synOf, tokens}
+use Rattle.text.specs.Tokens.{listsSound, lastAfter, listSound, node, numeral, readNodes, sound, sounds, synOf, tokens}
 use Rattle.text.proofs.BytesLaws.{Free, flat-append}
 use Rattle.text.proofs.EntryLines.{dropped}
 use Rattle.text.proofs.FaultLaws.{every-decimal, row2-of, skip, within-zero}
@@ -57,9 +57,9 @@ plain-list (k ∷ ks) =
     let h : l .first ≤ 57 = l .high in
     rw (l .whole) (plain-first (l .first) (l .rest ++ ledBy comma (map decimal ks)) (omega arith))
 
-listed-step : (A : ℕ) (b t : Bytes) (ts : List Bytes) → allListed A b (t ∷ ts) ≡ listed A b t && allListed A t ts
-unfolding allListed
-listed-step A b t ts = step-truth (listed A b t) (allListed A t ts)
+listed-step : (A : ℕ) (b t : Bytes) (ts : List Bytes) → listsSound A b (t ∷ ts) ≡ listSound A b t && listsSound A t ts
+unfolding listsSound
+listed-step A b t ts = step-truth (listSound A b t) (listsSound A t ts)
 
 sound-par : (b : Bytes) → sound b (bytes "par") ≡ true
 unfolding sound numeral digit
@@ -102,48 +102,48 @@ tree-sounds (syn list c) b ts p =
 tree-sounds (leaf k) b ts p = sounds-step b ('a ∷ decimal k) ts ∙ ap (λ x. x && sounds ('a ∷ decimal k) ts) (sound-leaf b k p)
 
 -- row 5: lists that do not rise
-listed-par : (A : ℕ) (b : Bytes) → listed A b (bytes "par") ≡ true
-unfolding listed numeral digit
+listed-par : (A : ℕ) (b : Bytes) → listSound A b (bytes "par") ≡ true
+unfolding listSound numeral digit
 listed-par A b = refl
 
-listed-syn : (A : ℕ) (b : Bytes) → listed A b (bytes "syn") ≡ true
-unfolding listed numeral digit
+listed-syn : (A : ℕ) (b : Bytes) → listSound A b (bytes "syn") ≡ true
+unfolding listSound numeral digit
 listed-syn A b = refl
 
-listed-nil : (A : ℕ) → listed A (bytes "syn") [] ≡ rises A 0 []
-unfolding listed numeral rises
+listed-nil : (A : ℕ) → listSound A (bytes "syn") [] ≡ rises A 0 []
+unfolding listSound numeral rises
 listed-nil A = refl
 
-listed-list : (A : ℕ) (l : List ℕ) → listed A (bytes "syn") (textOfList l) ≡ rises A 0 l
-unfolding listed same
-listed-list A [] = ap (listed A (bytes "syn")) text-nil ∙ listed-nil A
-listed-list A (k ∷ ks) = rw (numeral-list k ks, listed) (ap (rises A 0) (items-text k ks))
+listed-list : (A : ℕ) (l : List ℕ) → listSound A (bytes "syn") (textOfList l) ≡ rises A 0 l
+unfolding listSound same
+listed-list A [] = ap (listSound A (bytes "syn")) text-nil ∙ listed-nil A
+listed-list A (k ∷ ks) = rw (numeral-list k ks, listSound) (ap (rises A 0) (items-text k ks))
 
-listed-leaf : (A : ℕ) (b : Bytes) (k : ℕ) → listed A b ('a ∷ decimal k) ≡ true
-unfolding listed
-listed-leaf A b k = rw (numeral-leaf k, listed)
+listed-leaf : (A : ℕ) (b : Bytes) (k : ℕ) → listSound A b ('a ∷ decimal k) ≡ true
+unfolding listSound
+listed-leaf A b k = rw (numeral-leaf k, listSound)
 
-tree-listed : (A : ℕ) (c : Tree) (b : Bytes) (ts : List Bytes) → allListed A b (flat c ++ ts) ≡ treeRises A c && allListed A (last-token c) ts
+tree-listed : (A : ℕ) (c : Tree) (b : Bytes) (ts : List Bytes) → listsSound A b (flat c ++ ts) ≡ treeRises A c && listsSound A (last-token c) ts
 unfolding nodes flatMap spelledNode treeRises
 tree-listed A (par c d) b ts =
-    listed-step A b (bytes "par") (flatMap spelledNode (nodes c ++ nodes d) ++ ts) ∙ ap (λ x. x && allListed A (bytes "par") (flatMap spelledNode (nodes c ++ nodes d) ++ ts)) (listed-par A b) ∙
-    ap (λ l. allListed A (bytes "par") (l ++ ts)) (flat-append spelledNode (nodes c) (nodes d)) ∙ ap (allListed A (bytes "par")) (append-assoc (flat c) (flat d) ts) ∙
+    listed-step A b (bytes "par") (flatMap spelledNode (nodes c ++ nodes d) ++ ts) ∙ ap (λ x. x && listsSound A (bytes "par") (flatMap spelledNode (nodes c ++ nodes d) ++ ts)) (listed-par A b) ∙
+    ap (λ l. listsSound A (bytes "par") (l ++ ts)) (flat-append spelledNode (nodes c) (nodes d)) ∙ ap (listsSound A (bytes "par")) (append-assoc (flat c) (flat d) ts) ∙
     tree-listed A c (bytes "par") (flat d ++ ts) ∙ ap (λ x. treeRises A c && x) (tree-listed A d (last-token c) ts) ∙
-    sym (and-assoc (treeRises A c) (treeRises A d) (allListed A (last-token d) ts))
+    sym (and-assoc (treeRises A c) (treeRises A d) (listsSound A (last-token d) ts))
 tree-listed A (syn list c) b ts =
-    listed-step A b (bytes "syn") (textOfList list ∷ (flat c ++ ts)) ∙ ap (λ x. x && allListed A (bytes "syn") (textOfList list ∷ (flat c ++ ts))) (listed-syn A b) ∙
-    listed-step A (bytes "syn") (textOfList list) (flat c ++ ts) ∙ ap (λ x. x && allListed A (textOfList list) (flat c ++ ts)) (listed-list A list) ∙
+    listed-step A b (bytes "syn") (textOfList list ∷ (flat c ++ ts)) ∙ ap (λ x. x && listsSound A (bytes "syn") (textOfList list ∷ (flat c ++ ts))) (listed-syn A b) ∙
+    listed-step A (bytes "syn") (textOfList list) (flat c ++ ts) ∙ ap (λ x. x && listsSound A (textOfList list) (flat c ++ ts)) (listed-list A list) ∙
     ap (λ x. rises A 0 list && x) (tree-listed A c (textOfList list) ts) ∙
-    sym (and-assoc (rises A 0 list) (treeRises A c) (allListed A (last-token c) ts))
-tree-listed A (leaf k) b ts = listed-step A b ('a ∷ decimal k) ts ∙ ap (λ x. x && allListed A ('a ∷ decimal k) ts) (listed-leaf A b k)
+    sym (and-assoc (rises A 0 list) (treeRises A c) (listsSound A (last-token c) ts))
+tree-listed A (leaf k) b ts = listed-step A b ('a ∷ decimal k) ts ∙ ap (λ x. x && listsSound A ('a ∷ decimal k) ts) (listed-leaf A b k)
 
 whole-sounds : (c : Tree) → sounds [] (tokens (textOfTree c)) ≡ treeInRange c
 unfolding sounds
 whole-sounds c = ap (sounds []) (tree-tokens c ∙ sym (append-nil (flat c))) ∙ tree-sounds c [] [] plain-nil ∙ and-true (treeInRange c)
 
-whole-listed : (A : ℕ) (c : Tree) → allListed A [] (tokens (textOfTree c)) ≡ treeRises A c
-unfolding allListed
-whole-listed A c = ap (allListed A []) (tree-tokens c ∙ sym (append-nil (flat c))) ∙ tree-listed A c [] [] ∙ and-true (treeRises A c)
+whole-listed : (A : ℕ) (c : Tree) → listsSound A [] (tokens (textOfTree c)) ≡ treeRises A c
+unfolding listsSound
+whole-listed A c = ap (listsSound A []) (tree-tokens c ∙ sym (append-nil (flat c))) ∙ tree-listed A c [] [] ∙ and-true (treeRises A c)
 
 -- row 13: a tree whose text is read has no empty list
 syn-nil : synOf [] ≡ strayNode
@@ -179,13 +179,13 @@ unread c (some d) e h =
 -- rows 13 to 16
 tree-rows : (N : ℕ) (c : Tree) (b : Bool) → listsFilled c ≡ b →
     broken 13 (lacks (readTree (readNodes (tokens (textOfTree c))))) (broken 14 (isDisordered N (orElse (leaf 0) (readTree (readNodes (tokens (textOfTree c)))))) (broken 16 (isTooLarge (length (readNodes (tokens (textOfTree c))))) none))
-    ≡ broken 13 (not (listsFilled c)) (broken 14 (isDisordered N c) (broken 16 (isTooLarge (treeNodes c)) none))
-unfolding broken lacks orElse treeNodes
+    ≡ broken 13 (not (listsFilled c)) (broken 14 (isDisordered N c) (broken 16 (isTooLarge (treeSize c)) none))
+unfolding broken lacks orElse treeSize
 tree-rows N c true h = rw (h, tree-read c h, tree-nodes c h)
 tree-rows N c false h = rw (h, unread c (readTree (readNodes (tokens (textOfTree c)))) refl h)
 
 pub compose-fault : (r : Reading) (c : Tree) → fault r compose (lineOf (composeLine c)) ≡ faultOf r (composeLine c)
-unfolding fault faultOf saidFault numbersInRange row3 row4 row5 row6 row7 row8 row9 row10 row11 row12 row13 row14 row15 row16 is place hasPred broken keyOf numbersSound field fields valueOf valueText treeOf treeTokens treeNodesOf theTree
+unfolding fault faultOf contentFault numbersInRange row3 row4 row5 row6 row7 row8 row9 row10 row11 row12 row13 row14 row15 row16 is place hasPred broken keyOf numbersSound field fields valueOf valueText treeOf treeTokens nodesIn theTree
 compose-fault r c =
     skip 2 (row2 compose (lineOf (composeLine c))) _ (row2-of (composeLine c)) ∙
     rw (dropped (spelling compose) (textOfTree c), whole-sounds c, whole-listed (r .model .actions) c, tree-rows (length (r .model .automata)) c (listsFilled c) refl)

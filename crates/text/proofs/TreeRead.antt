@@ -11,7 +11,7 @@ use Rattle.model.specs.Parse.{readTree}
 use Rattle.model.proofs.Parsing.{read-nodes-of}
 use Rattle.model.proofs.Tests.{and-left, and-right}
 use Rattle.text.specs.Bytes.{'a, Bytes, bytes, comma, joined, ledBy, parts}
-use Rattle.text.specs.Number.{count, decimal, digit}
+use Rattle.text.specs.Number.{naturalOf, decimal, digit}
 use Rattle.text.specs.Spelling.{spelledNode, textOfList, textOfTree}
 use Rattle.text.specs.Tokens.{bare, find, items, leafOf, lettered, node, numeral, readNodes, synOf, tokens}
 use Rattle.text.proofs.BytesLaws.{flat-append, parts-joined}
@@ -22,9 +22,9 @@ use Rattle.text.proofs.TokenLaws.{count-decimal, numeral-digit}
 use Rattle.text.proofs.TreeText.{read-no-node, read-node, read-syn}
 
 -- the items of a list are its numbers
-pub counts-back : (l : List ℕ) → map count (map decimal l) ≡ l
+pub counts-back : (l : List ℕ) → map naturalOf (map decimal l) ≡ l
 counts-back [] = refl
-counts-back (k ∷ ks) = ap (λ x. x ∷ map count (map decimal ks)) (count-decimal k) ∙ ap (λ t. k ∷ t) (counts-back ks)
+counts-back (k ∷ ks) = ap (λ x. x ∷ map naturalOf (map decimal ks)) (count-decimal k) ∙ ap (λ t. k ∷ t) (counts-back ks)
 
 pub list-parts : (k : ℕ) (ks : List ℕ) → parts comma (textOfList (k ∷ ks)) ≡ map decimal (k ∷ ks)
 unfolding textOfList
@@ -32,7 +32,7 @@ list-parts k ks = let f = decimals-free (k ∷ ks) in parts-joined comma (decima
 
 pub items-text : (k : ℕ) (ks : List ℕ) → items (textOfList (k ∷ ks)) ≡ k ∷ ks
 unfolding items
-items-text k ks = ap (map count) (list-parts k ks) ∙ counts-back (k ∷ ks)
+items-text k ks = ap (map naturalOf) (list-parts k ks) ∙ counts-back (k ∷ ks)
 
 pub numeral-list : (k : ℕ) (ks : List ℕ) → numeral (textOfList (k ∷ ks)) ≡ bare (textOfList (k ∷ ks))
 unfolding textOfList joined

@@ -14,9 +14,9 @@ use Rattle.model.specs.Composition.{Node, Tree, leaf, leafNode, nodes, par, par
 use Rattle.model.specs.Parse.{readTree}
 use Rattle.model.proofs.Parsing.{nodes-of-read}
 use Rattle.text.specs.Bytes.{'a, Bytes, bytes, comma, joined, parts, space}
-use Rattle.text.specs.Number.{count, decimal, digit, within}
+use Rattle.text.specs.Number.{naturalOf, decimal, digit, within}
 use Rattle.text.specs.Spelling.{spelledNode, textOfList, textOfTree}
-use Rattle.text.specs.Tokens.{Numeral, bare, find, items, judged, lastAfter, leafOf, lettered, node, numeral, readNodes, sound, sounds, synOf, tokens, unjudged}
+use Rattle.text.specs.Tokens.{Numeral, bare, find, items, numberSound, lastAfter, leafOf, lettered, node, numeral, readNodes, sound, sounds, synOf, tokens, unjudged}
 use Rattle.text.proofs.BytesLaws.{Free, differ-first, free-append, joined-parts, same-is}
 use Rattle.text.proofs.NumberLaws.{leading}
 use Rattle.text.proofs.PredText.{plain-nil}
@@ -28,9 +28,9 @@ record Good (t : Bytes) (n : Node) : Type 0 where
   spells : spelledNode n ≡ t ∷ []
   plain : Plain t
 
-node-case : (t : Bytes) (x : Numeral) → numeral t ≡ x → node t ≡ elim x [ unjudged ↦ find strayNode ((bytes "par", parNode) ∷ []) t | bare s ↦ strayNode | lettered b s ↦ leafOf b (count s) ]
+node-case : (t : Bytes) (x : Numeral) → numeral t ≡ x → node t ≡ elim x [ unjudged ↦ find strayNode ((bytes "par", parNode) ∷ []) t | bare s ↦ strayNode | lettered b s ↦ leafOf b (naturalOf s) ]
 unfolding node
-node-case t x e = ap (λ (y : Numeral). elim y as (λ q. Node) [ unjudged ↦ find strayNode ((bytes "par", parNode) ∷ []) t | bare s ↦ strayNode | lettered b s ↦ leafOf b (count s) ]) e
+node-case t x e = ap (λ (y : Numeral). elim y as (λ q. Node) [ unjudged ↦ find strayNode ((bytes "par", parNode) ∷ []) t | bare s ↦ strayNode | lettered b s ↦ leafOf b (naturalOf s) ]) e
 
 good-par : (t : Bytes) → (find strayNode ((bytes "par", parNode) ∷ []) t ≡ strayNode → ⊥) → Good t (find strayNode ((bytes "par", parNode) ∷ []) t)
 unfolding find spelledNode
@@ -52,16 +52,16 @@ plain-a n =
       no-syn = refl;
     })
 
-good-leaf : (t s : Bytes) (b : ℕ) → t ≡ b ∷ s → within (pos 0) (lastAfter b) s ≡ true → (leafOf b (count s) ≡ strayNode → ⊥) → Good t (leafOf b (count s))
+good-leaf : (t s : Bytes) (b : ℕ) → t ≡ b ∷ s → within (pos 0) (lastAfter b) s ≡ true → (leafOf b (naturalOf s) ≡ strayNode → ⊥) → Good t (leafOf b (naturalOf s))
 unfolding leafOf spelledNode lastAfter
 good-leaf t s b e h n = go (eqb b 'a) refl n
   where
-    go : (v : Bool) → eqb b 'a ≡ v → (elim v [ true ↦ leafNode (count s) | false ↦ strayNode ] ≡ strayNode → ⊥) → Good t (elim v [ true ↦ leafNode (count s) | false ↦ strayNode ])
+    go : (v : Bool) → eqb b 'a ≡ v → (elim v [ true ↦ leafNode (naturalOf s) | false ↦ strayNode ] ≡ strayNode → ⊥) → Good t (elim v [ true ↦ leafNode (naturalOf s) | false ↦ strayNode ])
     go true k m =
         let f = eqb-true b 'a k in
         let x : within (pos 0) (pos lastAutomaton) s ≡ true = ap (λ c. within (pos 0) (lastAfter c) s) (sym f) ∙ h in
-        let y : t ≡ 'a ∷ decimal (count s) = e ∙ ap (λ c. c ∷ s) f ∙ ap (λ u. 'a ∷ u) (number-of lastAutomaton s x .0) in
-        record { spells = ap (λ u. u ∷ []) (sym y); plain = rw y (plain-a (count s)) }
+        let y : t ≡ 'a ∷ decimal (naturalOf s) = e ∙ ap (λ c. c ∷ s) f ∙ ap (λ u. 'a ∷ u) (number-of lastAutomaton s x .0) in
+        record { spells = ap (λ u. u ∷ []) (sym y); plain = rw y (plain-a (naturalOf s)) }
     go false k m = absurd (m refl)
 
 one : (b t : Bytes) → Plain b → sound b t ≡ true → (node t ≡ strayNode → ⊥) → Good t (node t)
@@ -75,8 +75,8 @@ one b t p h n = go (numeral t) refl
         rw e (good-leaf t s a (lettered-is t s a k) (sym (judged-plain b s (pos 0) (lastAfter a) p) ∙ sym (sound-lettered b t s a k) ∙ h) (λ q. n (e ∙ q)))
 
 -- a list right after `syn`
-pub judged-syn : (s : Bytes) (lo hi : ℤ) → judged (bytes "syn") s lo hi ≡ every (within (pos 0) (pos maxActions)) (parts comma s)
-unfolding judged same
+pub judged-syn : (s : Bytes) (lo hi : ℤ) → numberSound (bytes "syn") s lo hi ≡ every (within (pos 0) (pos maxActions)) (parts comma s)
+unfolding numberSound same
 judged-syn s lo high = refl
 
 syn-case : (t : Bytes) (x : Numeral) → numeral t ≡ x → synOf t ≡ elim x [ unjudged ↦ strayNode | bare s ↦ synNode (items s) | lettered b s ↦ strayNode ]

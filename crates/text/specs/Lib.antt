@@ -5,4 +5,5 @@ pub mod Spelling
 pub mod Rows
 pub mod Reader
 pub mod Writer
+pub mod Merger
 pub mod Program

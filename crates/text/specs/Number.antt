@@ -1,4 +1,4 @@
--- "The sheet text": numbers are decimal, with no leading zero, and a minus only before a number other than 0.
+-- "The sheet text": how numbers are spelled. Each has one spelling: 0 starts no longer number, and -0 is none.
 use Prim.Native.Nat.{ℕ, zero, suc, _+_, _-_, _*_, _/_, _%_}
 use mathlib.Core.Bool.{Bool, true, false, _&&_}
 use mathlib.Core.List.{List, [], _∷_, _++_}
@@ -16,17 +16,17 @@ unfoldable pub digits : ℕ → Bytes → Option ℕ
 digits n [] = some n
 digits n (b ∷ t) = elim (digit b) [ true ↦ digits (n * 10 + (b - '0)) t | false ↦ none ]
 
--- no leading zero
+-- several digits do not start with 0
 unfoldable pub natural : Bytes → Option ℕ
 natural [] = none
 natural (b ∷ []) = digits 0 (b ∷ [])
 natural (b ∷ c ∷ t) = elim (eqb b '0) [ true ↦ none | false ↦ digits 0 (b ∷ c ∷ t) ]
 
-unfoldable pub positive : Option ℕ → Option ℤ
-positive none = none
-positive (some n) = some (pos n)
+unfoldable pub unsigned : Option ℕ → Option ℤ
+unsigned none = none
+unsigned (some n) = some (pos n)
 
--- a minus only before a number other than 0
+-- what stands after a minus
 unfoldable pub negative : Option ℕ → Option ℤ
 negative none = none
 negative (some zero) = none
@@ -34,7 +34,7 @@ negative (some (suc n)) = some (negsuc n)
 
 unfoldable pub number : Bytes → Option ℤ
 number [] = none
-number (b ∷ t) = elim (eqb b minus) [ true ↦ negative (natural t) | false ↦ positive (natural (b ∷ t)) ]
+number (b ∷ t) = elim (eqb b minus) [ true ↦ negative (natural t) | false ↦ unsigned (natural (b ∷ t)) ]
 
 -- row 3: a number, and from low to high
 unfoldable pub isBetween : ℤ → ℤ → Option ℤ → Bool
@@ -45,11 +45,11 @@ unfoldable pub within : ℤ → ℤ → Bytes → Bool
 within low high s = isBetween low high (number s)
 
 -- the value of what is known to be a number
-unfoldable pub count : Bytes → ℕ
-count s = orElse 0 (natural s)
+unfoldable pub naturalOf : Bytes → ℕ
+naturalOf s = orElse 0 (natural s)
 
-unfoldable pub integer : Bytes → ℤ
-integer s = orElse (pos 0) (number s)
+unfoldable pub integerOf : Bytes → ℤ
+integerOf s = orElse (pos 0) (number s)
 
 -- the one spelling of a number: with fuel for its digits
 unfoldable pub decimalIn : ℕ → ℕ → Bytes

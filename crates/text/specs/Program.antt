@@ -1,41 +1,16 @@
--- The merger's answer, the program's output, and the judges' answers on a text.
+-- What the program writes; and, for trying out sheets, the judges' answers on a text.
 use Prim.Native.Nat.{ℕ}
-use mathlib.Core.Bool.{Bool, true, false}
 use mathlib.Core.List.{List, _++_, map}
 use mathlib.Core.Option.{Option, none, some}
 use Rattle.model.specs.Bounds.{maxBytes, tableWords}
-use Rattle.model.specs.Model.{Model}
-use Rattle.model.specs.Table.{tableOf, unopened, opened, openTable}
-use Rattle.model.specs.Linear.{linear, mergedCount, mergeFault}
+use Rattle.model.specs.Table.{tableOf}
 use Rattle.model.specs.Judge.{Answer, Call, answerTo}
 use Rattle.text.specs.Bytes.{Bytes, bytes}
 use Rattle.text.specs.Number.{decimal}
-use Rattle.text.specs.Spelling.{textOf}
 use Rattle.text.specs.Reader.{refused, accepted, readAnswer}
-use Rattle.text.specs.Writer.{row35, withText}
+use Rattle.text.specs.Merger.{MergeAnswer, unmerged, merged, mergeAnswer}
 
--- rows 18, 19, 31 to 34 and 35, or the merged text and its count of edges; the length that is reported is the text's
-pub data MergeAnswer : Type 0 where
-  unmerged : (row : ℕ) → MergeAnswer
-  merged : Bytes → (edges : ℕ) → MergeAnswer
-
-unfoldable pub mergeModel : Model → (buffer : ℕ) → MergeAnswer
-mergeModel m buffer =
-    elim (mergeFault m) [
-      | some row ↦ unmerged row
-      | none ↦
-          elim (row35 buffer (textOf (linear m))) [ true ↦ unmerged 35 | false ↦ merged (textOf (linear m)) (mergedCount m) ]
-    ]
-
-unfoldable pub mergeAnswer : List ℕ → (buffer : ℕ) → MergeAnswer
-mergeAnswer table buffer = elim (openTable table) [ unopened row ↦ unmerged row | opened m ↦ mergeModel m buffer ]
-
--- the lent buffer afterwards; after a refusal as it was
-unfoldable pub mergeAfter : MergeAnswer → Bytes → Bytes
-mergeAfter (unmerged row) lent = lent
-mergeAfter (merged text edges) lent = withText text lent
-
--- The program: the merged text, or a line with the refusal's row and line.
+-- a refusal as the program prints it; the merger's have line 0
 unfoldable pub refusal : ℕ → ℕ → Bytes
 refusal row line = bytes "refused=" ++ (decimal row ++ (bytes "," ++ (decimal line ++ bytes "\n")))
 

@@ -1,4 +1,4 @@
--- The reader's answer: 18, then 1, then the first faulty line.
+-- The reader's answer: rows 18 and 1 are tried before any line; after that the first line with a fault decides.
 use Prim.Native.Nat.{ℕ, suc}
 use mathlib.Core.Path.{_≡_}
 use mathlib.Core.Bool.{Bool, true, false}
@@ -8,8 +8,8 @@ use lib.ListN.{length, take, drop}
 use lib.Dec.{eqb, ltb}
 use Rattle.model.specs.Bounds.{maxBytes, tableWords}
 use Rattle.model.specs.Model.{Model}
-use Rattle.model.specs.Lines.{Key, dueAtFirst, thenDue, Reading, atFirst, taken}
-use Rattle.model.specs.Table.{tableOf}
+use Rattle.model.specs.Lines.{Key, dueAtFirst, thenDue, Reading, atFirst, noted}
+use Rattle.model.specs.Table.{tableOf, row18}
 use Rattle.text.specs.Bytes.{Bytes, LF}
 use Rattle.text.specs.Rows.{Line, fault, entry}
 
@@ -22,12 +22,12 @@ unfoldable pub linesOf : Bytes → List Line
 linesOf [] = []
 linesOf (b ∷ t) = elim (eqb b LF) [ true ↦ record { bytes = []; ended = true } ∷ linesOf t | false ↦ ontoLine b (linesOf t) ]
 
--- a refusal is a row and a line, from 1; an acceptance has its model
+-- a refusal has its row and its line: 0 for rows 18 and 1, and counted from 1 for the others; an acceptance has its model
 pub data ReadAnswer : Type 0 where
   refused : (row line : ℕ) → ReadAnswer
   accepted : Model → ReadAnswer
 
--- the lines from number n on, with what is due; a line lacking or extra is row 2
+-- the lines from number n on against the keys that are due: too few lines, or too many, are row 2 at the place where it shows
 unfoldable pub read : Reading → List Key → ℕ → List Line → ReadAnswer
 read r [] n [] = accepted (r .model)
 read r [] n (l ∷ ls) = refused 2 n
@@ -35,17 +35,17 @@ read r (k ∷ ks) n [] = refused 2 n
 read r (k ∷ ks) n (l ∷ ls) =
     elim (fault r k l) [
       | some row ↦ refused row n
-      | none ↦ read (taken r (entry k l)) (thenDue (entry k l) ++ ks) (suc n) ls
+      | none ↦ read (noted r (entry k l)) (thenDue (entry k l) ++ ks) (suc n) ls
     ]
 
--- Row 1: the text is too long.
+-- Row 1: more bytes than a text may have.
 unfoldable pub row1 : Bytes → Bool
 row1 text = ltb maxBytes (length text)
 
--- for a lent table of so many words
+-- the answer, when the table that is lent has so many words
 unfoldable pub readAnswer : Bytes → (table : ℕ) → ReadAnswer
 readAnswer text table =
-    elim (ltb table tableWords) [
+    elim (row18 table) [
       | true ↦ refused 18 0
       | false ↦ elim (row1 text) [ true ↦ refused 1 0 | false ↦ read atFirst dueAtFirst 1 (linesOf text) ]
     ]
@@ -55,7 +55,7 @@ unfoldable pub tableAfter : Bytes → List ℕ → List ℕ
 tableAfter text lent =
     elim (readAnswer text (length lent)) [ refused row line ↦ lent | accepted m ↦ tableOf m ++ drop tableWords lent ]
 
--- row 19, as the format says it: an accepted text gives this table (the law given-by-text)
+-- what row 19 denies: there is a text that the reader accepts and that has this table (the law given-by-text)
 pub record GivenBy (t : List ℕ) : Type 0 where
   pub text : Bytes
   pub model : Model

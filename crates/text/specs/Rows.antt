@@ -1,4 +1,4 @@
--- "Refused", rows 2 to 16 as a line of the text breaks them. Each row may assume that no smaller one is broken.
+-- "Refused", rows 2 to 16 as a line of the text breaks them: `true` is broken. A row may count on the smaller ones holding.
 use Prim.Native.Nat.{ℕ, _+_}
 use mathlib.Core.Bool.{Bool, true, false, not, _&&_, _||_}
 use mathlib.Core.List.{List, [], _∷_, map}
@@ -13,10 +13,10 @@ use Rattle.model.specs.Predicate.{Pred, Range, range, Word, all, namesOutside, 
 use Rattle.model.specs.Composition.{Tree, Node, leaf}
 use Rattle.model.specs.Parse.{readPred, readTree}
 use Rattle.model.specs.Lines.{Key, Entry, format, actions, variables, variable, automata, sync, locations, init, inv, edges, edge, compose, formatLine, actionsLine, variablesLine, variableLine, automataLine, syncLine, locationsLine, initLine, invLine, edgesLine, edgeLine, composeLine, Reading}
-use Rattle.model.specs.Limits.{rises, isCrossed, isTooDeep, leavesSpan, passesNodes, isAstray, isDisordered, isTooLarge, passesEdges, variableCount, broken}
+use Rattle.model.specs.Limits.{rises, isCrossed, isTooDeep, exceedsSpan, passesNodes, isAstray, isDisordered, isTooLarge, passesEdges, variableCount, broken}
 use Rattle.text.specs.Bytes.{Bytes, begins, parts, comma}
-use Rattle.text.specs.Number.{within, count, integer}
-use Rattle.text.specs.Tokens.{tokens, sounds, allListed, readWords, readNodes}
+use Rattle.text.specs.Number.{within, naturalOf, integerOf}
+use Rattle.text.specs.Tokens.{tokens, sounds, listsSound, readWords, readNodes}
 use Rattle.text.specs.Spelling.{spelling}
 
 -- the bytes of a line without its LF, and whether it has one
@@ -63,21 +63,21 @@ hasPred k = is k init || (is k inv || is k edge)
 unfoldable pub predTokens : Key → Line → List Bytes
 predTokens k l = elim (is k edge) [ true ↦ tokens (field 3 k l) | false ↦ tokens (field 0 k l) ]
 
-unfoldable pub predWordsOf : Key → Line → List Word
-predWordsOf k l = readWords (predTokens k l)
+unfoldable pub wordsIn : Key → Line → List Word
+wordsIn k l = readWords (predTokens k l)
 
 unfoldable pub predOf : Key → Line → Option Pred
-predOf k l = readPred (predWordsOf k l)
+predOf k l = readPred (wordsIn k l)
 
 -- the tree of `compose=C`
 unfoldable pub treeTokens : Line → List Bytes
 treeTokens l = tokens (valueOf compose l)
 
-unfoldable pub treeNodesOf : Line → List Node
-treeNodesOf l = readNodes (treeTokens l)
+unfoldable pub nodesIn : Line → List Node
+nodesIn l = readNodes (treeTokens l)
 
 unfoldable pub treeOf : Line → Option Tree
-treeOf l = readTree (treeNodesOf l)
+treeOf l = readTree (nodesIn l)
 
 -- the predicate and the tree, where rows 6 and 13 do not hold
 unfoldable pub thePred : Key → Line → Pred
@@ -92,12 +92,12 @@ listItems [] = []
 listItems (b ∷ t) = parts comma (b ∷ t)
 
 unfoldable pub syncList : Line → List ℕ
-syncList l = map count (listItems (field 0 sync l))
+syncList l = map naturalOf (listItems (field 0 sync l))
 
 unfoldable pub theRange : Line → Range
-theRange l = range (integer (field 0 variable l)) (integer (field 1 variable l))
+theRange l = range (integerOf (field 0 variable l)) (integerOf (field 1 variable l))
 
--- Row 2: the key is not the one due, the field count is wrong, a byte is not printable, the LF is lacking.
+-- Row 2: is this the line that is due, with its fields, in printable bytes, up to an LF?
 unfoldable pub printable : ℕ → Bool
 printable b = leb 32 b && leb b 126
 
@@ -108,7 +108,7 @@ row2 k l =
     (not (every printable (l .bytes)) ||
     not (l .ended)))
 
--- Row 3: a number is ill-formed or outside its range.
+-- Row 3: is each number spelled right and in its range?
 unfoldable pub numbersSound : Key → Line → Bool
 numbersSound format l = within (pos 1) (pos 1) (field 0 format l)
 numbersSound actions l = within (pos 0) (pos maxActions) (field 0 actions l)
@@ -130,59 +130,59 @@ numbersSound compose l = sounds [] (treeTokens l)
 unfoldable pub row3 : Key → Line → Bool
 row3 k l = not (numbersSound k l)
 
--- Row 4: LO is above HI.
+-- Row 4: is the range empty?
 unfoldable pub row4 : Key → Line → Bool
 row4 k l = is k variable && isCrossed (theRange l)
 
--- Row 5: an action list does not rise, or holds 0 or an action above A.
+-- Row 5: do the action lists rise, from above 0 and up to A?
 unfoldable pub row5 : Reading → Key → Line → Bool
 row5 r k l =
     is k sync && not (rises (r .model .actions) 0 (syncList l)) ||
-    is k compose && not (allListed (r .model .actions) [] (treeTokens l))
+    is k compose && not (listsSound (r .model .actions) [] (treeTokens l))
 
--- Row 6: P is ill-formed.
+-- Row 6: do the words make a predicate?
 unfoldable pub row6 : Key → Line → Bool
 row6 k l = hasPred k && lacks (predOf k l)
 
--- Row 7: a variable's number is V or more.
+-- Row 7: does the model have the variables?
 unfoldable pub row7 : Reading → Key → Line → Bool
-row7 r k l = hasPred k && namesOutside (variableCount r) (predWordsOf k l)
+row7 r k l = hasPred k && namesOutside (variableCount r) (wordsIn k l)
 
--- Row 8: a new value in init or inv.
+-- Row 8: does a location's predicate read values of after a step?
 unfoldable pub row8 : Key → Line → Bool
-row8 k l = (is k init || is k inv) && namesNew (predWordsOf k l)
+row8 k l = (is k init || is k inv) && namesNew (wordsIn k l)
 
--- Row 9: P is too deep.
+-- Row 9: is the predicate nested too deep?
 unfoldable pub row9 : Key → Line → Bool
 row9 k l = hasPred k && isTooDeep (thePred k l)
 
--- Row 10: an expression's interval leaves the span.
+-- Row 10: can an expression leave the span?
 unfoldable pub row10 : Reading → Key → Line → Bool
-row10 r k l = hasPred k && leavesSpan (r .model .variables) (thePred k l)
+row10 r k l = hasPred k && exceedsSpan (r .model .variables) (thePred k l)
 
--- Row 11: this line takes the nodes past the limit.
+-- Row 11: are the nodes too many, this line's included?
 unfoldable pub row11 : Reading → Key → Line → Bool
-row11 r k l = hasPred k && passesNodes (r .nodes) (predWordsOf k l)
+row11 r k l = hasPred k && passesNodes (r .nodes) (wordsIn k l)
 
--- Row 12: an edge's location or action is not in the model.
+-- Row 12: does the model have the edge's ends and action?
 unfoldable pub row12 : Reading → Key → Line → Bool
-row12 r k l = is k edge && isAstray r (count (field 0 k l)) (count (field 1 k l)) (count (field 2 k l))
+row12 r k l = is k edge && isAstray r (naturalOf (field 0 k l)) (naturalOf (field 1 k l)) (naturalOf (field 2 k l))
 
--- Row 13: C is ill-formed.
+-- Row 13: do the nodes make a tree?
 unfoldable pub row13 : Key → Line → Bool
 row13 k l = is k compose && lacks (treeOf l)
 
--- Row 14: the leaves are not 0 to N-1 in order.
+-- Row 14: does each automaton stand in the tree once, in order?
 unfoldable pub row14 : Reading → Key → Line → Bool
 row14 r k l = is k compose && isDisordered (length (r .model .automata)) (theTree l)
 
--- Row 15: this line takes the edges past the limit.
+-- Row 15: are the edges too many, this automaton's included?
 unfoldable pub row15 : Reading → Key → Line → Bool
-row15 r k l = is k edges && passesEdges r (count (field 0 k l))
+row15 r k l = is k edges && passesEdges r (naturalOf (field 0 k l))
 
--- Row 16: the tree is too large.
+-- Row 16: has the tree too many nodes?
 unfoldable pub row16 : Key → Line → Bool
-row16 k l = is k compose && isTooLarge (length (treeNodesOf l))
+row16 k l = is k compose && isTooLarge (length (nodesIn l))
 
 -- the smallest row that a line breaks
 unfoldable pub fault : Reading → Key → Line → Option ℕ
@@ -207,21 +207,21 @@ fault r k l =
 -- what a line that breaks none says
 unfoldable pub entry : Key → Line → Entry
 entry format l = formatLine
-entry actions l = actionsLine (count (field 0 actions l))
-entry variables l = variablesLine (count (field 0 variables l))
+entry actions l = actionsLine (naturalOf (field 0 actions l))
+entry variables l = variablesLine (naturalOf (field 0 variables l))
 entry variable l = variableLine (theRange l)
-entry automata l = automataLine (count (field 0 automata l))
+entry automata l = automataLine (naturalOf (field 0 automata l))
 entry sync l = syncLine (syncList l)
-entry locations l = locationsLine (count (field 0 locations l))
+entry locations l = locationsLine (naturalOf (field 0 locations l))
 entry init l = initLine (thePred init l)
 entry inv l = invLine (thePred inv l)
-entry edges l = edgesLine (count (field 0 edges l))
+entry edges l = edgesLine (naturalOf (field 0 edges l))
 entry edge l =
     edgeLine
     (record {
-      from = count (field 0 edge l);
-      action = count (field 1 edge l);
-      to = count (field 2 edge l);
+      from = naturalOf (field 0 edge l);
+      action = naturalOf (field 1 edge l);
+      to = naturalOf (field 2 edge l);
       update = thePred edge l;
     })
 entry compose l = composeLine (theTree l)

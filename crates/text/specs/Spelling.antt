@@ -8,6 +8,7 @@ use Rattle.model.specs.Lines.{Key, Entry, format, actions, variables, variable,
 use Rattle.text.specs.Bytes.{Bytes, bytes, joined, LF, space, comma, 'a, 'n, 'v}
 use Rattle.text.specs.Number.{decimal, signed}
 
+-- a key's bytes, the equals sign with them
 unfoldable pub spelling : Key → Bytes
 spelling format = bytes "format="
 spelling actions = bytes "actions="

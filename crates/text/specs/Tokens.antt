@@ -11,13 +11,13 @@ use Rattle.model.specs.Predicate.{Word, allOf, anyOf, notWord, impWord, eqWord,
 use Rattle.model.specs.Composition.{Node, parNode, synNode, leafNode, strayNode}
 use Rattle.model.specs.Limits.{rises}
 use Rattle.text.specs.Bytes.{Bytes, bytes, parts, space, comma, minus, 'a, 'n, 'v}
-use Rattle.text.specs.Number.{digit, within, count, integer}
+use Rattle.text.specs.Number.{digit, within, naturalOf, integerOf}
 
--- words are parted by one space
+-- the tokens: what stands between spaces
 unfoldable pub tokens : Bytes → List Bytes
 tokens s = parts space s
 
--- A token whose number is judged: a digit or minus first, or `v`, `n` or `a` and then a digit.
+-- Does a token hold a number? All of it, if it starts like one; or what follows its letter, if that starts with a digit.
 pub data Numeral : Type 0 where
   unjudged : Numeral
   bare : Bytes → Numeral
@@ -32,9 +32,10 @@ numeral (b ∷ c ∷ t) =
       | false ↦ elim ((eqb b 'v || (eqb b 'n || eqb b 'a)) && digit c) [ true ↦ lettered b (c ∷ t) | false ↦ unjudged ]
     ]
 
--- How it is judged: right after `all` or `any` as K, right after `syn` as a list of actions, otherwise from low to high.
-unfoldable pub judged : (before s : Bytes) (low high : ℤ) → Bool
-judged before s low high =
+-- Is the number well-formed and in its range? The token before decides which range: that of an operand count after `all` and
+-- `any`, that of each action of a list after `syn`, and otherwise low to high.
+unfoldable pub numberSound : (before s : Bytes) (low high : ℤ) → Bool
+numberSound before s low high =
     elim (same before (bytes "all") || same before (bytes "any")) [
       | true ↦ within (pos 0) (pos maxOperands) s
       | false ↦
@@ -50,8 +51,8 @@ unfoldable pub sound : (before token : Bytes) → Bool
 sound before token =
     elim (numeral token) [
       | unjudged ↦ true
-      | bare s ↦ judged before s leastNumber greatestNumber
-      | lettered b s ↦ judged before s (pos 0) (lastAfter b)
+      | bare s ↦ numberSound before s leastNumber greatestNumber
+      | lettered b s ↦ numberSound before s (pos 0) (lastAfter b)
     ]
 
 -- row 3 for the tokens after `before`; before the first stands nothing
@@ -61,20 +62,20 @@ sounds before (t ∷ ts) = elim (sound before t) [ true ↦ sounds t ts | false 
 
 -- the items of a list
 unfoldable pub items : Bytes → List ℕ
-items s = map count (parts comma s)
+items s = map naturalOf (parts comma s)
 
 -- row 5 for a list right after `syn`, also in an ill-formed C
-unfoldable pub listed : ℕ → (before token : Bytes) → Bool
-listed A before token =
+unfoldable pub listSound : ℕ → (before token : Bytes) → Bool
+listSound A before token =
     elim (numeral token) [
       | unjudged ↦ true
       | bare s ↦ elim (same before (bytes "syn")) [ true ↦ rises A 0 (items s) | false ↦ true ]
       | lettered b s ↦ true
     ]
 
-unfoldable pub allListed : ℕ → Bytes → List Bytes → Bool
-allListed A before [] = true
-allListed A before (t ∷ ts) = elim (listed A before t) [ true ↦ allListed A t ts | false ↦ false ]
+unfoldable pub listsSound : ℕ → Bytes → List Bytes → Bool
+listsSound A before [] = true
+listsSound A before (t ∷ ts) = elim (listSound A before t) [ true ↦ listsSound A t ts | false ↦ false ]
 
 -- the words that are one token
 unfoldable pub find : {A : Type 0} → A → List (Bytes × A) → Bytes → A
@@ -93,13 +94,13 @@ unfoldable pub word : Bytes → Word
 word token =
     elim (numeral token) [
       | unjudged ↦ find stray spellings token
-      | bare s ↦ numWord (integer s)
-      | lettered b s ↦ variableWord b (count s)
+      | bare s ↦ numWord (integerOf s)
+      | lettered b s ↦ variableWord b (naturalOf s)
     ]
 
 -- the K after `all` or `any`
 unfoldable pub counted : (ℕ → Word) → Bytes → Word
-counted w token = elim (numeral token) [ unjudged ↦ stray | bare s ↦ w (count s) | lettered b s ↦ stray ]
+counted w token = elim (numeral token) [ unjudged ↦ stray | bare s ↦ w (naturalOf s) | lettered b s ↦ stray ]
 
 unfoldable pub readWords : List Bytes → List Word
 readWords [] = []
@@ -119,7 +120,7 @@ node token =
     elim (numeral token) [
       | unjudged ↦ find strayNode ((bytes "par", parNode) ∷ []) token
       | bare s ↦ strayNode
-      | lettered b s ↦ leafOf b (count s)
+      | lettered b s ↦ leafOf b (naturalOf s)
     ]
 
 -- the list after `syn`

@@ -8,7 +8,7 @@ use Rattle.model.specs.Table.{unopened, opened, openTable}
 use Rattle.text.specs.Bytes.{Bytes}
 use Rattle.text.specs.Spelling.{textOf}
 
--- Row 35: the lent buffer, of so many bytes, is shorter than the text.
+-- Row 35: does a text fit into a lent buffer of so many bytes?
 unfoldable pub row35 : (buffer : ℕ) → Bytes → Bool
 row35 buffer text = ltb buffer (length text)
 
