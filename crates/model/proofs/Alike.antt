@@ -25,6 +25,11 @@ use Rattle.model.proofs.Merged.{Shaped, shaped, step-same, settled-same
 abbrev inside : Model → State → ℕ → Bool
 inside m s k = between (rangeOf m k .low) (rangeOf m k .high) (val s k)
 
+-- the merged automaton's variables: the model's, then the pointers
+pub merged-size : (m : Model) → length (linear m .variables) ≡ length (m .variables) + length (m .automata)
+unfolding linear
+merged-size m = simp (length-append, length-map)
+
 module _ (m : Model) (s : State) (g : Shaped m s) where
   -- the rows of the merged automaton: 21 and 22 never, 23 when the composition's
   merged-21 : row21 (linear m) (beside s) ≡ false
@@ -54,14 +59,10 @@ module _ (m : Model) (s : State) (g : Shaped m s) where
       rw (r, pointer-value m (s .values) (s .locations) (g .values-are) k)
       (and-intro (of-le 0 (at s k) (omega arith)) (of-le (at s k) (pred (length (automaton m k .locations))) (omega arith)))
 
-  merged-size : length (linear m .variables) ≡ length (m .variables) + length (m .automata)
-  unfolding linear
-  merged-size = simp (length-append, length-map)
-
   merged-23 : row23 (linear m) (beside s) ≡ row23 m s
   unfolding row23 pointer
   merged-23 = ap not (
-      ap (λ (k : ℕ). each k (inside (linear m) (beside s))) merged-size
+      ap (λ (k : ℕ). each k (inside (linear m) (beside s))) (merged-size m)
       ∙ each-add (length (m .variables)) (length (m .automata)) (inside (linear m) (beside s))
       ∙ and-same (each-ext _ _ (inside m s) variable-range) (each-intro _ _ pointer-range)
       ∙ and-true (each (length (m .variables)) (inside m s)))

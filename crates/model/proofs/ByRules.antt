@@ -308,13 +308,13 @@ not-no : (b : Bool) (x y : Answer) → cond b x no ≡ y → (no ≡ y → ⊥) 
 not-no true x y h n = (refl, h)
 not-no false x y h n = absurd (n h)
 
-refused-marked : {b : Bool} (j : ℕ) → refused j ≡ marked b → ⊥
+pub refused-marked : {b : Bool} (j : ℕ) → refused j ≡ marked b → ⊥
 refused-marked j h = let z : _≡_ {A = ℕ} 0 1 = cc in omega arith
 
 no-marked : {b : Bool} → no ≡ marked b → ⊥
 no-marked h = let z : _≡_ {A = ℕ} 0 1 = cc in omega arith
 
-refused-yes : (j : ℕ) → refused j ≡ yes → ⊥
+pub refused-yes : (j : ℕ) → refused j ≡ yes → ⊥
 refused-yes j h = let z : _≡_ {A = ℕ} 0 1 = cc in omega arith
 
 no-yes : no ≡ yes → ⊥

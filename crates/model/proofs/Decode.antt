@@ -144,7 +144,7 @@ entry-back r (composeLine c) rest h =
     rw (nodes-back (r .model .actions) c rest up (in-range r (composeLine c) h), read-nodes-of c)
 
 -- all lines, as far as the fuel goes
-none-lacks : (o : Option ℕ) → lacks o ≡ true → o ≡ none
+pub none-lacks : (o : Option ℕ) → lacks o ≡ true → o ≡ none
 unfolding lacks
 none-lacks none h = refl
 none-lacks (some n) h = absurd (true≢false (sym h))

@@ -17,4 +17,7 @@ pub mod Pointers
 pub mod Merged
 pub mod Alike
 pub mod Count
+pub mod LinearLimits
+pub mod TableJudge
+pub mod TableRuns
 pub mod Examples

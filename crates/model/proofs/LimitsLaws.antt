@@ -18,14 +18,14 @@ use Rattle.model.proofs.LinesLaws.{notedAll, noted-append, sheet, auto,
 use Rattle.model.proofs.LimitLines.{format-line, actions-line, variables-line, variable-line, automata-line, sync-line, locations-line, state-line, edges-line, edge-line, tree-line}
 
 -- every item of a list
-abbrev Members : {A : Type 0} → (A → Type 0) → List A → Type 0
+abbrev pub Members : {A : Type 0} → (A → Type 0) → List A → Type 0
 Members {A} P l = (x : A) → List·Memᴰ x l → P x
 
-members : {A : Type 0} (P : A → Type 0) (x : A) (l : List A) → P x → Members P l → Members P (x ∷ l)
+pub members : {A : Type 0} (P : A → Type 0) (x : A) (l : List A) → P x → Members P l → Members P (x ∷ l)
 members P x l p h y (List·Memᴰ·head e) = subst P (sym e) p
 members P x l p h y (List·Memᴰ·tail m) = h y m
 
-no-members : {A : Type 0} (P : A → Type 0) → Members P []
+pub no-members : {A : Type 0} (P : A → Type 0) → Members P []
 no-members P x m = absurd (List·Memᴰ·not-nil m)
 
 -- the lines of some variables

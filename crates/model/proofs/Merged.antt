@@ -186,7 +186,7 @@ module _ (m : Model) where
 
 module _ (m : Model) (lawful : Lawful m) where
   -- what a lawful automaton meets, and one that says nothing, every automaton meets
-  automaton-at : (P : Automaton → Type 0) → P nobody → ((x : Automaton) → LawfulAutomaton (m .variables) (m .actions) x → P x) → (k : ℕ) → P (automaton m k)
+  pub automaton-at : (P : Automaton → Type 0) → P nobody → ((x : Automaton) → LawfulAutomaton (m .variables) (m .actions) x → P x) → (k : ℕ) → P (automaton m k)
   automaton-at P e h k = all-at P nobody e (m .automata) (λ x i. h x (lawful .automata x i)) k
 
   -- so row 7 holds of no predicate

@@ -14,6 +14,7 @@ pub mod Exact
 pub mod Refusals
 pub mod FitsLaws
 pub mod Given
+pub mod TextRuns
 pub mod Computing
 pub mod Cases
 pub mod Oven
