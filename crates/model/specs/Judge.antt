@@ -20,6 +20,8 @@ pub data Answer : Type 0 where
   yes no : Answer
   refused : ℕ → Answer
 
+-- The rows' tests are true where the row refuses.
+
 -- Row 20: what the phases' numbers are.
 unfoldable pub phaseOf : ℕ → Option Phase
 phaseOf p = elim (eqb p 0) [ true ↦ some start | false ↦ elim (eqb p 1) [ true ↦ some running | false ↦ none ] ]
