@@ -1,0 +1,4 @@
+pub mod Sets
+pub mod Nodes
+pub mod Checked
+pub mod Members
