@@ -1,11 +1,13 @@
 // Numbers of expressions: steps on i32 that never leave its range, and tests. Each is worked out in i64, where it always
 // fits, and then cut to the range; on checked expressions the cut changes nothing (proofs/Intervals.antt).
 ghost use mathlib.Core.Path.{_≡_};
-ghost use mathlib.Core.Bool.{cond};
+ghost use mathlib.Core.Bool.{cond, _&&_};
 ghost use lib.IntN.{pos, _+ℤ_, _-ℤ_, _*ℤ_};
 ghost use lib.Signed.{leZ};
 ghost use lib.ListN.{getD};
 ghost use Rattle.model.specs.Basic.{eqZ};
+ghost use Rattle.model.specs.Bounds.{leastValue, greatestValue};
+ghost use Rattle.model.specs.Predicate.{least, greatest};
 ghost use Rattle.model.specs.Table.{unbiased};
 ghost use Rattle.arithmetic.specs.Cut.{cut};
 
@@ -76,4 +78,55 @@ pub fn product(a: i32, b: i32) -> i32
     ensures { λ r. ⌜ r ≡ cut (a *ℤ b) ⌝ }
 {
     cut_to(a as i64 * b as i64)
+}
+
+// For intervals, which are checked before they are cut: the steps in i64, where nothing is lost.
+pub fn wide(a: i32) -> i64
+    ensures { λ r. ⌜ r ≡ a ⌝ }
+{
+    a as i64
+}
+
+pub fn wide_sum(a: i32, b: i32) -> i64
+    ensures { λ r. ⌜ r ≡ a +ℤ b ⌝ }
+{
+    a as i64 + b as i64
+}
+
+pub fn wide_difference(a: i32, b: i32) -> i64
+    ensures { λ r. ⌜ r ≡ a -ℤ b ⌝ }
+{
+    a as i64 - b as i64
+}
+
+pub fn wide_product(a: i32, b: i32) -> i64
+    ensures { λ r. ⌜ r ≡ a *ℤ b ⌝ }
+{
+    a as i64 * b as i64
+}
+
+// The number that a biased table word stands for.
+pub fn unbias(word: u32) -> i64
+    ensures { λ r. ⌜ r ≡ unbiased word ⌝ }
+{
+    word as i64 - 32768
+}
+
+pub fn lesser(a: i64, b: i64) -> i64
+    ensures { λ r. ⌜ r ≡ least a b ⌝ }
+{
+    if a <= b { a } else { b }
+}
+
+pub fn greater(a: i64, b: i64) -> i64
+    ensures { λ r. ⌜ r ≡ greatest a b ⌝ }
+{
+    if a <= b { b } else { a }
+}
+
+// Whether the interval from `low` to `high` stays within the span of row 10.
+pub fn in_span(low: i64, high: i64) -> bool
+    ensures { λ r. ⌜ r ≡ (leZ leastValue low && leZ high greatestValue) ⌝ }
+{
+    (-2147483648 <= low) & (high <= 2147483647)
 }

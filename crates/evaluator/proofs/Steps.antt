@@ -12,6 +12,7 @@ use lib.Seq.{getD-take, getD-drop}
 use lib.Dec.{ltb}
 use Rattle.model.specs.Predicate.{Word, stray}
 use Rattle.model.specs.Table.{kinds, wordOf}
+use Rattle.model.proofs.WordKinds.{word-of, each-at}
 use Rattle.evaluator.specs.declared.Truth.{Truth}
 use Rattle.evaluator.specs.declared.Value.{Value}
 use Rattle.evaluator.specs.Evaluate.{predicateAt, expressionAt, predicateBy, expressionBy, gather, truth, valued}
@@ -22,22 +23,7 @@ unfolding gather
 gather-more P zero at all any z = absurd (z refl)
 gather-more P (suc n) at all any z = rw (sub-one (suc n))
 
--- a table word by its kind
-word-of : (w kind : ℕ) → w % 16 ≡ kind → wordOf w ≡ getD (kinds (w / 16)) kind stray
-unfolding wordOf
-word-of w kind e = rw e
-
--- A kind that no predicate, or no expression, begins with. What holds of every word in a row and of `stray` holds of the one at any place.
-Each : (Word → Type 0) → List Word → Type 0
-Each F [] = F stray
-Each F (x ∷ l) = F x × Each F l
-
-each-at : (F : Word → Type 0) (l : List Word) → Each F l → (k : ℕ) → F (getD l k stray)
-unfolding Each
-each-at F [] h k = h
-each-at F (x ∷ l) h zero = h .0
-each-at F (x ∷ l) h (suc k) = each-at F l (h .1) k
-
+-- A kind that no predicate, or no expression, begins with.
 later : (l : List Word) (n k : ℕ) → n ≤ k → getD l k stray ≡ getD (drop n l) (k - n) stray
 later l n k h =
     let e : k ≡ n + (k - n) = omega arith in
@@ -47,13 +33,13 @@ past : {k : ℕ} (n : ℕ) → n ≤ k → (k ≡ n → ⊥) → n + 1 ≤ k
 past n h ne = omega arith
 
 pub other-p : (P : ℕ → Truth) (E : ℕ → Value) (w at : ℕ) → (w % 16 ≡ 0 → ⊥) → (w % 16 ≡ 1 → ⊥) → (w % 16 ≡ 2 → ⊥) → (w % 16 ≡ 3 → ⊥) → (w % 16 ≡ 4 → ⊥) → (w % 16 ≡ 5 → ⊥) → truth false at ≡ predicateBy P E (wordOf w) at
-unfolding predicateBy kinds Each
+unfolding predicateBy kinds
 other-p P E w at a b c d e f =
     rw (word-of w _ refl, later (kinds (w / 16)) 6 (w % 16) (omega arith))
     (each-at (λ x. truth false at ≡ predicateBy P E x at) (drop 6 (kinds (w / 16))) (refl, (refl, (refl, (refl, (refl, (refl, (refl, refl))))))) (w % 16 - 6))
 
 pub other-e : (P : ℕ → Truth) (E : ℕ → Value) (before after : List ℤ) (w at : ℕ) → (w % 16 ≡ 6 → ⊥) → (w % 16 ≡ 7 → ⊥) → (w % 16 ≡ 8 → ⊥) → (w % 16 ≡ 9 → ⊥) → (w % 16 ≡ 10 → ⊥) → (w % 16 ≡ 11 → ⊥) → (w % 16 ≡ 12 → ⊥) → valued (pos 0) at ≡ expressionBy P E before after (wordOf w) at
-unfolding expressionBy kinds Each
+unfolding expressionBy kinds
 other-e P E before after w at a b c d e f g = rw (word-of w _ refl) (go (ltb (w % 16) 6) refl)
   where
     go : (t : Bool) → ltb (w % 16) 6 ≡ t → valued (pos 0) at ≡ expressionBy P E before after (getD (kinds (w / 16)) (w % 16) stray) at

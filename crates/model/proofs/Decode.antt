@@ -61,7 +61,7 @@ word-back mulWord h = refl
 word-back ifWord h = refl
 word-back stray h = refl
 
-words-back : (ws : List Word) → every inRange ws ≡ true → map wordOf (map code ws) ≡ ws
+pub words-back : (ws : List Word) → every inRange ws ≡ true → map wordOf (map code ws) ≡ ws
 unfolding every
 words-back [] h = refl
 words-back (w ∷ ws) h = ap₂ (λ x xs. x ∷ xs) (word-back w (and-left (inRange w) _ h)) (words-back ws (and-right (inRange w) _ h))

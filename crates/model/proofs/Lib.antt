@@ -5,6 +5,7 @@ pub mod LinesLaws
 pub mod LinesBack
 pub mod LimitLines
 pub mod LimitsLaws
+pub mod WordKinds
 pub mod Bits
 pub mod Decode
 pub mod Sizes

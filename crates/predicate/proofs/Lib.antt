@@ -1,0 +1,7 @@
+pub mod Words
+pub mod Steps
+pub mod Standing
+pub mod Forward
+pub mod Back
+pub mod WalkLaws
+pub mod ScanLaws
