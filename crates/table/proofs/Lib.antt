@@ -1,1 +1,4 @@
 pub mod ScanLaws
+pub mod NumberLines
+pub mod PredicateLines
+pub mod LineLaws
