@@ -1,0 +1,5 @@
+pub mod Places
+pub mod NumberLaws
+pub mod FindLaws
+pub mod BytesLaws
+pub mod WriteLaws

@@ -1,0 +1,97 @@
+// The scan over a table's lines.
+use crate::Line;
+use crate::Scan;
+use crate::one_line::{self};
+use lines::Counts;
+use lines::Due;
+use lines::Key;
+ghost use mathlib.Core.Path.{_≡_};
+ghost use Rattle.table.specs.Line.{lineAt};
+ghost use Rattle.table.specs.Scan.{scanFirst, scanAfter, isEnd, zerosFrom, scannedSheet};
+
+// Every word from `at` on is 0.
+fn zeros(t: &[u32], at: usize) -> bool
+    ensures { λ r. ⌜ r ≡ zerosFrom (now (t .entry)) at ⌝ }
+{
+    let mut i = at;
+    while i < t.len() {
+        if t[i] != 0 {
+            return false;
+        }
+        i += 1;
+    }
+    true
+}
+
+// No line is due any more.
+fn end(key: Key) -> bool
+    ensures { λ r. ⌜ r ≡ isEnd key ⌝ }
+{
+    match key {
+        Key::Format => false,
+        Key::Actions => false,
+        Key::Variables => false,
+        Key::Variable => false,
+        Key::Automata => false,
+        Key::Sync => false,
+        Key::Locations => false,
+        Key::Init => false,
+        Key::Inv => false,
+        Key::Edges => false,
+        Key::Edge => false,
+        Key::Compose => false,
+        Key::End => true,
+    }
+}
+
+impl Scan {
+    fn first() -> Scan
+        ensures { λ r. ⌜ r ≡ scanFirst ⌝ }
+    {
+        Scan {
+            due: Due::first(),
+            counts: Counts::none(),
+            at: 0,
+        }
+    }
+
+    // After a line with this number and so many nodes, which ends before `next`.
+    fn after(self, number: usize, nodes: usize, next: usize) -> Scan
+        ensures { λ r. ⌜ r ≡ scanAfter self number nodes next ⌝ }
+    {
+        let due = self.due;
+        let counts = self.counts;
+        let key = due.key;
+        Scan {
+            due: due.after(number),
+            counts: counts.after(key, number, nodes),
+            at: next,
+        }
+    }
+}
+
+// Each line takes a word at least, so a table has been read before the rounds are.
+const ROUNDS: usize = 8193;
+
+// Does each line of the table say something that no row refuses, and is the rest 0?
+pub(crate) fn sheet(t: &[u32]) -> bool
+    ensures { λ r. ⌜ r ≡ scannedSheet (lineAt (now (t .entry))) (now (t .entry)) ⌝ }
+{
+    let mut scan = Scan::first();
+    let mut left = ROUNDS;
+    while left != 0 {
+        let at = scan.at;
+        let due = scan.due;
+        let counts = scan.counts;
+        let key = due.key;
+        if end(key) {
+            return zeros(t, at);
+        }
+        let Line::Sound(number, nodes, next) = one_line::line(t, at, key, counts) else {
+            return false;
+        };
+        scan = scan.after(number, nodes, next);
+        left -= 1;
+    }
+    false
+}
