@@ -9,8 +9,8 @@ use lib.ListN.{length, getD, drop, drop-of-length-le}
 use lib.Dec.{eqb}
 use Rattle.model.specs.Basic.{every, same}
 use Rattle.model.proofs.Lists.{same-of}
-use Rattle.text.specs.Bytes.{begins}
-use Rattle.text.specs.Rows.{printable}
+use Rattle.format.specs.Bytes.{begins}
+use Rattle.format.specs.Rows.{printable}
 use Rattle.scan.proofs.Places.{at-place}
 
 -- each way out of `printable`

@@ -8,10 +8,10 @@ use borrow.Author.Tests.{le-leb, lt-leb, eq-eqb, ne-eqb, eqb-true, eqb-false}
 use lib.ListN.{length, getD, take, drop, length-drop}
 use lib.Seq.{drop-drop, drop-length, take-all}
 use lib.Dec.{leb, eqb}
-use Rattle.text.specs.Bytes.{LF, parts, onto}
-use Rattle.text.specs.Rows.{Line}
-use Rattle.text.specs.Reader.{linesOf, ontoLine}
-use Rattle.text.proofs.BytesLaws.{Free, parts-free}
+use Rattle.format.specs.Bytes.{LF, parts, onto}
+use Rattle.format.specs.Rows.{Line}
+use Rattle.format.specs.Reader.{linesOf, ontoLine}
+use Rattle.format.proofs.BytesLaws.{Free, parts-free}
 use Rattle.scan.proofs.Places.{at-place}
 use Rattle.scan.specs.Find.{gap, firstFrom, tally, countOf}
 

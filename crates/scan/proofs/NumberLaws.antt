@@ -18,8 +18,8 @@ use mir.ValLaws.{toZ-ofZ, toZ-pos}
 use mir.Facts.{sfits-widen}
 use Rattle.model.specs.Basic.{between, orElse}
 use Rattle.model.proofs.Tests.{and-left, and-right, and-intro}
-use Rattle.text.specs.Number.{digit, digits, natural, number, negative, unsigned, within, isBetween, naturalOf, integerOf}
-use Rattle.text.proofs.NumberLaws.{is-digit, false-true}
+use Rattle.format.specs.Number.{digit, digits, natural, number, negative, unsigned, within, isBetween, naturalOf, integerOf}
+use Rattle.format.proofs.NumberLaws.{is-digit, false-true}
 use Rattle.scan.proofs.Places.{at-place, take-rest}
 use Rattle.scan.specs.Number.{naturalIn, integerIn, upTo, kept, negated}
 use Rattle.scan.specs.declared.answer.Natural.{Natural}

@@ -14,8 +14,8 @@ use lib.Signed.{ltZ, leZ, nonNeg}
 use mir.Syntax.{w32, w64}
 use mir.Val.{SFits, Fits, toZ, ofZ}
 use mir.ValLaws.{toZ-ofZ}
-use Rattle.text.specs.Number.{decimal, signed}
-use Rattle.text.proofs.NumberLaws.{decimal-small, decimal-step}
+use Rattle.format.specs.Number.{decimal, signed}
+use Rattle.format.proofs.NumberLaws.{decimal-small, decimal-step}
 use Rattle.scan.proofs.NumberLaws.{widened}
 use Rattle.scan.specs.Write.{fits, writtenTo, after, Wrote, Spells}
 use Rattle.scan.specs.declared.answer.Written.{Written}

@@ -6,7 +6,7 @@ use mathlib.Core.Option.{Option, none, some}
 use lib.IntN.{ℤ, pos, negsuc}
 use lib.Dec.{leb}
 use Rattle.model.specs.Basic.{between}
-use Rattle.text.specs.Number.{within, naturalOf, integerOf}
+use Rattle.format.specs.Number.{within, naturalOf, integerOf}
 use Rattle.scan.specs.declared.answer.Natural.{Natural}
 use Rattle.scan.specs.declared.answer.Natural.the-variants as N
 use Rattle.scan.specs.declared.answer.Integer.{Integer}

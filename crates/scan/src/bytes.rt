@@ -3,8 +3,8 @@ ghost use mathlib.Core.Path.{_≡_};
 ghost use lib.ListN.{length};
 ghost use Prim.Native.Nat.{_≤_};
 ghost use Rattle.model.specs.Basic as Basic;
-ghost use Rattle.text.specs.Bytes as Bytes;
-ghost use Rattle.text.specs.Rows as Rows;
+ghost use Rattle.format.specs.Bytes as Bytes;
+ghost use Rattle.format.specs.Rows as Rows;
 ghost use Rattle.scan.specs.Find.{tally, countOf};
 
 fn shown(b: u8) -> bool

@@ -3,7 +3,7 @@ use crate::answer::Integer;
 use crate::answer::Natural;
 ghost use mathlib.Core.Path.{_≡_};
 ghost use lib.IntN.{pos};
-ghost use Rattle.text.specs.Number as N;
+ghost use Rattle.format.specs.Number as N;
 ghost use Rattle.scan.specs.Number.{upTo, kept, negated, naturalIn, integerIn};
 
 pub fn wide(x: u8) -> u64

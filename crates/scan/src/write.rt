@@ -3,7 +3,7 @@ use crate::answer::Written;
 ghost use mathlib.Core.Path.{_≡_};
 ghost use Prim.Native.Nat.{_+_, _%_};
 ghost use lib.IntN.{natAbs};
-ghost use Rattle.text.specs.Number as N;
+ghost use Rattle.format.specs.Number as N;
 ghost use Rattle.scan.specs.Write.{Wrote, Spells};
 
 // The bytes of `s`, from `at` on.

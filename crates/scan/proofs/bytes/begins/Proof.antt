@@ -2,7 +2,7 @@
 use Prim.Native.Nat.{_-_, _≤_}
 use mathlib.Core.Path.{_≡_}
 use lib.ListN.{length, drop}
-use Rattle.text.specs.Bytes.{begins}
+use Rattle.format.specs.Bytes.{begins}
 use Rattle.scan.proofs.BytesLaws.{begins-laws}
 use borrow.Author.Needs.{needs}
 use Rattle.scan.proofs.bytes.begins.Statement.{statement}

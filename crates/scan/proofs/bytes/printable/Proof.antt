@@ -3,7 +3,7 @@ use Prim.Native.Nat.{_-_, _≤_}
 use mathlib.Core.Path.{_≡_}
 use lib.ListN.{length, drop}
 use Rattle.model.specs.Basic.{every}
-use Rattle.text.specs.Rows.{printable}
+use Rattle.format.specs.Rows.{printable}
 use Rattle.scan.proofs.BytesLaws.{printable-laws}
 use borrow.Author.Needs.{needs}
 use Rattle.scan.proofs.bytes.printable.Statement.{statement}

@@ -1,5 +1,5 @@
 use mathlib.Core.Path.{refl}
-use Rattle.text.specs.Rows.{printable}
+use Rattle.format.specs.Rows.{printable}
 use borrow.Author.Needs.{needs}
 use Rattle.scan.proofs.bytes.shown.Statement.{statement}
 use Rattle.scan.proofs.bytes.shown.Tie as tie

@@ -3,7 +3,7 @@ use Prim.Native.Nat.{_≤_, _-_}
 use mathlib.Core.Path.{_≡_}
 use borrow.Author.Needs.{needs}
 use lib.ListN.{length, drop}
-use Rattle.text.specs.Number.{digits}
+use Rattle.format.specs.Number.{digits}
 use Rattle.scan.specs.Number.{upTo}
 use Rattle.scan.proofs.NumberLaws.{digits-laws}
 use Rattle.scan.proofs.number.digits.Statement.{statement}

@@ -1,0 +1,159 @@
+-- The line of an entry: a text comes apart into these lines, and each says its entry.
+use Prim.Native.Nat.{ℕ}
+use mathlib.Core.Path.{_≡_, refl, sym, _∙_, ap}
+use mathlib.Core.Bool.{Bool, true, false}
+use mathlib.Core.List.{List, [], _∷_, _++_, append-assoc, map, flatMap}
+use mathlib.Core.Option.{some}
+use native.Mathlib.Omega.{arith}
+use borrow.Author.Tests.{eqb-true, ne-eqb}
+use lib.Dec.{eqb}
+use lib.ListN.{length, getD, drop}
+use Rattle.model.specs.Basic.{orElse}
+use Rattle.model.specs.Composition.{Tree, leaf}
+use Rattle.model.specs.Limits.{listsFilled}
+use Rattle.model.specs.Lines.{Entry, Key, actions, actionsLine, automata, automataLine, compose, composeLine, edge, edgeLine, edges, edgesLine, formatLine, init, initLine, inv, invLine, keyOf, locations, locationsLine, sync, syncLine, variable, variableLine, variables, variablesLine}
+use Rattle.model.specs.Parse.{readPred, readTree}
+use Rattle.model.specs.Predicate as P
+use Rattle.model.specs.Predicate.{Pred, all, range}
+use Rattle.format.specs.Bytes.{Bytes, LF, comma, joined, ledBy, parts}
+use Rattle.format.specs.Number.{naturalOf, decimal, integerOf, signed}
+use Rattle.format.specs.Reader.{linesOf, ontoLine}
+use Rattle.format.specs.Rows.{Line, entry, field, fields, is, listItems, place, predOf, predTokens, wordsIn, syncList, thePred, theRange, theTree, treeTokens, nodesIn, treeOf, valueOf}
+use Rattle.format.specs.Spelling.{lineText, spelling, textOfList, textOfPred, textOfTree, valueText}
+use Rattle.format.specs.Tokens.{readNodes, readWords, tokens}
+use Rattle.format.proofs.BytesLaws.{Each, Free, parts-free, parts-joined}
+use Rattle.format.proofs.LineLaws.{lineOf}
+use Rattle.format.proofs.NumberLaws.{leading}
+use Rattle.format.proofs.PredText.{text-read}
+use Rattle.format.proofs.Spans.{Span, decimal-free, line-span, pred-free, signed-free}
+use Rattle.format.proofs.TokenLaws.{count-decimal, integer-signed}
+use Rattle.format.proofs.TreeRead.{counts-back, list-parts, tree-read}
+
+-- a text comes apart into its lines
+lines-at : (t : Bytes) → linesOf (LF ∷ t) ≡ record { bytes = []; ended = true } ∷ linesOf t
+unfolding linesOf
+lines-at t = refl
+
+lines-on : (b : ℕ) (t : Bytes) → (b ≡ LF → ⊥) → linesOf (b ∷ t) ≡ ontoLine b (linesOf t)
+unfolding linesOf
+lines-on b t h = rw (ne-eqb b LF h, linesOf)
+
+lines-seam : (s t : Bytes) → Span 32 126 s → linesOf (s ++ LF ∷ t) ≡ record { bytes = s; ended = true } ∷ linesOf t
+unfolding ontoLine
+lines-seam [] t h = lines-at t
+lines-seam (b ∷ s) t h = let l = h .0 in lines-on b (s ++ LF ∷ t) (λ e. omega arith) ∙ ap (ontoLine b) (lines-seam s t (h .1))
+
+pub lines-all : (es : List Entry) → linesOf (flatMap lineText es) ≡ map lineOf es
+unfolding flatMap lineText
+lines-all [] = unfold linesOf in refl
+lines-all (e ∷ es) =
+    ap linesOf (append-assoc (spelling (keyOf e)) (valueText e ++ LF ∷ []) (flatMap lineText es) ∙ ap (λ l. spelling (keyOf e) ++ l) (append-assoc (valueText e) (LF ∷ []) (flatMap lineText es)) ∙ sym (append-assoc (spelling (keyOf e)) (valueText e) (LF ∷ flatMap lineText es))) ∙
+    lines-seam (spelling (keyOf e) ++ valueText e) (flatMap lineText es) (line-span e) ∙
+    ap (λ l. lineOf e ∷ l) (lines-all es)
+
+-- and the lines of a text make it up again
+abbrev feed : Bool → Bytes
+feed true = LF ∷ []
+feed false = []
+
+abbrev textOfLines : List Line → Bytes
+textOfLines [] = []
+textOfLines (l ∷ ls) = (l .bytes ++ feed (l .ended)) ++ textOfLines ls
+
+onto-text : (b : ℕ) (ls : List Line) → textOfLines (ontoLine b ls) ≡ b ∷ textOfLines ls
+unfolding ontoLine
+onto-text b [] = refl
+onto-text b (l ∷ ls) = refl
+
+lines-text : (t : Bytes) → textOfLines (linesOf t) ≡ t
+unfolding linesOf
+lines-text [] = refl
+lines-text (b ∷ t) = go (lines-text t) (eqb b LF) refl
+  where
+    go : textOfLines (linesOf t) ≡ t → (v : Bool) → eqb b LF ≡ v → textOfLines (elim v [ true ↦ record { bytes = []; ended = true } ∷ linesOf t | false ↦ ontoLine b (linesOf t) ]) ≡ b ∷ t
+    go ih true h = ap (λ l. LF ∷ l) ih ∙ ap (λ x. x ∷ t) (sym (eqb-true b LF h))
+    go ih false h = onto-text b (linesOf t) ∙ ap (λ l. b ∷ l) ih
+
+-- so texts with the same lines are the same
+pub same-lines : (s t : Bytes) → linesOf s ≡ linesOf t → s ≡ t
+same-lines s t h = sym (lines-text s) ∙ ap textOfLines h ∙ lines-text t
+
+-- the fields of a line
+pub dropped : (s v : Bytes) → drop (length s) (s ++ v) ≡ v
+dropped [] v = refl
+dropped (b ∷ s) v = dropped s v
+
+pub sole-part : (k : Key) (v : Bytes) → Free 44 v → parts comma (drop (length (spelling k)) (spelling k ++ v)) ≡ v ∷ []
+sole-part k v h = ap (parts comma) (dropped (spelling k) v) ∙ parts-free 44 v h
+
+pub sole-field : (k : Key) (v : Bytes) → Free 44 v → getD (parts comma (drop (length (spelling k)) (spelling k ++ v))) 0 [] ≡ v
+sole-field k v h = ap (λ l. getD l 0 []) (sole-part k v h)
+
+pred-back : (s : Bytes) (p : Pred) → s ≡ textOfPred p → orElse (all P.none) (readPred (readWords (tokens s))) ≡ p
+unfolding orElse
+pred-back s p e = ap (λ u. orElse (all P.none) (readPred (readWords (tokens u)))) e ∙ ap (orElse (all P.none)) (text-read p)
+
+-- the items of `sync=` are the list's numbers
+items-nil : listItems (textOfList []) ≡ []
+unfolding listItems textOfList joined
+items-nil = refl
+
+items-first : (s : Bytes) (b : ℕ) (t : Bytes) → s ≡ b ∷ t → listItems s ≡ parts comma s
+unfolding listItems
+items-first s b t e = rw e
+
+list-first : (k : ℕ) (ks : List ℕ) (b : ℕ) (t : Bytes) → decimal k ≡ b ∷ t → textOfList (k ∷ ks) ≡ b ∷ (t ++ ledBy comma (map decimal ks))
+unfolding textOfList joined
+list-first k ks b t e = ap (λ s. s ++ ledBy comma (map decimal ks)) e
+
+pub items-back : (l : List ℕ) → listItems (textOfList l) ≡ map decimal l
+items-back [] = items-nil
+items-back (k ∷ ks) =
+    let d = leading k in
+    items-first (textOfList (k ∷ ks)) _ _ (list-first k ks (d .first) (d .rest) (d .whole)) ∙ list-parts k ks
+
+pub list-back : (l : List ℕ) → map naturalOf (listItems (textOfList l)) ≡ l
+list-back l = ap (map naturalOf) (items-back l) ∙ counts-back l
+
+pub more-fields : (k : Key) (t : Bytes) (ts : List Bytes) → Free 44 t → Each (Free 44) ts → parts comma (drop (length (spelling k)) (spelling k ++ joined comma (t ∷ ts))) ≡ t ∷ ts
+more-fields k t ts h f = ap (parts comma) (dropped (spelling k) (joined comma (t ∷ ts))) ∙ parts-joined comma t ts h f
+
+the-tree : (c : Tree) → composeLine (orElse (leaf 0) (some c)) ≡ composeLine c
+unfolding orElse
+the-tree c = refl
+
+-- no list in the entry's tree is empty
+abbrev pub ListedEntry : Entry → Type 0
+ListedEntry formatLine = Unit
+ListedEntry (actionsLine n) = Unit
+ListedEntry (variablesLine n) = Unit
+ListedEntry (variableLine r) = Unit
+ListedEntry (automataLine n) = Unit
+ListedEntry (syncLine l) = Unit
+ListedEntry (locationsLine n) = Unit
+ListedEntry (initLine p) = Unit
+ListedEntry (invLine p) = Unit
+ListedEntry (edgesLine n) = Unit
+ListedEntry (edgeLine e) = Unit
+ListedEntry (composeLine c) = listsFilled c ≡ true
+
+-- what an entry's line says is the entry
+pub entry-line : (e : Entry) → ListedEntry e → entry (keyOf e) (lineOf e) ≡ e
+unfolding entry keyOf valueText fields field is place valueOf thePred predOf wordsIn predTokens theTree treeOf treeTokens nodesIn syncList theRange range
+entry-line formatLine h = refl
+entry-line (actionsLine n) h = ap (λ s. actionsLine (naturalOf s)) (sole-field actions (decimal n) (decimal-free n)) ∙ ap actionsLine (count-decimal n)
+entry-line (variablesLine n) h = ap (λ s. variablesLine (naturalOf s)) (sole-field variables (decimal n) (decimal-free n)) ∙ ap variablesLine (count-decimal n)
+entry-line (variableLine r) h =
+    ap (λ l. variableLine (range (integerOf (getD l 0 [])) (integerOf (getD l 1 [])))) (more-fields variable (signed (r .low)) (signed (r .high) ∷ []) (signed-free (r .low)) (signed-free (r .high), tt)) ∙
+    rw (integer-signed (r .low), integer-signed (r .high))
+entry-line (automataLine n) h = ap (λ s. automataLine (naturalOf s)) (sole-field automata (decimal n) (decimal-free n)) ∙ ap automataLine (count-decimal n)
+entry-line (syncLine l) h = ap (λ s. syncLine (map naturalOf (listItems s))) (dropped (spelling sync) (textOfList l)) ∙ ap syncLine (list-back l)
+entry-line (locationsLine n) h = ap (λ s. locationsLine (naturalOf s)) (sole-field locations (decimal n) (decimal-free n)) ∙ ap locationsLine (count-decimal n)
+entry-line (initLine p) h = ap initLine (pred-back _ p (sole-field init (textOfPred p) (pred-free p)))
+entry-line (invLine p) h = ap invLine (pred-back _ p (sole-field inv (textOfPred p) (pred-free p)))
+entry-line (edgesLine n) h = ap (λ s. edgesLine (naturalOf s)) (sole-field edges (decimal n) (decimal-free n)) ∙ ap edgesLine (count-decimal n)
+entry-line (edgeLine e) h =
+    ap (λ l. edgeLine (record { from = naturalOf (getD l 0 []); action = naturalOf (getD l 1 []); to = naturalOf (getD l 2 []); update = orElse (all P.none) (readPred (readWords (tokens (getD l 3 [])))) }))
+    (more-fields edge (decimal (e .from)) (decimal (e .action) ∷ decimal (e .to) ∷ textOfPred (e .update) ∷ []) (decimal-free (e .from)) (decimal-free (e .action), (decimal-free (e .to), (pred-free (e .update), tt)))) ∙
+    rw (count-decimal (e .from), count-decimal (e .action), count-decimal (e .to), pred-back (textOfPred (e .update)) (e .update) refl)
+entry-line (composeLine c) h = ap (λ s. composeLine (orElse (leaf 0) (readTree (readNodes (tokens s))))) (dropped (spelling compose) (textOfTree c)) ∙ ap (λ o. composeLine (orElse (leaf 0) o)) (tree-read c h) ∙ the-tree c

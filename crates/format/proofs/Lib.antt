@@ -1,0 +1,17 @@
+pub mod NumberLaws
+pub mod BytesLaws
+pub mod Spans
+pub mod TokenLaws
+pub mod ReadLaws
+pub mod PredText
+pub mod TreeText
+pub mod LineLaws
+pub mod TreeRead
+pub mod EntryLines
+pub mod FaultLaws
+pub mod TreeFaults
+pub mod Exact
+pub mod Refusals
+pub mod FitsLaws
+pub mod Given
+pub mod TextRuns

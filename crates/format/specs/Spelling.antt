@@ -1,0 +1,77 @@
+-- The one spelling of a model: `textOf`.
+use Prim.Native.Nat.{ℕ}
+use mathlib.Core.List.{List, [], _∷_, _++_, map, flatMap}
+use Rattle.model.specs.Predicate.{Pred, Range, Word, words, allOf, anyOf, notWord, impWord, eqWord, leWord, numWord, oldWord, newWord, addWord, subWord, mulWord, ifWord, stray}
+use Rattle.model.specs.Composition.{Tree, Node, nodes, parNode, synNode, leafNode, strayNode}
+use Rattle.model.specs.Model.{Edge, Model}
+use Rattle.model.specs.Lines.{Key, Entry, format, actions, variables, variable, automata, sync, locations, init, inv, edges, edge, compose, formatLine, actionsLine, variablesLine, variableLine, automataLine, syncLine, locationsLine, initLine, invLine, edgesLine, edgeLine, composeLine, keyOf, lines}
+use Rattle.format.specs.Bytes.{Bytes, bytes, joined, LF, space, comma, 'a, 'n, 'v}
+use Rattle.format.specs.Number.{decimal, signed}
+
+-- a key's bytes, the equals sign with them
+unfoldable pub spelling : Key → Bytes
+spelling format = bytes "format="
+spelling actions = bytes "actions="
+spelling variables = bytes "variables="
+spelling variable = bytes "variable="
+spelling automata = bytes "automata="
+spelling sync = bytes "sync="
+spelling locations = bytes "locations="
+spelling init = bytes "init="
+spelling inv = bytes "inv="
+spelling edges = bytes "edges="
+spelling edge = bytes "edge="
+spelling compose = bytes "compose="
+
+-- the tokens of a word
+unfoldable pub spelled : Word → List Bytes
+spelled (allOf k) = bytes "all" ∷ decimal k ∷ []
+spelled (anyOf k) = bytes "any" ∷ decimal k ∷ []
+spelled notWord = bytes "not" ∷ []
+spelled impWord = bytes "imp" ∷ []
+spelled eqWord = bytes "eq" ∷ []
+spelled leWord = bytes "le" ∷ []
+spelled (numWord z) = signed z ∷ []
+spelled (oldWord k) = ('v ∷ decimal k) ∷ []
+spelled (newWord k) = ('n ∷ decimal k) ∷ []
+spelled addWord = bytes "add" ∷ []
+spelled subWord = bytes "sub" ∷ []
+spelled mulWord = bytes "mul" ∷ []
+spelled ifWord = bytes "if" ∷ []
+spelled stray = []
+
+unfoldable pub textOfPred : Pred → Bytes
+textOfPred p = joined space (flatMap spelled (words p))
+
+unfoldable pub textOfList : List ℕ → Bytes
+textOfList list = joined comma (map decimal list)
+
+unfoldable pub spelledNode : Node → List Bytes
+spelledNode parNode = bytes "par" ∷ []
+spelledNode (synNode list) = bytes "syn" ∷ textOfList list ∷ []
+spelledNode (leafNode k) = ('a ∷ decimal k) ∷ []
+spelledNode strayNode = []
+
+unfoldable pub textOfTree : Tree → Bytes
+textOfTree c = joined space (flatMap spelledNode (nodes c))
+
+unfoldable pub valueText : Entry → Bytes
+valueText formatLine = decimal 1
+valueText (actionsLine n) = decimal n
+valueText (variablesLine n) = decimal n
+valueText (variableLine x) = joined comma (signed (x .low) ∷ signed (x .high) ∷ [])
+valueText (automataLine n) = decimal n
+valueText (syncLine list) = textOfList list
+valueText (locationsLine n) = decimal n
+valueText (initLine p) = textOfPred p
+valueText (invLine p) = textOfPred p
+valueText (edgesLine n) = decimal n
+valueText (edgeLine e) = joined comma (decimal (e .from) ∷ decimal (e .action) ∷ decimal (e .to) ∷ textOfPred (e .update) ∷ [])
+valueText (composeLine c) = textOfTree c
+
+-- a line: key, equals sign, value, LF
+unfoldable pub lineText : Entry → Bytes
+lineText e = spelling (keyOf e) ++ (valueText e ++ LF ∷ [])
+
+unfoldable pub textOf : Model → Bytes
+textOf m = flatMap lineText (lines m)

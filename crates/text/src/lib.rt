@@ -1,1 +1,0 @@
-// The sheet text. Its definitions stand in specs/.
