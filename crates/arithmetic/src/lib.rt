@@ -1,5 +1,6 @@
 // Numbers of expressions: steps on i32 that never leave its range, and tests. Each is worked out in i64, where it always
 // fits, and then cut to the range; on checked expressions the cut changes nothing (proofs/Intervals.antt).
+use model::Model;
 ghost use mathlib.Core.Path.{_≡_};
 ghost use mathlib.Core.Bool.{cond, _&&_};
 ghost use lib.IntN.{pos, _+ℤ_, _-ℤ_, _*ℤ_};
@@ -52,7 +53,7 @@ pub fn cut_to(x: i64) -> i32
 pub fn number(argument: u32) -> i32
     ensures { λ r. ⌜ r ≡ cut (unbiased argument) ⌝ }
 {
-    cut_to(argument as i64 - 32768)
+    cut_to(argument as i64 - Model::BIAS)
 }
 
 // Variable k's value; there is none past the end, and the definitions read 0 there.
@@ -109,7 +110,7 @@ pub fn wide_product(a: i32, b: i32) -> i64
 pub fn unbias(word: u32) -> i64
     ensures { λ r. ⌜ r ≡ unbiased word ⌝ }
 {
-    word as i64 - 32768
+    word as i64 - Model::BIAS
 }
 
 pub fn lesser(a: i64, b: i64) -> i64
@@ -128,5 +129,5 @@ pub fn greater(a: i64, b: i64) -> i64
 pub fn in_span(low: i64, high: i64) -> bool
     ensures { λ r. ⌜ r ≡ (leZ leastValue low && leZ high greatestValue) ⌝ }
 {
-    (-2147483648 <= low) & (high <= 2147483647)
+    (Model::LEAST_VALUE <= low) & (high <= Model::GREATEST_VALUE)
 }

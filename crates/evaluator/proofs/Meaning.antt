@@ -10,8 +10,8 @@ use lib.IntN.{ℤ, _+ℤ_, _-ℤ_, _*ℤ_}
 use lib.ListN.{length, getD, take, drop, length-append, length-take, length-drop}
 use lib.Seq.{drop-cons}
 use Rattle.model.specs.Basic.{every}
-use Rattle.model.specs.Bounds.{maxNodes}
-use Rattle.model.specs.Predicate.{Pred, Preds, Expr, all, any, negate, imp, eq, le, none, more, num, old, new, add, sub, mul, choose, operands, holds, allHold, anyHolds, value, Word, allOf, anyOf, notWord, impWord, eqWord, leWord, numWord, oldWord, newWord, addWord, subWord, mulWord, ifWord, stray, words, wordsAll, wordsOf, nodeCount, namesOutside, Range, allStay}
+use Rattle.model.specs.Bounds.{maxDepth, maxNodes}
+use Rattle.model.specs.Predicate.{Pred, Preds, Expr, all, any, negate, imp, eq, le, none, more, num, old, new, add, sub, mul, choose, operands, holds, allHold, anyHolds, value, Word, allOf, anyOf, notWord, impWord, eqWord, leWord, numWord, oldWord, newWord, addWord, subWord, mulWord, ifWord, stray, words, wordsAll, wordsOf, nodeCount, depth, depthAll, depthOf, namesOutside, Range, allStay}
 use Rattle.model.specs.Limits.{inRange}
 use Rattle.model.specs.Lawful.{LawfulPred}
 use Rattle.model.specs.Table.{code, kinds, wordOf}
@@ -78,9 +78,9 @@ module _ (w : List ℕ) (before after : List ℤ) where
   node-e x f at z s = by-word-e w before after f at (omega arith) (s .below) ∙ rw (s .coded, word-back x (s .ranged))
 
   mutual
-    unfolding words Stands Small holds operands predicateBy expressionBy gather
+    unfolding words depth Stands Small holds operands predicateBy expressionBy gather
 
-    right-p : (p : Pred) (f at : ℕ) → length (words p) ≤ f → Small before after p → Stands (words p) w at → P f at ≡ truth (holds before after p) (at + length (words p))
+    right-p : (p : Pred) (f at : ℕ) → depth p ≤ f → Small before after p → Stands (words p) w at → P f at ≡ truth (holds before after p) (at + length (words p))
     right-p (all ps) f at h r s =
         node-p (allOf (operands ps)) f at (omega arith) (s .0)
         ∙ rw (right-ps ps (f - 1) (at + 1) true false (omega arith) r (s .1)) (ap (truth _) (omega arith))
@@ -118,7 +118,7 @@ module _ (w : List ℕ) (before after : List ℤ) where
         )
         (ap (truth _) (omega (arith, length-append k l)))
 
-    right-ps : (ps : Preds) (f at : ℕ) (a b : Bool) → length (wordsAll ps) ≤ f → SmallAll before after ps → Stands (wordsAll ps) w at → gather (P f) (operands ps) at a b ≡ gathered (a && allHold before after ps) (b || anyHolds before after ps) (at + length (wordsAll ps))
+    right-ps : (ps : Preds) (f at : ℕ) (a b : Bool) → depthAll ps ≤ f → SmallAll before after ps → Stands (wordsAll ps) w at → gather (P f) (operands ps) at a b ≡ gathered (a && allHold before after ps) (b || anyHolds before after ps) (at + length (wordsAll ps))
     right-ps none f at a b h r s = rw (add-zero at, and-true a, or-false b)
     right-ps (more p ps) f at a b h r s =
         let k = words p in
@@ -132,7 +132,7 @@ module _ (w : List ℕ) (before after : List ℤ) where
         )
         (ap (gathered _ _) (omega (arith, length-append k l)))
 
-    right-e : (x : Expr) (f at : ℕ) → length (wordsOf x) ≤ f → SmallIn before after x → Stands (wordsOf x) w at → E f at ≡ valued (value before after x) (at + length (wordsOf x))
+    right-e : (x : Expr) (f at : ℕ) → depthOf x ≤ f → SmallIn before after x → Stands (wordsOf x) w at → E f at ≡ valued (value before after x) (at + length (wordsOf x))
     right-e (num z) f at h r s =
         node-e (numWord z) f at (omega arith) (s .0) ∙ ap (λ (v : ℤ). valued v (at + 1)) (cut-fits z r)
     right-e (old k) f at h r s = node-e (oldWord k) f at (omega arith) (s .0)
@@ -181,11 +181,13 @@ module _ (w : List ℕ) (before after : List ℤ) where
         (ap (valued _) (omega (arith, length-append j (k ++ l), length-append k l)))
 
 module _ (declared : List Range) (before after : List ℤ) (olds : Inside declared before) (news : Inside declared after) (p : Pred) (w : List ℕ) (at : ℕ) where
-  pub evaluate-holds : nodeCount p ≤ maxNodes → take (nodeCount p) (drop at w) ≡ map code (words p) → every inRange (words p) ≡ true → namesOutside (length declared) (words p) ≡ false → allStay declared p ≡ true → evaluate w before after at ≡ holds before after p
-  unfolding evaluate nodeCount
-  evaluate-holds few stand ranged named spanned =
-      ap (λ (t : Truth). t .holds)
-      (right-p w before after p maxNodes at few (all-small declared before after olds news p named spanned) (stands (words p) w at stand ranged))
+  -- Nested as deep as the predicate is enough, so on a checked table the calls never go deeper than 24: whatever more is left is not used.
+  pub evaluate-shallow : (left : ℕ) → depth p ≤ left → take (nodeCount p) (drop at w) ≡ map code (words p) → LawfulPred declared p
+      → predicateAt w before after left at ≡ truth (holds before after p) (at + nodeCount p)
+  unfolding nodeCount
+  evaluate-shallow left deep stand h =
+      right-p w before after p left at deep (all-small declared before after olds news p (h .named) (h .spanned)) (stands (words p) w at stand (h .ranged))
 
-  pub evaluate-lawful : nodeCount p ≤ maxNodes → take (nodeCount p) (drop at w) ≡ map code (words p) → LawfulPred declared p → evaluate w before after at ≡ holds before after p
-  evaluate-lawful few stand h = evaluate-holds few stand (h .ranged) (h .named) (h .spanned)
+  pub evaluate-lawful : take (nodeCount p) (drop at w) ≡ map code (words p) → LawfulPred declared p → evaluate w before after at ≡ holds before after p
+  unfolding evaluate
+  evaluate-lawful stand h = let s : depth p ≤ maxDepth = h .shallow in ap (λ (t : Truth). t .holds) (evaluate-shallow maxNodes (omega arith) stand h)

@@ -1,5 +1,5 @@
 -- What the evaluator answers on any words. On the words of a lawful predicate it is what the predicate means: the law
--- evaluate-holds.
+-- evaluate-lawful.
 use mathlib.Core.Bool.{Bool, true, false, not, cond, _&&_, _||_}
 use mathlib.Core.List.{List}
 use Prim.Native.Nat.{ℕ, zero, suc, _+_}

@@ -17,6 +17,23 @@ impl Model {
 
     pub const OPERANDS: u32 = 512;
 
+    // The largest numbers that name an action, a location, a variable.
+    pub const LAST_ACTION: usize = 63;
+
+    pub const LAST_LOCATION: usize = 31;
+
+    pub const LAST_VARIABLE: u32 = 47;
+
+    // A number of a sheet is written in a table as itself plus the bias; the largest number that this gives.
+    pub const BIAS: i64 = 32768;
+
+    pub const LAST_NUMBER: u32 = 65535;
+
+    // The span that every expression's interval keeps to.
+    pub const LEAST_VALUE: i64 = -2147483648;
+
+    pub const GREATEST_VALUE: i64 = 2147483647;
+
     // Predicates: their nodes in all, and how deep one goes.
     pub const NODES: usize = 4096;
 

@@ -1,4 +1,5 @@
 // Tests of a predicate's words one by one: of `count` words from `at` on, those that are there.
+use model::Model;
 ghost use mathlib.Core.Path.{_≡_};
 ghost use mathlib.Core.List.{map};
 ghost use lib.ListN.{take, drop};
@@ -16,11 +17,6 @@ pub enum Test {
     // It is not the code of a word in range.
     Uncoded,
 }
-
-// The largest argument of a number's word, and of a variable's.
-const LAST_NUMBER: u32 = 65535;
-
-const LAST_VARIABLE: u32 = 47;
 
 fn outside(word: u32, variables: usize) -> bool
     ensures { λ r. ⌜ r ≡ isOutside variables (named (wordOf word)) ⌝ }
@@ -46,8 +42,8 @@ fn coded(word: u32) -> bool
     match word % 16 {
         0 | 1 => argument <= model::Model::OPERANDS,
         2 | 3 | 4 | 5 => argument == 0,
-        6 => argument <= LAST_NUMBER,
-        7 | 8 => argument <= LAST_VARIABLE,
+        6 => argument <= Model::LAST_NUMBER,
+        7 | 8 => argument <= Model::LAST_VARIABLE,
         9 | 10 | 11 | 12 => argument == 0,
         _ => false,
     }

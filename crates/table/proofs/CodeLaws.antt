@@ -110,11 +110,11 @@ module _ (t : List ℕ) (at : ℕ) where
 pub ruleset variable-laws = (variable-end, variable-short, variable-high, variable-order, variable-good)
 
 -- `cap`
-pub cap-low : (a : ℕ) → a < 63 → a ≡ capped [] a
+pub cap-low : (a : ℕ) → a < 63 → a ≡ capped a
 unfolding capped
 cap-low a h = rw (lt-ltb a 63 h)
 
-pub cap-high : (a : ℕ) → 63 ≤ a → 63 ≡ capped [] a
+pub cap-high : (a : ℕ) → 63 ≤ a → 63 ≡ capped a
 unfolding capped
 cap-high a h = rw (le-ltb a 63 h)
 
@@ -124,14 +124,14 @@ pub ruleset cap-laws = (cap-low, cap-high)
 module _ (t : List ℕ) (at a : ℕ) where
   pub sync-end : length t ≤ at → Bad ≡ syncAt t at a
   unfolding syncAt
-  sync-end h = when-false _ _ (no-left (ltb (at + 1) (length t)) (rises (capped t a) 0 (setOf (getD t at 0) (getD t (at + 1) 0))) (le-ltb (at + 1) (length t) (omega arith)))
+  sync-end h = when-false _ _ (no-left (ltb (at + 1) (length t)) (rises (capped a) 0 (setOf (getD t at 0) (getD t (at + 1) 0))) (le-ltb (at + 1) (length t) (omega arith)))
 
   pub sync-short : length t ≤ at + 1 → Bad ≡ syncAt t at a
   unfolding syncAt
-  sync-short h = when-false _ _ (no-left (ltb (at + 1) (length t)) (rises (capped t a) 0 (setOf (getD t at 0) (getD t (at + 1) 0))) (le-ltb (at + 1) (length t) h))
+  sync-short h = when-false _ _ (no-left (ltb (at + 1) (length t)) (rises (capped a) 0 (setOf (getD t at 0) (getD t (at + 1) 0))) (le-ltb (at + 1) (length t) h))
 
-  module _ (k : ℕ) (hk : k ≡ capped [] a) (p : Bool) (hp : p ≡ rises k 0 (setOf (getD t at 0) (getD t (at + 1) 0))) where
-    same-cap : rises (capped t a) 0 (setOf (getD t at 0) (getD t (at + 1) 0)) ≡ p
+  module _ (k : ℕ) (hk : k ≡ capped a) (p : Bool) (hp : p ≡ rises k 0 (setOf (getD t at 0) (getD t (at + 1) 0))) where
+    same-cap : rises (capped a) 0 (setOf (getD t at 0) (getD t (at + 1) 0)) ≡ p
     unfolding capped
     same-cap = ap (λ (x : ℕ). rises x 0 (setOf (getD t at 0) (getD t (at + 1) 0))) (sym hk) ∙ sym hp
 
@@ -141,7 +141,7 @@ module _ (t : List ℕ) (at a : ℕ) where
 
     pub sync-bad : p ≡ false → Bad ≡ syncAt t at a
     unfolding syncAt
-    sync-bad e = when-false _ _ (no-right (ltb (at + 1) (length t)) (rises (capped t a) 0 (setOf (getD t at 0) (getD t (at + 1) 0))) (same-cap ∙ e))
+    sync-bad e = when-false _ _ (no-right (ltb (at + 1) (length t)) (rises (capped a) 0 (setOf (getD t at 0) (getD t (at + 1) 0))) (same-cap ∙ e))
 
 pub ruleset sync-laws = (sync-end, sync-short, sync-good, sync-bad)
 
@@ -167,7 +167,7 @@ pub ruleset ranges-laws = (ranges-short, ranges-few, ranges-all)
 
 -- `walked_to`
 module _ (w : Walked) (start n : ℕ) where
-  pub walked-back : w .next < start → false ≡ walkedTo [] w (start + n)
+  pub walked-back : w .next < start → false ≡ walkedTo w (start + n)
   unfolding walkedTo
   walked-back l = sym (no-right (w .sound) _ (no-right (not (w .deep)) _ (no-right (not (w .leaves)) (eqb (w .next) (start + n)) (ne-eqb (w .next) (start + n) (λ e. omega arith)))))
 
@@ -179,7 +179,7 @@ module _ (w : Walked) (start n : ℕ) where
       by true e = e ∙ sym (eq-eqb x (start + n) (let h = eqb-true (x - start) n e in omega arith))
       by false e = e ∙ sym (ne-eqb x (start + n) (λ q. eqb-false (x - start) n e (omega arith)))
 
-  pub walked-on : start ≤ w .next → (w .sound && (not (w .deep) && (not (w .leaves) && eqb (w .next - start) n))) ≡ walkedTo [] w (start + n)
+  pub walked-on : start ≤ w .next → (w .sound && (not (w .deep) && (not (w .leaves) && eqb (w .next - start) n))) ≡ walkedTo w (start + n)
   unfolding walkedTo
   walked-on l = ap (λ (b : Bool). w .sound && (not (w .deep) && (not (w .leaves) && b))) (same-place (w .next) l)
 
@@ -208,7 +208,7 @@ module _ (t : List ℕ) (c : Counts) (start n : ℕ) where
   outside = namesOutside (c .variables) (map wordOf (take n (drop start t)))
 
   abbrev walked : Bool
-  walked = walkedTo t (walkAt t (rangesIn t (c .variables)) start) (start + n)
+  walked = walkedTo (walkAt t (rangesIn t (c .variables)) start) (start + n)
 
   abbrev few : Bool
   few = leb (c .nodes + n) maxNodes
@@ -223,10 +223,10 @@ module _ (t : List ℕ) (c : Counts) (start n : ℕ) where
       unfolding nodesSound
       nodes-outside h = sym (no-right coded (not outside && (walked && few)) (no-left (not outside) (walked && few) (ap not (sym hq ∙ h))))
 
-      module _ (rs : List ℕ) (hr : rs ≡ rangesIn t (c .variables)) (w : Walked) (hw : w ≡ walkAt t rs start) (o : Bool) (ho : o ≡ walkedTo [] w (start + n)) where
+      module _ (rs : List ℕ) (hr : rs ≡ rangesIn t (c .variables)) (w : Walked) (hw : w ≡ walkAt t rs start) (o : Bool) (ho : o ≡ walkedTo w (start + n)) where
         same-walk : walked ≡ o
         unfolding walkedTo
-        same-walk = ap (λ (x : List ℕ). walkedTo [] (walkAt t x start) (start + n)) (sym hr) ∙ ap (λ (x : Walked). walkedTo [] x (start + n)) (sym hw) ∙ sym ho
+        same-walk = ap (λ (x : List ℕ). walkedTo (walkAt t x start) (start + n)) (sym hr) ∙ ap (λ (x : Walked). walkedTo x (start + n)) (sym hw) ∙ sym ho
 
         pub nodes-astray : not o ≡ true → false ≡ nodesSound t c start n
         unfolding nodesSound
@@ -319,14 +319,14 @@ module _ (t : List ℕ) (at : ℕ) (c : Counts) where
 pub ruleset edges-laws = (edges-end, edges-good, edges-bad)
 
 -- `ends_sound`
-pub ends-by : (c : Counts) (f a g : ℕ) → ((leb f 31 && (leb a 63 && leb g 31)) && (ltb f (c .locations) && (leb a (c .actions) && ltb g (c .locations)))) ≡ endsSound [] c f a g
+pub ends-by : (c : Counts) (f a g : ℕ) → ((leb f 31 && (leb a 63 && leb g 31)) && (ltb f (c .locations) && (leb a (c .actions) && ltb g (c .locations)))) ≡ endsSound c f a g
 unfolding endsSound
 ends-by c f a g = refl
 
 -- `edge`
 module _ (t : List ℕ) (at : ℕ) (c : Counts) where
   abbrev both : Bool
-  both = endsSound t c (getD t at 0) (getD t (at + 1) 0) (getD t (at + 2) 0)
+  both = endsSound c (getD t at 0) (getD t (at + 1) 0) (getD t (at + 2) 0)
 
   pub edge-end : length t ≤ at → Bad ≡ edgeAt t at c
   unfolding edgeAt
@@ -336,10 +336,10 @@ module _ (t : List ℕ) (at : ℕ) (c : Counts) where
   unfolding edgeAt
   edge-short h = when-false _ _ (no-left (ltb (at + 2) (length t)) both (le-ltb (at + 2) (length t) (omega arith)))
 
-  module _ (f a g : ℕ) (hf : f ≡ getD t at 0) (ha : a ≡ getD t (at + 1) 0) (hg : g ≡ getD t (at + 2) 0) (q : Bool) (hq : q ≡ endsSound [] c f a g) where
+  module _ (f a g : ℕ) (hf : f ≡ getD t at 0) (ha : a ≡ getD t (at + 1) 0) (hg : g ≡ getD t (at + 2) 0) (q : Bool) (hq : q ≡ endsSound c f a g) where
     same-ends : both ≡ q
     unfolding endsSound
-    same-ends = ap (λ (x : ℕ). endsSound [] c x (getD t (at + 1) 0) (getD t (at + 2) 0)) (sym hf) ∙ ap (λ (x : ℕ). endsSound [] c f x (getD t (at + 2) 0)) (sym ha) ∙ ap (λ (x : ℕ). endsSound [] c f a x) (sym hg) ∙ sym hq
+    same-ends = ap (λ (x : ℕ). endsSound c x (getD t (at + 1) 0) (getD t (at + 2) 0)) (sym hf) ∙ ap (λ (x : ℕ). endsSound c f x (getD t (at + 2) 0)) (sym ha) ∙ ap (λ (x : ℕ). endsSound c f a x) (sym hg) ∙ sym hq
 
     pub edge-unsound : not q ≡ true → Bad ≡ edgeAt t at c
     unfolding edgeAt
@@ -357,22 +357,22 @@ module _ (t : List ℕ) (at : ℕ) (c : Counts) where
   unfolding composeAt
   compose-many h = when-false _ _ (lt-leb (c .automata) 16 h)
 
-  module _ (l : c .automata ≤ 16) (k : ℕ) (hk : k ≡ capped [] (c .actions)) (f : TreeCheck) (hf : f ≡ treeCheck t at k (c .automata)) where
-    same-tree : f ≡ treeCheck t at (capped t (c .actions)) (c .automata)
+  module _ (l : c .automata ≤ 16) (k : ℕ) (hk : k ≡ capped (c .actions)) (f : TreeCheck) (hf : f ≡ treeCheck t at k (c .automata)) where
+    same-tree : f ≡ treeCheck t at (capped (c .actions)) (c .automata)
     unfolding capped
     same-tree = hf ∙ ap (λ (x : ℕ). treeCheck t at x (c .automata)) hk
 
-    by-tree : ofTree t f ≡ composeAt t at c
+    by-tree : ofTree f ≡ composeAt t at c
     unfolding composeAt
-    by-tree = ap (λ (x : TreeCheck). ofTree t x) same-tree ∙ when-true _ _ (le-leb (c .automata) 16 l)
+    by-tree = ap (λ (x : TreeCheck). ofTree x) same-tree ∙ when-true _ _ (le-leb (c .automata) 16 l)
 
     pub compose-good : (next : ℕ) → f ≡ TreeCheck.Sound next → Sound 0 0 next ≡ composeAt t at c
     unfolding ofTree
-    compose-good next h = ap (λ (x : TreeCheck). ofTree t x) (sym h) ∙ by-tree
+    compose-good next h = ap (λ (x : TreeCheck). ofTree x) (sym h) ∙ by-tree
 
     pub compose-bad : f ≡ TreeCheck.Bad → Bad ≡ composeAt t at c
     unfolding ofTree
-    compose-bad h = ap (λ (x : TreeCheck). ofTree t x) (sym h) ∙ by-tree
+    compose-bad h = ap (λ (x : TreeCheck). ofTree x) (sym h) ∙ by-tree
 
 pub ruleset compose-laws = (compose-many, compose-good, compose-bad)
 

@@ -52,7 +52,7 @@ counted-few n (suc count) l h =
     omega arith
 
 module _ (t : List ℕ) where
-  tree-capped : (A : ℕ) (c : Tree) → treeInRange c ≡ true → treeRises (capped t A) c ≡ treeRises A c
+  tree-capped : (A : ℕ) (c : Tree) → treeInRange c ≡ true → treeRises (capped A) c ≡ treeRises A c
   unfolding treeInRange treeRises
   tree-capped A (par c d) h =
       and-same (tree-capped A c (and-left (treeInRange c) (treeInRange d) h)) (tree-capped A d (and-right (treeInRange c) (treeInRange d) h))
@@ -61,7 +61,7 @@ module _ (t : List ℕ) where
       and-same (rises-capped t A 0 list (and-left few (treeInRange c) h)) (tree-capped A c (and-right few (treeInRange c) h))
   tree-capped A (leaf k) h = refl
 
-  tree-sound : (o : TreeCheck) (number nodes next : ℕ) → ofTree t o ≡ Sound number nodes next → (end : ℕ) × (o ≡ TreeCheck.Sound end) × (Sound 0 0 end ≡ Sound number nodes next)
+  tree-sound : (o : TreeCheck) (number nodes next : ℕ) → ofTree o ≡ Sound number nodes next → (end : ℕ) × (o ≡ TreeCheck.Sound end) × (Sound 0 0 end ≡ Sound number nodes next)
   unfolding ofTree
   tree-sound (TreeCheck.Sound end) number nodes next h = (end, refl, h)
   tree-sound TreeCheck.Bad number nodes next h = let z : _≡_ {A = ℕ} 0 1 = cc in absurd (omega arith)
@@ -70,7 +70,7 @@ module _ (t : List ℕ) where
     compose-sound : every (λ w. ltb w 4294967296) t ≡ true → (number nodes next : ℕ) → composeAt t at c ≡ Sound number nodes next → LineAt t r compose at number nodes next
     unfolding composeAt ofTree keyOf numberOf nodesOf lineWords faultOf numbersInRange contentFault isDisordered isTooLarge
     compose-sound fit number nodes next h =
-        let A = capped t (c .actions) in
+        let A = capped (c .actions) in
         let N = c .automata in
         let s = when-sound _ _ number nodes next h in
         let few = leb-true N maxAutomata (s .0) in
@@ -96,7 +96,7 @@ module _ (t : List ℕ) where
     compose-of : (tree : Tree) (rest : List ℕ) → faultOf r (composeLine tree) ≡ none → drop at t ≡ lineWords (composeLine tree) ++ rest → composeAt t at c ≡ Sound 0 0 (at + length (lineWords (composeLine tree)))
     unfolding composeAt ofTree lineWords faultOf numbersInRange contentFault isDisordered isTooLarge
     compose-of tree rest g e =
-        let A = capped t (c .actions) in
+        let A = capped (c .actions) in
         let N = c .automata in
         let words = treeSize tree ∷ treeWords tree in
         let row3 = unbroken 3 _ _ g in
@@ -112,7 +112,7 @@ module _ (t : List ℕ) where
         record { lists = lists; filled = not-false _ (row13 .0); in-order = order; size = ltb-false maxTreeNodes (treeSize tree) (row16 .0) } in
         let found = tree-check-of t A N at tree (capped-few t (c .actions)) lawful (ap (take (length words)) e ∙ take-at words rest (length words) refl) in
         let ends : at + 1 + length (treeWords tree) ≡ at + suc (length (treeWords tree)) = omega arith in
-        when-true _ (le-leb N maxAutomata (omega arith)) ∙ ap (ofTree t) found ∙ ap (λ (n : ℕ). Sound 0 0 n) ends
+        when-true _ (le-leb N maxAutomata (omega arith)) ∙ ap ofTree found ∙ ap (λ (n : ℕ). Sound 0 0 n) ends
 
   -- each line
   module _ (fit : every (λ w. ltb w 4294967296) t ≡ true) (r : Reading) (c : Counts) (k : Counted r c) (d : Declared t r) (at : ℕ) where

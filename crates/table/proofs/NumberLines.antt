@@ -205,7 +205,7 @@ module _ (t : List ℕ) (r : Reading) (at : ℕ) where
 
 -- The highest action that a set may hold, and 63: up to there the two bounds ask the same.
 module _ (t : List ℕ) (A : ℕ) where
-  pub capped-few : capped t A ≤ maxActions
+  pub capped-few : capped A ≤ maxActions
   unfolding capped
   capped-few = go (ltb A maxActions) refl
     where
@@ -213,7 +213,7 @@ module _ (t : List ℕ) (A : ℕ) where
       go true e = let l = ltb-true A maxActions e in omega arith
       go false e = omega arith
 
-  capped-same : (k : ℕ) → k ≤ maxActions → leb k (capped t A) ≡ leb k A
+  capped-same : (k : ℕ) → k ≤ maxActions → leb k (capped A) ≡ leb k A
   unfolding capped
   capped-same k l = go (ltb A maxActions) refl
     where
@@ -221,13 +221,13 @@ module _ (t : List ℕ) (A : ℕ) where
       go true e = refl
       go false e = let g = ltb-false A maxActions e in le-leb k maxActions l ∙ sym (le-leb k A (omega arith))
 
-  pub rises-capped : (last : ℕ) (list : List ℕ) → every (λ k. leb k maxActions) list ≡ true → rises (capped t A) last list ≡ rises A last list
+  pub rises-capped : (last : ℕ) (list : List ℕ) → every (λ k. leb k maxActions) list ≡ true → rises (capped A) last list ≡ rises A last list
   unfolding every
   rises-capped last [] h = unfold rises in refl
   rises-capped last (k ∷ ks) h =
       let l = leb-true k maxActions (and-left (leb k maxActions) (every (λ j. leb j maxActions) ks) h) in
       let later = rises-capped k ks (and-right (leb k maxActions) (every (λ j. leb j maxActions) ks) h) in
-      rw (rises-cons (capped t A) last k ks, rises-cons A last k ks, capped-same k l, later)
+      rw (rises-cons (capped A) last k ks, rises-cons A last k ks, capped-same k l, later)
 
 -- a list that rises up to 63 holds nothing above it: so says row 5's own law, of a reading with so many actions
 rises-few : (r : Reading) (A : ℕ) (list : List ℕ) → A ≤ maxActions → rises A 0 list ≡ true → every (λ k. leb k maxActions) list ≡ true
@@ -244,9 +244,9 @@ module _ (t : List ℕ) (r : Reading) (c : Counts) (k : Counted r c) (at : ℕ) 
       let b = word t (at + 1) in
       let list = setOf a b in
       let s = when-sound _ _ number nodes next h in
-      let inside = ltb-true (at + 1) (length t) (and-left (ltb (at + 1) (length t)) (rises (capped t (c .actions)) 0 list) (s .0)) in
-      let up = and-right (ltb (at + 1) (length t)) (rises (capped t (c .actions)) 0 list) (s .0) in
-      let few = rises-few r (capped t (c .actions)) list (capped-few t (c .actions)) up in
+      let inside = ltb-true (at + 1) (length t) (and-left (ltb (at + 1) (length t)) (rises (capped (c .actions)) 0 list) (s .0)) in
+      let up = and-right (ltb (at + 1) (length t)) (rises (capped (c .actions)) 0 list) (s .0) in
+      let few = rises-few r (capped (c .actions)) list (capped-few t (c .actions)) up in
       let rising : rises (r .model .actions) 0 list ≡ true = rw (← k .actions) (sym (rises-capped t (c .actions) 0 list few) ∙ up) in
       let a-fits = ltb-true a 4294967296 (every-at (λ w. ltb w 4294967296) 0 refl t fit at) in
       let b-fits = ltb-true b 4294967296 (every-at (λ w. ltb w 4294967296) 0 refl t fit (at + 1)) in
@@ -260,5 +260,5 @@ module _ (t : List ℕ) (r : Reading) (c : Counts) (k : Counted r c) (at : ℕ) 
       let few = not-false (every (λ j. leb j maxActions) list) (row3 .0) in
       let up = not-false (rises (r .model .actions) 0 list) (unbroken 5 _ _ (row3 .1) .0) in
       let f = two-of t at (lowBits list) (highBits list) rest e in
-      let rising : rises (capped t (c .actions)) 0 list ≡ true = rises-capped t (c .actions) 0 list few ∙ rw (k .actions) up in
+      let rising : rises (capped (c .actions)) 0 list ≡ true = rises-capped t (c .actions) 0 list few ∙ rw (k .actions) up in
       rw (f .0 .is, f .1 .is, set-back (r .model .actions) list up few) (when-true _ (and-intro (lt-ltb (at + 1) (length t) (f .1 .below)) rising))

@@ -61,8 +61,8 @@ module _ (t : List ℕ) (r : Reading) (c : Counts) (k : Counted r c) (d : Declar
       let h1 = and-right (every isCoded slice) _ h in
       let named = not-true outside (and-left (not outside) _ h1) in
       let h2 = and-right (not outside) _ h1 in
-      let few = leb-true (c .nodes + n) maxNodes (and-right (walkedTo t w (start + n)) (leb (c .nodes + n) maxNodes) h2) in
-      let h3 = and-left (walkedTo t w (start + n)) (leb (c .nodes + n) maxNodes) h2 in
+      let few = leb-true (c .nodes + n) maxNodes (and-right (walkedTo w (start + n)) (leb (c .nodes + n) maxNodes) h2) in
+      let h3 = and-left (walkedTo w (start + n)) (leb (c .nodes + n) maxNodes) h2 in
       let h4 = and-right (not (w .deep)) _ (and-right (w .sound) _ h3) in
       let stays = not-true (w .leaves) (and-left (not (w .leaves)) _ h4) in
       let next = eqb-true (w .next) (start + n) (and-right (not (w .leaves)) _ h4) in
@@ -98,7 +98,7 @@ module _ (t : List ℕ) (r : Reading) (c : Counts) (k : Counted r c) (d : Declar
       let stays : allStay (declaredOf (rangesIn t (c .variables))) p ≡ true = ap (λ (v : List Range). allStay v p) declared-are ∙ l .spanned in
       and-intro (ap (every isCoded) e ∙ words-coded (words p) (l .ranged))
       (and-intro (ap not named)
-      (and-intro (ap (λ (v : Walked). walkedTo t v (start + nodeCount p)) walked ∙ rw (stays, eq-eqb (start + nodeCount p) (start + nodeCount p) refl))
+      (and-intro (ap (λ (v : Walked). walkedTo v (start + nodeCount p)) walked ∙ rw (stays, eq-eqb (start + nodeCount p) (start + nodeCount p) refl))
       (le-leb (c .nodes + nodeCount p) maxNodes (omega (arith, k .nodes)))))
 
   -- at a place, a predicate's count of nodes and its nodes
@@ -185,7 +185,7 @@ module _ (t : List ℕ) (r : Reading) (c : Counts) (k : Counted r c) (d : Declar
   abbrev Ends : (from action to : ℕ) → Type 0
   Ends from action to = (from ≤ lastLocation) × (action ≤ maxActions) × (to ≤ lastLocation) × (from < locationCount r) × (action ≤ r .model .actions) × (to < locationCount r)
 
-  ends-back : (from action to : ℕ) → endsSound t c from action to ≡ true → Ends from action to
+  ends-back : (from action to : ℕ) → endsSound c from action to ≡ true → Ends from action to
   unfolding endsSound
   ends-back from action to h =
       let g = simp and-eq-true-iff at h in (
@@ -197,7 +197,7 @@ module _ (t : List ℕ) (r : Reading) (c : Counts) (k : Counted r c) (d : Declar
         omega (arith, ltb-true to (c .locations) (g .1 .1 .1), k .locations),
       )
 
-  ends-of : (from action to : ℕ) → Ends from action to → endsSound t c from action to ≡ true
+  ends-of : (from action to : ℕ) → Ends from action to → endsSound c from action to ≡ true
   unfolding endsSound
   ends-of from action to e =
       and-intro
@@ -248,8 +248,8 @@ module _ (t : List ℕ) (r : Reading) (c : Counts) (k : Counted r c) (d : Declar
         let action = word t (at + 1) in
         let to = word t (at + 2) in
         let s = when-sound _ _ number nodes next h in
-        let inside = ltb-true (at + 2) (length t) (and-left (ltb (at + 2) (length t)) (endsSound t c from action to) (s .0)) in
-        let ends = ends-back from action to (and-right (ltb (at + 2) (length t)) (endsSound t c from action to) (s .0)) in
+        let inside = ltb-true (at + 2) (length t) (and-left (ltb (at + 2) (length t)) (endsSound c from action to) (s .0)) in
+        let ends = ends-back from action to (and-right (ltb (at + 2) (length t)) (endsSound c from action to) (s .0)) in
         let b = predicate-back (at + 3) number nodes next (s .1) in
         let p = b .0 .nodes .pred in
         let size = b .0 .nodes .count in

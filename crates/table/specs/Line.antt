@@ -26,6 +26,24 @@ unfoldable pub when : Bool → Line → Line
 when true l = l
 when false l = Bad
 
+-- A, or 63: no set holds more
+unfoldable pub capped : ℕ → ℕ
+capped A = cond (ltb A maxActions) A maxActions
+
+-- the walk over a predicate went well and ended there
+unfoldable pub walkedTo : Walked → (next : ℕ) → Bool
+walkedTo w next = w .sound && (not (w .deep) && (not (w .leaves) && eqb (w .next) next))
+
+-- an edge's ends and action: numbers of the format, and of this automaton and model
+unfoldable pub endsSound : Counts → (from action to : ℕ) → Bool
+endsSound c from action to =
+    (leb from lastLocation && (leb action maxActions && leb to lastLocation)) &&
+    (ltb from (c .locations) && (leb action (c .actions) && ltb to (c .locations)))
+
+unfoldable pub ofTree : TreeCheck → Line
+ofTree (TreeCheck.Sound next) = Sound 0 0 next
+ofTree TreeCheck.Bad = Bad
+
 module _ (t : List ℕ) where
   abbrev pub word : ℕ → ℕ
   word at = getD t at 0
@@ -40,20 +58,12 @@ module _ (t : List ℕ) where
   unfoldable pub variableAt : (at : ℕ) → Line
   variableAt at = when (ltb (at + 1) (length t) && (leb (word (at + 1)) 65535 && leb (word at) (word (at + 1)))) (Sound 0 0 (at + 2))
 
-  -- A, or 63: no set holds more
-  unfoldable pub capped : ℕ → ℕ
-  capped A = cond (ltb A maxActions) A maxActions
-
   unfoldable pub syncAt : (at A : ℕ) → Line
   syncAt at A = when (ltb (at + 1) (length t) && rises (capped A) 0 (setOf (word at) (word (at + 1)))) (Sound 0 0 (at + 2))
 
   -- the words of the first ranges, so many
   unfoldable pub rangesIn : (vs : ℕ) → List ℕ
   rangesIn vs = take (2 * vs) (drop 3 t)
-
-  -- the walk over a predicate went well and ended there
-  unfoldable pub walkedTo : Walked → (next : ℕ) → Bool
-  walkedTo w next = w .sound && (not (w .deep) && (not (w .leaves) && eqb (w .next) next))
 
   -- n nodes from `start` on: rows 3, 7, 6 with 9 and 10, and 11
   unfoldable pub nodesSound : Counts → (start n : ℕ) → Bool
@@ -74,17 +84,8 @@ module _ (t : List ℕ) where
   unfoldable pub edgesAt : (at : ℕ) → Counts → Line
   edgesAt at c = when (ltb at (length t) && leb (c .edges + word at) maxEdges) (Sound (word at) 0 (at + 1))
 
-  unfoldable pub endsSound : Counts → (from action to : ℕ) → Bool
-  endsSound c from action to =
-      (leb from lastLocation && (leb action maxActions && leb to lastLocation)) &&
-      (ltb from (c .locations) && (leb action (c .actions) && ltb to (c .locations)))
-
   unfoldable pub edgeAt : (at : ℕ) → Counts → Line
   edgeAt at c = when (ltb (at + 2) (length t) && endsSound c (word at) (word (at + 1)) (word (at + 2))) (predicateAt (at + 3) c)
-
-  unfoldable pub ofTree : TreeCheck → Line
-  ofTree (TreeCheck.Sound next) = Sound 0 0 next
-  ofTree TreeCheck.Bad = Bad
 
   unfoldable pub composeAt : (at : ℕ) → Counts → Line
   composeAt at c = when (leb (c .automata) maxAutomata) (ofTree (treeCheck t at (capped (c .actions)) (c .automata)))

@@ -11,11 +11,6 @@ ghost use lib.Dec.{leb};
 ghost use Prim.Native.Nat.{_+_};
 ghost use Rattle.table.specs.Line.{formatAt, numberAt, variableAt, capped, syncAt, rangesIn, walkedTo, nodesSound, predicateAt, locationAt, edgesAt, endsSound, edgeAt, composeAt, lineAt};
 
-// The largest action, and the largest number that names a location.
-const LAST_ACTION: usize = 63;
-
-const LAST_LOCATION: usize = 31;
-
 // The format's number is 1.
 fn format(t: &[u32], at: usize) -> Line
     ensures { λ r. ⌜ r ≡ formatAt (now (t .entry)) at ⌝ }
@@ -59,7 +54,7 @@ fn variable(t: &[u32], at: usize) -> Line
     }
     let low = t[at];
     let high = t[at + 1];
-    if 65535 < high {
+    if Model::LAST_NUMBER < high {
         return Line::Bad;
     }
     if high < low {
@@ -70,9 +65,9 @@ fn variable(t: &[u32], at: usize) -> Line
 
 // A, or 63: no set holds more.
 fn cap(actions: usize) -> u32
-    ensures { λ r. ⌜ r ≡ capped [] actions ⌝ }
+    ensures { λ r. ⌜ r ≡ capped actions ⌝ }
 {
-    if actions < LAST_ACTION {
+    if actions < Model::LAST_ACTION {
         actions as u32
     } else {
         Model::ACTIONS
@@ -111,7 +106,7 @@ fn ranges(t: &[u32], variables: usize) -> &[u32]
 
 // The walk over n nodes from `start` on went well and ended after them.
 fn walked_to(walk: Walked, start: usize, n: usize) -> bool
-    ensures { λ r. ⌜ r ≡ walkedTo [] walk (start + n) ⌝ }
+    ensures { λ r. ⌜ r ≡ walkedTo walk (start + n) ⌝ }
 {
     let next = walk.next;
     if next < start {
@@ -199,11 +194,11 @@ fn edges(t: &[u32], at: usize, counts: Counts) -> Line
 
 // The two locations and the action of an edge.
 fn ends_sound(counts: Counts, from: usize, action: usize, to: usize) -> bool
-    ensures { λ r. ⌜ r ≡ endsSound [] counts from action to ⌝ }
+    ensures { λ r. ⌜ r ≡ endsSound counts from action to ⌝ }
 {
     let l = counts.locations;
     let a = counts.actions;
-    ((from <= LAST_LOCATION) & ((action <= LAST_ACTION) & (to <= LAST_LOCATION)))
+    ((from <= Model::LAST_LOCATION) & ((action <= Model::LAST_ACTION) & (to <= Model::LAST_LOCATION)))
         & ((from < l) & ((action <= a) & (to < l)))
 }
 
@@ -248,7 +243,7 @@ pub(crate) fn line(t: &[u32], at: usize, key: Key, counts: Counts) -> Line
 {
     match key {
         Key::Format => format(t, at),
-        Key::Actions => number(t, at, 0, LAST_ACTION),
+        Key::Actions => number(t, at, 0, Model::LAST_ACTION),
         Key::Variables => number(t, at, 0, Model::VARIABLES),
         Key::Variable => variable(t, at),
         Key::Automata => number(t, at, 1, Model::AUTOMATA),

@@ -5,6 +5,7 @@ use crate::one_line::{self};
 use lines::Counts;
 use lines::Due;
 use lines::Key;
+use model::Model;
 ghost use mathlib.Core.Path.{_≡_};
 ghost use Rattle.table.specs.Line.{lineAt};
 ghost use Rattle.table.specs.Scan.{scanFirst, scanAfter, isEnd, zerosFrom, scannedSheet};
@@ -70,15 +71,13 @@ impl Scan {
     }
 }
 
-// Each line takes a word at least, so a table has been read before the rounds are.
-const ROUNDS: usize = 8193;
-
 // Does each line of the table say something that no row refuses, and is the rest 0?
 pub(crate) fn sheet(t: &[u32]) -> bool
     ensures { λ r. ⌜ r ≡ scannedSheet (lineAt (now (t .entry))) (now (t .entry)) ⌝ }
 {
     let mut scan = Scan::first();
-    let mut left = ROUNDS;
+    // Each line takes a word at least, so a table has been read before the rounds are over; the last finds the end.
+    let mut left = Model::WORDS + 1;
     while left != 0 {
         let at = scan.at;
         let due = scan.due;

@@ -16,6 +16,9 @@ abbrev μ-loop : tie.MeasureT-loop
 first-requires : tie.Need-first-requires Inv-loop μ-loop
 first-requires c κs = search needs
 
+add-left : tie.Need-add-left Inv-loop μ-loop
+add-left c = search needs
+
 loop-holds : tie.Need-loop-holds Inv-loop μ-loop
 loop-holds c = search (needs, sheet-laws)
 
@@ -62,6 +65,7 @@ sheet-spec =
     Inv-loop
     μ-loop
     first-requires
+    add-left
     loop-holds
     end-requires
     zeros-requires
