@@ -198,7 +198,8 @@ fn ends_sound(counts: Counts, from: usize, action: usize, to: usize) -> bool
 {
     let l = counts.locations;
     let a = counts.actions;
-    ((from <= Model::LAST_LOCATION) & ((action <= Model::LAST_ACTION) & (to <= Model::LAST_LOCATION)))
+    ((from <= Model::LAST_LOCATION)
+        & ((action <= Model::LAST_ACTION) & (to <= Model::LAST_LOCATION)))
         & ((from < l) & ((action <= a) & (to < l)))
 }
 
