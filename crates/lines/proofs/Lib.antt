@@ -1,2 +1,3 @@
 pub mod DueLaws
 pub mod CountsLaws
+pub mod KeyLaws

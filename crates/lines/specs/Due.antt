@@ -9,6 +9,22 @@ use Rattle.lines.specs.declared.Key.{Key}
 use Rattle.lines.specs.declared.Key.the-variants.{Format, Actions, Variables, Variable, Automata, Sync, Locations, Init, Inv, Edges, Edge, Compose, End}
 use Rattle.lines.specs.declared.Due.{Due}
 
+-- no line is due any more
+unfoldable pub isEnd : Key → Bool
+isEnd Format = false
+isEnd Actions = false
+isEnd Variables = false
+isEnd Variable = false
+isEnd Automata = false
+isEnd Sync = false
+isEnd Locations = false
+isEnd Init = false
+isEnd Inv = false
+isEnd Edges = false
+isEnd Edge = false
+isEnd Compose = false
+isEnd End = true
+
 -- The code's own steps. `a` automata are to come or under way, and then `l` locations or `e` edges of the one under way.
 abbrev pub due : Key → (v a l e : ℕ) → Due
 due k v a l e = record { key = k; variables = v; automata = a; locations = l; edges = e }

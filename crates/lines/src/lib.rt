@@ -2,7 +2,7 @@
 // what has been counted so far.
 ghost use mathlib.Core.Path.{_≡_};
 ghost use Prim.Native.Nat.{_-_};
-ghost use Rattle.lines.specs.Due.{dueFirst, dueAfter, dueOnly, dueVariables, dueAutomata, dueLocations, dueEdges};
+ghost use Rattle.lines.specs.Due.{isEnd, dueFirst, dueAfter, dueOnly, dueVariables, dueAutomata, dueLocations, dueEdges};
 ghost use Rattle.lines.specs.Counts.{countsNone, countsAfter, withNodes, addUpTo};
 
 // The key of the line that is due; End after the last line.
@@ -20,6 +20,27 @@ pub enum Key {
     Edge,
     Compose,
     End,
+}
+
+// No line is due any more.
+pub fn end(key: Key) -> bool
+    ensures { λ r. ⌜ r ≡ isEnd key ⌝ }
+{
+    match key {
+        Key::Format => false,
+        Key::Actions => false,
+        Key::Variables => false,
+        Key::Variable => false,
+        Key::Automata => false,
+        Key::Sync => false,
+        Key::Locations => false,
+        Key::Init => false,
+        Key::Inv => false,
+        Key::Edges => false,
+        Key::Edge => false,
+        Key::Compose => false,
+        Key::End => true,
+    }
 }
 
 // The key that is due, and what is still to come: variable lines; automata, the one under way included; locations of this

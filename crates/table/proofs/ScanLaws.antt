@@ -32,14 +32,15 @@ use Rattle.lines.specs.declared.Key.{Key}
 use Rattle.lines.specs.declared.Key.the-variants.{Format, Actions, Variables, Variable, Automata, Sync, Locations, Init, Inv, Edges, Edge, Compose, End}
 use Rattle.lines.specs.declared.Due.{Due}
 use Rattle.lines.specs.declared.Counts.{Counts}
-use Rattle.lines.specs.Due.{ifNone, dueVariables, dueAutomata, dueLocations, dueEdges, dueAfterKey, dueAfter, keysDue, laterDue, codeOf, numberOf, Begun}
+use Rattle.lines.specs.Due.{isEnd, ifNone, dueVariables, dueAutomata, dueLocations, dueEdges, dueAfterKey, dueAfter, keysDue, laterDue, codeOf, numberOf, Begun}
 use Rattle.lines.specs.Counts.{mostCount, nodesOf, Counted, Paced}
+use Rattle.lines.proofs.KeyLaws.{named, no-end}
 use Rattle.lines.proofs.DueLaws.{due-first, due-key, due-line, due-end, end-due, due-after}
 use Rattle.lines.proofs.CountsLaws.{paced-first, paced-after, paced-room, counted-first, counted-after, begun-first, begun-at, begun-after}
 use Rattle.table.specs.declared.Line.{Line}
 use Rattle.table.specs.declared.Line.the-variants.{Sound, Bad}
 use Rattle.table.specs.declared.Scan.{Scan}
-use Rattle.table.specs.Scan.{scanFirst, scanAfter, isEnd, zerosFrom, scanned, scannedSheet, rangeWords, Declared, LineAt, LineExact}
+use Rattle.table.specs.Scan.{scanFirst, scanAfter, zerosFrom, scanned, scannedSheet, rangeWords, Declared, LineAt, LineExact}
 
 -- words of which each is 0 are so many zeros
 zeros-are : (l : List ℕ) → every (λ w. eqb w 0) l ≡ true → l ≡ replicate (length l) 0
@@ -53,38 +54,6 @@ are-zeros : (n : ℕ) → every (λ w. eqb w 0) (replicate n 0) ≡ true
 unfolding every
 are-zeros zero = refl
 are-zeros (suc n) = are-zeros n
-
--- a key is the end, or a line's
-named : (k : Key) → (k ≡ End) ⊎ ((l : LineKey) × (k ≡ codeOf l))
-unfolding codeOf
-named Format = inr (format, refl)
-named Actions = inr (actions, refl)
-named Variables = inr (variables, refl)
-named Variable = inr (variable, refl)
-named Automata = inr (automata, refl)
-named Sync = inr (sync, refl)
-named Locations = inr (locations, refl)
-named Init = inr (init, refl)
-named Inv = inr (inv, refl)
-named Edges = inr (edges, refl)
-named Edge = inr (edge, refl)
-named Compose = inr (compose, refl)
-named End = inl refl
-
-no-end : (l : LineKey) → isEnd (codeOf l) ≡ false
-unfolding isEnd codeOf
-no-end format = refl
-no-end actions = refl
-no-end variables = refl
-no-end variable = refl
-no-end automata = refl
-no-end sync = refl
-no-end locations = refl
-no-end init = refl
-no-end inv = refl
-no-end edges = refl
-no-end edge = refl
-no-end compose = refl
 
 -- a round of the scan: at the end, after a sound line, after a bad one
 module _ (line : ℕ → Key → Counts → Line) (fuel : ℕ) (s : Scan) where

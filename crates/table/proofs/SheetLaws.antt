@@ -10,17 +10,15 @@ use lib.Seq.{drop-cons}
 use lib.Dec.{eqb}
 use borrow.Author.Tests.{eq-eqb, ne-eqb}
 use Rattle.model.specs.Basic.{every}
-use Rattle.lines.specs.declared.Key.{Key}
-use Rattle.lines.specs.declared.Key.the-variants.{Format, Actions, Variables, Variable, Automata, Sync, Locations, Init, Inv, Edges, Edge, Compose, End}
 use Rattle.lines.specs.declared.Due.{Due}
 use Rattle.lines.specs.declared.Counts.{Counts}
-use Rattle.lines.specs.Due.{dueFirst, dueAfter}
+use Rattle.lines.specs.Due.{isEnd, dueFirst, dueAfter}
 use Rattle.lines.specs.Counts.{countsNone, countsAfter}
 use Rattle.table.specs.declared.Line.{Line}
 use Rattle.table.specs.declared.Line.the-variants.{Sound, Bad}
 use Rattle.table.specs.declared.Scan.{Scan}
 use Rattle.table.specs.Line.{lineAt}
-use Rattle.table.specs.Scan.{scanFirst, scanAfter, isEnd, zerosFrom, scanned, scannedSheet}
+use Rattle.table.specs.Scan.{scanFirst, scanAfter, zerosFrom, scanned, scannedSheet}
 use Rattle.table.proofs.ScanLaws.{scanned-end, scanned-sound, scanned-bad}
 
 -- `zeros`
@@ -41,62 +39,6 @@ module _ (t : List ℕ) (i : ℕ) (whole : Bool) (inv : zerosFrom t i ≡ whole)
     zeros-more e = rw (eq-eqb (getD t i 0) 0 e) at (sym zeros-step ∙ inv)
 
 pub ruleset zeros-laws = (zeros-end, zeros-not, zeros-more)
-
--- `end`
-module _ (k : Key) where
-  pub end-format : k ≡ Format → false ≡ isEnd k
-  unfolding isEnd
-  end-format h = rw h
-
-  pub end-actions : k ≡ Actions → false ≡ isEnd k
-  unfolding isEnd
-  end-actions h = rw h
-
-  pub end-variables : k ≡ Variables → false ≡ isEnd k
-  unfolding isEnd
-  end-variables h = rw h
-
-  pub end-variable : k ≡ Variable → false ≡ isEnd k
-  unfolding isEnd
-  end-variable h = rw h
-
-  pub end-automata : k ≡ Automata → false ≡ isEnd k
-  unfolding isEnd
-  end-automata h = rw h
-
-  pub end-sync : k ≡ Sync → false ≡ isEnd k
-  unfolding isEnd
-  end-sync h = rw h
-
-  pub end-locations : k ≡ Locations → false ≡ isEnd k
-  unfolding isEnd
-  end-locations h = rw h
-
-  pub end-init : k ≡ Init → false ≡ isEnd k
-  unfolding isEnd
-  end-init h = rw h
-
-  pub end-inv : k ≡ Inv → false ≡ isEnd k
-  unfolding isEnd
-  end-inv h = rw h
-
-  pub end-edges : k ≡ Edges → false ≡ isEnd k
-  unfolding isEnd
-  end-edges h = rw h
-
-  pub end-edge : k ≡ Edge → false ≡ isEnd k
-  unfolding isEnd
-  end-edge h = rw h
-
-  pub end-compose : k ≡ Compose → false ≡ isEnd k
-  unfolding isEnd
-  end-compose h = rw h
-
-  pub end-end : k ≡ End → true ≡ isEnd k
-  unfolding isEnd
-  end-end h = rw h
-
-pub ruleset end-laws = (end-format, end-actions, end-variables, end-variable, end-automata, end-sync, end-locations, end-init, end-inv, end-edges, end-edge, end-compose, end-end)
 
 -- `Scan::first` and `Scan::after`
 pub first-by : (d : Due) (k : Counts) → d ≡ dueFirst → k ≡ countsNone → _≡_ {A = Scan} (record { due = d; counts = k; at = 0 }) scanFirst

@@ -14,9 +14,8 @@ use Rattle.model.specs.Limits.{variableCount, faultOf}
 use Rattle.model.specs.Lawful.{LawfulRange}
 use Rattle.model.specs.Table.{biased, lineWords}
 use Rattle.lines.specs.declared.Key.{Key}
-use Rattle.lines.specs.declared.Key.the-variants.{Format, Actions, Variables, Variable, Automata, Sync, Locations, Init, Inv, Edges, Edge, Compose, End}
 use Rattle.lines.specs.declared.Counts.{Counts}
-use Rattle.lines.specs.Due.{dueFirst, dueAfter, codeOf, numberOf}
+use Rattle.lines.specs.Due.{isEnd, dueFirst, dueAfter, codeOf, numberOf}
 use Rattle.lines.specs.Counts.{countsNone, countsAfter, nodesOf, Counted}
 use Rattle.table.specs.declared.Line.{Line}
 use Rattle.table.specs.declared.Line.the-variants.{Sound, Bad}
@@ -28,21 +27,6 @@ scanFirst = record { due = dueFirst; counts = countsNone; at = 0 }
 unfoldable pub scanAfter : Scan → (number nodes next : ℕ) → Scan
 scanAfter s number nodes next =
     record { due = dueAfter (s .due) number; counts = countsAfter (s .counts) (s .due .key) number nodes; at = next }
-
-unfoldable pub isEnd : Key → Bool
-isEnd Format = false
-isEnd Actions = false
-isEnd Variables = false
-isEnd Variable = false
-isEnd Automata = false
-isEnd Sync = false
-isEnd Locations = false
-isEnd Init = false
-isEnd Inv = false
-isEnd Edges = false
-isEnd Edge = false
-isEnd Compose = false
-isEnd End = true
 
 -- every word from this index on is 0
 unfoldable pub zerosFrom : List ℕ → ℕ → Bool

@@ -4,11 +4,10 @@ use crate::Scan;
 use crate::one_line::{self};
 use lines::Counts;
 use lines::Due;
-use lines::Key;
 use model::Model;
 ghost use mathlib.Core.Path.{_≡_};
 ghost use Rattle.table.specs.Line.{lineAt};
-ghost use Rattle.table.specs.Scan.{scanFirst, scanAfter, isEnd, zerosFrom, scannedSheet};
+ghost use Rattle.table.specs.Scan.{scanFirst, scanAfter, zerosFrom, scannedSheet};
 
 // Every word from `at` on is 0.
 fn zeros(t: &[u32], at: usize) -> bool
@@ -22,27 +21,6 @@ fn zeros(t: &[u32], at: usize) -> bool
         i += 1;
     }
     true
-}
-
-// No line is due any more.
-fn end(key: Key) -> bool
-    ensures { λ r. ⌜ r ≡ isEnd key ⌝ }
-{
-    match key {
-        Key::Format => false,
-        Key::Actions => false,
-        Key::Variables => false,
-        Key::Variable => false,
-        Key::Automata => false,
-        Key::Sync => false,
-        Key::Locations => false,
-        Key::Init => false,
-        Key::Inv => false,
-        Key::Edges => false,
-        Key::Edge => false,
-        Key::Compose => false,
-        Key::End => true,
-    }
 }
 
 impl Scan {
@@ -83,7 +61,7 @@ pub(crate) fn sheet(t: &[u32]) -> bool
         let due = scan.due;
         let counts = scan.counts;
         let key = due.key;
-        if end(key) {
+        if lines::end(key) {
             return zeros(t, at);
         }
         let Line::Sound(number, nodes, next) = one_line::line(t, at, key, counts) else {

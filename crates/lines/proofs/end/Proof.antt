@@ -1,8 +1,8 @@
--- `table::sheet::end` meets its contract: each way out is a law of SheetLaws.
-use Rattle.table.proofs.SheetLaws.{end-laws}
+-- `lines::end` meets its contract: each way out is a law of KeyLaws.
+use Rattle.lines.proofs.KeyLaws.{end-laws}
 use borrow.Author.Needs.{needs}
-use Rattle.table.proofs.sheet.end.Statement.{statement}
-use Rattle.table.proofs.sheet.end.Tie as tie
+use Rattle.lines.proofs.end.Statement.{statement}
+use Rattle.lines.proofs.end.Tie as tie
 
 enum-told : tie.Need-enum-told
 enum-told c = search needs
