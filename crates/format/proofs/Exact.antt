@@ -103,7 +103,7 @@ record Accepts (r : Reading) (ks : List Key) (ls : List Line) (m : Model) : Type
   spelled : ls ≡ map lineOf entries
   limited : withinLimits r entries ≡ true
 
-entry-fault : (r : Reading) (k : Key) (l : Line) → fault r k l ≡ none → faultOf r (entry k l) ≡ none
+pub entry-fault : (r : Reading) (k : Key) (l : Line) → fault r k l ≡ none → faultOf r (entry k l) ≡ none
 entry-fault r k l h =
     sym (fault-law r (entry k l)) ∙ ap (λ j. fault r j (lineOf (entry k l))) (entry-key k l) ∙ ap (fault r k) (sym (line-written r k l h)) ∙ h
 

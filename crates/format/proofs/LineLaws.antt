@@ -65,12 +65,12 @@ neither : (a b : Bool) → a || b ≡ false → (a ≡ false) × (b ≡ false)
 neither true b h = absurd (false-true (sym h))
 neither false b h = (refl, h)
 
-record Formed (k : Key) (l : Line) : Type 0 where
-  starts : begins (spelling k) (l .bytes) ≡ true
-  counts : length (fields k l) ≡ fieldCount k
-  ended : l .ended ≡ true
+pub record Formed (k : Key) (l : Line) : Type 0 where
+  pub starts : begins (spelling k) (l .bytes) ≡ true
+  pub counts : length (fields k l) ≡ fieldCount k
+  pub ended : l .ended ≡ true
 
-formed : (k : Key) (l : Line) → row2 k l ≡ false → Formed k l
+pub formed : (k : Key) (l : Line) → row2 k l ≡ false → Formed k l
 unfolding row2
 formed k l h =
     let a = neither (not (begins (spelling k) (l .bytes))) _ h in

@@ -44,7 +44,7 @@ syn-text : (k : ℕ) (ks : List ℕ) → synOf (textOfList (k ∷ ks)) ≡ synNo
 unfolding synOf
 syn-text k ks = rw (numeral-list k ks, synOf) (ap synNode (items-text k ks))
 
-numeral-a : (c : ℕ) (t : Bytes) → digit c ≡ true → numeral ('a ∷ c ∷ t) ≡ lettered 'a (c ∷ t)
+pub numeral-a : (c : ℕ) (t : Bytes) → digit c ≡ true → numeral ('a ∷ c ∷ t) ≡ lettered 'a (c ∷ t)
 unfolding numeral digit
 numeral-a c t h = rw (h, numeral)
 

@@ -24,11 +24,11 @@ use Rattle.format.proofs.ReadLaws.{bare-is, items-decimal, lettered-is,
 use Rattle.format.proofs.TokenLaws.{Plain, judged-plain, plain-by, sound-bare, sound-lettered}
 
 -- one token that is a node
-record Good (t : Bytes) (n : Node) : Type 0 where
-  spells : spelledNode n ≡ t ∷ []
-  plain : Plain t
+pub record Good (t : Bytes) (n : Node) : Type 0 where
+  pub spells : spelledNode n ≡ t ∷ []
+  pub plain : Plain t
 
-node-case : (t : Bytes) (x : Numeral) → numeral t ≡ x → node t ≡ elim x [ unjudged ↦ find strayNode ((bytes "par", parNode) ∷ []) t | bare s ↦ strayNode | lettered b s ↦ leafOf b (naturalOf s) ]
+pub node-case : (t : Bytes) (x : Numeral) → numeral t ≡ x → node t ≡ elim x [ unjudged ↦ find strayNode ((bytes "par", parNode) ∷ []) t | bare s ↦ strayNode | lettered b s ↦ leafOf b (naturalOf s) ]
 unfolding node
 node-case t x e = ap (λ (y : Numeral). elim y as (λ q. Node) [ unjudged ↦ find strayNode ((bytes "par", parNode) ∷ []) t | bare s ↦ strayNode | lettered b s ↦ leafOf b (naturalOf s) ]) e
 
@@ -64,7 +64,7 @@ good-leaf t s b e h n = go (eqb b 'a) refl n
         record { spells = ap (λ u. u ∷ []) (sym y); plain = rw y (plain-a (naturalOf s)) }
     go false k m = absurd (m refl)
 
-one : (b t : Bytes) → Plain b → sound b t ≡ true → (node t ≡ strayNode → ⊥) → Good t (node t)
+pub one : (b t : Bytes) → Plain b → sound b t ≡ true → (node t ≡ strayNode → ⊥) → Good t (node t)
 one b t p h n = go (numeral t) refl
   where
     go : (x : Numeral) → numeral t ≡ x → Good t (node t)
@@ -79,11 +79,11 @@ pub judged-syn : (s : Bytes) (lo hi : ℤ) → numberSound (bytes "syn") s lo hi
 unfolding numberSound same
 judged-syn s lo high = refl
 
-syn-case : (t : Bytes) (x : Numeral) → numeral t ≡ x → synOf t ≡ elim x [ unjudged ↦ strayNode | bare s ↦ synNode (items s) | lettered b s ↦ strayNode ]
+pub syn-case : (t : Bytes) (x : Numeral) → numeral t ≡ x → synOf t ≡ elim x [ unjudged ↦ strayNode | bare s ↦ synNode (items s) | lettered b s ↦ strayNode ]
 unfolding synOf
 syn-case t x e = ap (λ (y : Numeral). elim y as (λ q. Node) [ unjudged ↦ strayNode | bare s ↦ synNode (items s) | lettered b s ↦ strayNode ]) e
 
-syn-good : (t : Bytes) → sound (bytes "syn") t ≡ true → (synOf t ≡ strayNode → ⊥) → (synOf t ≡ synNode (items t)) × (textOfList (items t) ≡ t) × Plain t
+pub syn-good : (t : Bytes) → sound (bytes "syn") t ≡ true → (synOf t ≡ strayNode → ⊥) → (synOf t ≡ synNode (items t)) × (textOfList (items t) ≡ t) × Plain t
 unfolding textOfList items
 syn-good t h n = go (numeral t) refl
   where
@@ -109,7 +109,7 @@ pub read-no-node : readNodes [] ≡ []
 unfolding readNodes
 read-no-node = refl
 
-read-last : (t : Bytes) → readNodes (t ∷ []) ≡ node t ∷ []
+pub read-last : (t : Bytes) → readNodes (t ∷ []) ≡ node t ∷ []
 unfolding readNodes
 read-last t = refl
 
@@ -129,7 +129,7 @@ back-plain b t ts p y ih h n =
     let g = one b t p (i .0) (m .0) in
     ap (flatMap spelledNode) e ∙ ap (λ l. l ++ flatMap spelledNode (readNodes ts)) (g .spells) ∙ ap (λ l. t ∷ l) (ih (g .plain) (i .1) (m .1))
 
-node-syn : node (bytes "syn") ≡ strayNode
+pub node-syn : node (bytes "syn") ≡ strayNode
 unfolding node numeral digit find same
 node-syn = refl
 

@@ -102,7 +102,7 @@ no-minus none p high = refl
 no-minus (some zero) p high = refl
 no-minus (some (suc n)) p high = refl
 
-natural-none : (b : ℕ) (t : List ℕ) → digit b ≡ false → natural (b ∷ t) ≡ none
+pub natural-none : (b : ℕ) (t : List ℕ) → digit b ≡ false → natural (b ∷ t) ≡ none
 unfolding natural
 natural-none b [] h = digits-no 0 b [] h
 natural-none b (c ∷ t) h = go (eqb b 48)

@@ -10,18 +10,13 @@ use Rattle.model.specs.Predicate.{mentions}
 use Rattle.model.specs.Model.{Edge}
 use Rattle.model.proofs.Tests.{and-intro, and-left, and-right, or-cases, not-true, eq-self, eq-of, exists-intro, exists-elim, every-elim}
 use Rattle.model.proofs.Lists.{keep-in, keep-out}
+use Rattle.tree.proofs.SetLaws.{both-ways}
 use Rattle.search.specs.Search.{inside, isCovered, uncovered, skipped, leastOf}
 
 pub every-intro : {A : Type 0} (f : A → Bool) (l : List A) → ((x : A) → List·Memᴰ x l → f x ≡ true) → every f l ≡ true
 unfolding every
 every-intro f [] h = refl
 every-intro f (x ∷ l) h = and-intro (h x (List·Memᴰ·head refl)) (every-intro f l (λ y i. h y (List·Memᴰ·tail i)))
-
--- two tests agree if each follows from the other
-same-truth : (a b : Bool) → (a ≡ true → b ≡ true) → (b ≡ true → a ≡ true) → a ≡ b
-same-truth true b f g = sym (f refl)
-same-truth false true f g = g refl
-same-truth false false f g = refl
 
 -- `inside` by its members
 inside-in : (u v : List ℕ) → ((k : ℕ) → List·Memᴰ k u → List·Memᴰ k v) → inside u v ≡ true
@@ -137,7 +132,7 @@ least-in earlier (v ∷ later) u h = go (skipped earlier v later) refl (λ w i. 
 -- Pruning: of a test that holds of every smaller set, it is enough to try the least sets.
 pub least-enough : (f : List ℕ → Bool) → ((u v : List ℕ) → inside u v ≡ true → f v ≡ true → f u ≡ true) → (sets : List (List ℕ)) → exists f (leastOf [] sets) ≡ exists f sets
 least-enough f falls sets =
-    same-truth _ _
+    both-ways _ _
     (λ h. let r = exists-elim f _ h in exists-intro f (least-out [] sets (r .1)) (r .2))
     (λ h. let r = exists-elim f sets h in go (r .2) (least-in [] sets (r .0) (r .1)))
   where

@@ -3,3 +3,7 @@ pub mod Unpruned
 pub mod Ahead
 pub mod SearchLaws
 pub mod SearchExamples
+pub mod FoundSteps
+pub mod MaskLaws
+pub mod Places
+pub mod FoundLaws

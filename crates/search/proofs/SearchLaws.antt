@@ -6,7 +6,7 @@ use mathlib.Core.Logic.{inl, inr}
 use Prim.Native.Nat.{ℕ, zero, suc, _+_, _≤_}
 use native.Mathlib.Omega.{arith}
 use native.Mathlib.Nat.{add-assoc}
-use lib.ListN.{length, length-append}
+use lib.ListN.{length}
 use Rattle.model.specs.Basic.{every, exists}
 use Rattle.model.specs.Composition.{Tree, par, syn, leaf, nodes, treeSize}
 use Rattle.model.specs.Model.{Model, inSet}
@@ -16,6 +16,7 @@ use Rattle.model.specs.Moves.{moves}
 use Rattle.model.specs.Judge.{fits}
 use Rattle.model.proofs.Tests.{and-intro, and-left, and-right, or-left, or-right, or-cases, exists-intro, exists-elim, exists-ext, exists-map}
 use Rattle.model.proofs.Numbered.{size, Numbered, numbered, size-is}
+use Rattle.tree.proofs.Standing.{size-par, size-syn}
 use Rattle.search.specs.Search.{Duty, takes, rests, shared, inside, isCovered, uncovered, changedIn, allUnmoved, candidates, ahead, search}
 use Rattle.search.proofs.Covers.{every-inside, uncovered-inside, covered-inside, covered-every, least-enough}
 use Rattle.search.proofs.Unpruned.{alternatives, restsOn, takesOn, unpruned-is}
@@ -47,23 +48,15 @@ and-known false true h = h refl
 and-known false false h = refl
 
 -- a duty's tree, and the nodes of all of them
-unfoldable treeOf : Duty → Tree
+unfoldable pub treeOf : Duty → Tree
 treeOf (takes c) = c
 treeOf (rests c) = c
 
-unfoldable owed : List Duty → ℕ
+unfoldable pub owed : List Duty → ℕ
 owed [] = 0
 owed (duty ∷ duties) = treeSize (treeOf duty) + owed duties
 
-size-par : (c d : Tree) → treeSize (par c d) ≡ suc (treeSize c + treeSize d)
-unfolding treeSize nodes
-size-par c d = ap suc (length-append (nodes c) (nodes d))
-
-size-syn : (list : List ℕ) (c : Tree) → treeSize (syn list c) ≡ suc (treeSize c)
-unfolding treeSize nodes
-size-syn list c = refl
-
-some-node : (c : Tree) → 1 ≤ treeSize c
+pub some-node : (c : Tree) → 1 ≤ treeSize c
 unfolding treeSize nodes
 some-node (par c d) = omega arith
 some-node (syn list c) = omega arith

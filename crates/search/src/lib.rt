@@ -1,1 +1,41 @@
-// The search of the step judge for automata that can take a step. Its definition stands in specs/Search.antt.
+// The search of the step judge for automata that can take a step. What it decides stands in specs/Search.antt, how it is
+// told in specs/Found.antt.
+mod blind;
+mod candidates;
+mod duties;
+
+use crate::duties::Step;
+ghost use mathlib.Core.Path.{_≡_};
+ghost use Rattle.search.specs.Found.{foundIn};
+
+// Can the tree's automata take the action so that every changed variable is mentioned? The tree's nodes stand from `at` on;
+// `sets` has the automata's own synchronising sets; automaton k's candidates are `masks[first[k] .. first[k + 1]]`, and bit k
+// of `still` says that it keeps its location.
+pub fn found(
+    words: &[u32],
+    at: usize,
+    sets: &[u64],
+    action: u32,
+    masks: &[u64],
+    first: &[usize],
+    still: u32,
+    changed: u64,
+) -> bool
+    ensures { λ r. ⌜ r ≡ foundIn (now (words .entry)) at (now (sets .entry)) action (now (masks .entry)) (now (first .entry)) still changed ⌝ }
+{
+    let blind = blind::blinds(masks, first);
+    let step = Step { action, still };
+    let nodes = model::Tree::NODES;
+    duties::seek(
+        words,
+        sets,
+        masks,
+        first,
+        &blind,
+        step,
+        at,
+        nodes,
+        3,
+        changed,
+    )
+}

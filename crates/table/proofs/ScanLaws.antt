@@ -70,7 +70,7 @@ module _ (line : ℕ → Key → Counts → Line) (fuel : ℕ) (s : Scan) where
   scanned-bad h e = rw (h, e, scanned)
 
 -- where the line that is due begins, if no automaton has been counted yet; `count` ranges have been read
-abbrev Placed : Key → (at count : ℕ) → Type 0
+abbrev pub Placed : Key → (at count : ℕ) → Type 0
 Placed Format at count = (at ≡ 0) × (count ≡ 0)
 Placed Actions at count = (at ≡ 1) × (count ≡ 0)
 Placed Variables at count = (at ≡ 2) × (count ≡ 0)
@@ -185,16 +185,16 @@ noted-nodes r (edgeLine e) = omega arith
 noted-nodes r (composeLine c) = omega arith
 
 -- What holds before each round: n lines have been read, which said r, and the scan s has kept account of them.
-record Going (t : List ℕ) (n : ℕ) (s : Scan) (r : Reading) : Type 0 where
-  counted : Counted r (s .counts)
-  paced : Paced n (s .counts)
-  begun : Begun (s .due) r
-  few : r .nodes ≤ maxNodes
-  declared : Declared t r
-  placed : Placed (s .due .key) (s .at) (variableCount r)
-  inside : s .at ≤ length t
+pub record Going (t : List ℕ) (n : ℕ) (s : Scan) (r : Reading) : Type 0 where
+  pub counted : Counted r (s .counts)
+  pub paced : Paced n (s .counts)
+  pub begun : Begun (s .due) r
+  pub few : r .nodes ≤ maxNodes
+  pub declared : Declared t r
+  pub placed : Placed (s .due .key) (s .at) (variableCount r)
+  pub inside : s .at ≤ length t
 
-going-first : (t : List ℕ) → Going t 0 scanFirst atFirst
+pub going-first : (t : List ℕ) → Going t 0 scanFirst atFirst
 unfolding scanFirst atFirst variableCount flatMap
 going-first t =
     record {
@@ -207,7 +207,7 @@ going-first t =
       inside = omega arith;
     }
 
-going-after : (t : List ℕ) (n : ℕ) (s : Scan) (r : Reading) (e : Entry) (ks : List LineKey) (rest : List ℕ) → n < mostCount → keysDue (s .due) ≡ keyOf e ∷ ks → faultOf r e ≡ none → drop (s .at) t ≡ lineWords e ++ rest → Going t n s r → Going t (n + 1) (scanAfter s (numberOf e) (nodesOf e) (s .at + length (lineWords e))) (noted r e)
+pub going-after : (t : List ℕ) (n : ℕ) (s : Scan) (r : Reading) (e : Entry) (ks : List LineKey) (rest : List ℕ) → n < mostCount → keysDue (s .due) ≡ keyOf e ∷ ks → faultOf r e ≡ none → drop (s .at) t ≡ lineWords e ++ rest → Going t n s r → Going t (n + 1) (scanAfter s (numberOf e) (nodesOf e) (s .at + length (lineWords e))) (noted r e)
 unfolding scanAfter dueAfter
 going-after t n s r e ks rest l q f w g =
     let key = due-key (s .due) (keyOf e) ks q in

@@ -18,19 +18,19 @@ use Rattle.model.proofs.Bits.{rises-cons}
 use Rattle.tree.specs.Sets.{oneWord, filled}
 
 -- two answers are equal where each is true if the other is
-both-ways : (a b : Bool) → (a ≡ true → b ≡ true) → (b ≡ true → a ≡ true) → a ≡ b
+pub both-ways : (a b : Bool) → (a ≡ true → b ≡ true) → (b ≡ true → a ≡ true) → a ≡ b
 both-ways true b f g = sym (f refl)
 both-ways false true f g = g refl
 both-ways false false f g = refl
 
 -- what is kept of the numbers from n on, by the tests of those numbers alone
-keep-alike : (f g : ℕ → Bool) (n c : ℕ) → ((k : ℕ) → n ≤ k → k < n + c → f k ≡ g k) → keep f (countUp n c) ≡ keep g (countUp n c)
+pub keep-alike : (f g : ℕ → Bool) (n c : ℕ) → ((k : ℕ) → n ≤ k → k < n + c → f k ≡ g k) → keep f (countUp n c) ≡ keep g (countUp n c)
 unfolding countUp keep
 keep-alike f g n zero h = refl
 keep-alike f g n (suc c) h =
     keep-same f g n (countUp (suc n) c) (h n (omega arith) (omega arith)) (keep-alike f g (suc n) c (λ k a b. h k (omega arith) (omega arith)))
 
-every-kept : (f p : ℕ → Bool) (n c : ℕ) → ((k : ℕ) → n ≤ k → k < n + c → f k ≡ true → p k ≡ true) → every p (keep f (countUp n c)) ≡ true
+pub every-kept : (f p : ℕ → Bool) (n c : ℕ) → ((k : ℕ) → n ≤ k → k < n + c → f k ≡ true → p k ≡ true) → every p (keep f (countUp n c)) ≡ true
 unfolding countUp every keep
 every-kept f p n zero h = refl
 every-kept f p n (suc c) h = go (f n) refl (every-kept f p (suc n) c (λ k a b. h k (omega arith) (omega arith)))
@@ -39,7 +39,7 @@ every-kept f p n (suc c) h = go (f n) refl (every-kept f p (suc n) c (λ k a b. 
     go true e later = rw (keep-first f n (countUp (suc n) c) e) (and-intro (h n (omega arith) (omega arith) e) later)
     go false e later = rw (keep-skip f n (countUp (suc n) c) e) later
 
-kept-all : (f p : ℕ → Bool) (n c : ℕ) → every p (keep f (countUp n c)) ≡ true → (k : ℕ) → n ≤ k → k < n + c → f k ≡ true → p k ≡ true
+pub kept-all : (f p : ℕ → Bool) (n c : ℕ) → every p (keep f (countUp n c)) ≡ true → (k : ℕ) → n ≤ k → k < n + c → f k ≡ true → p k ≡ true
 unfolding countUp every keep
 kept-all f p n zero h k a b e = absurd (omega arith)
 kept-all f p n (suc c) h k a b e = go (f n) refl (kept-all f p (suc n) c)
@@ -77,7 +77,7 @@ bit-past : (s k : ℕ) → s < 2 ^ k → bit s k ≡ false
 unfolding bit
 bit-past s k h = rw (div-eq-of-lt h)
 
-bit-above : (s j k : ℕ) → s < 2 ^ j → j ≤ k → bit s k ≡ false
+pub bit-above : (s j k : ℕ) → s < 2 ^ j → j ≤ k → bit s k ≡ false
 bit-above s j k h l = let m = pow-mono l in bit-past s k (omega arith)
 
 -- nothing is left of a word above its bits

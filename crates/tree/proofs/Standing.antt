@@ -13,7 +13,7 @@ use Rattle.tree.specs.Nodes.{treeWords, nodeIn, nodeAt, after, owing, sk
 use Rattle.tree.proofs.NodeLaws.{later, skip-done, skip-step}
 
 -- the words, and how many there are
-flat-joined : {A B : Type 0} (f : A → List B) (k l : List A) → flatMap f (k ++ l) ≡ flatMap f k ++ flatMap f l
+pub flat-joined : {A B : Type 0} (f : A → List B) (k l : List A) → flatMap f (k ++ l) ≡ flatMap f k ++ flatMap f l
 unfolding flatMap
 flat-joined f [] l = refl
 flat-joined f (x ∷ k) l = rw (flat-joined f k l) (sym (append-assoc (f x) (flatMap f k) (flatMap f l)))

@@ -13,7 +13,7 @@ pub struct Membership {
 }
 
 // Automaton k's own set; past the end the empty one.
-fn own(sets: &[u64], k: usize) -> u64
+pub fn own(sets: &[u64], k: usize) -> u64
     ensures { λ r. ⌜ r ≡ getD (now (sets .entry)) k 0 ⌝ }
 {
     if k < sets.len() { sets[k] } else { 0 }

@@ -1,0 +1,12 @@
+pub mod CappingLaws
+pub mod PlanLaws
+pub mod PickLaws
+pub mod Capped
+pub mod Plans
+pub mod Cells
+pub mod Listed
+pub mod Named
+pub mod Picks
+pub mod Whole
+pub mod Lengths
+pub mod Examples

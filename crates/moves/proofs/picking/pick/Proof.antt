@@ -1,0 +1,13 @@
+-- `moves::picking::pick` meets its contract.
+use borrow.Author.Needs.{needs}
+use Rattle.moves.proofs.picking.pick.Statement.{statement}
+use Rattle.moves.proofs.picking.pick.Tie as tie
+
+pick-at-requires : tie.Need-pick-at-requires
+pick-at-requires c κs = search needs
+
+returns : tie.Need-returns
+returns c = search needs
+
+pub pick-spec : {M : Type 1} → statement M
+pick-spec = tie.close (tie.spec pick-at-requires returns)

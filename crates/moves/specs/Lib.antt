@@ -1,0 +1,4 @@
+pub mod Capping
+pub mod Plan
+pub mod Pick
+pub mod Takers

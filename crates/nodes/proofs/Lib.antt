@@ -1,0 +1,11 @@
+pub mod PartsLaws
+pub mod ListLaws
+pub mod TokenLaws
+pub mod ListsLaws
+pub mod ComposeLaws
+pub mod Numbers
+pub mod AfterSyn
+pub mod TokenNodes
+pub mod Owed
+pub mod Trees
+pub mod Meaning

@@ -1,0 +1,5 @@
+pub mod Parts
+pub mod List
+pub mod Token
+pub mod Lists
+pub mod Read

@@ -1,0 +1,5 @@
+pub mod Shape
+pub mod Numbers
+pub mod Codes
+pub mod Read
+pub mod Formed

@@ -1,0 +1,116 @@
+// The code of the word that a token spells: kind + 16 * argument. 15 is no word's code, and says that it spells none.
+use crate::tokens::Shape;
+use crate::tokens::{self};
+ghost use mathlib.Core.Path.{_≡_};
+ghost use Prim.Native.Nat.{_≤_};
+ghost use lib.ListN.{drop};
+ghost use Rattle.model.specs.Predicate.{stray};
+ghost use Rattle.model.specs.Table as Table;
+ghost use Rattle.format.specs.Tokens as T;
+ghost use Rattle.words.specs.Codes.{argumentCode, numberCode, variableCode, wordCode, countCode};
+
+// The last four of the words that are one token, and no number: those of expressions.
+fn operator_code(token: &[u8]) -> u32
+    ensures { λ r. ⌜ r ≡ Table.code (T.find stray (drop 4 T.spellings) (now (token .entry))) ⌝ }
+{
+    if scan::same(b"add", token) {
+        return 9;
+    }
+    if scan::same(b"sub", token) {
+        return 10;
+    }
+    if scan::same(b"mul", token) {
+        return 11;
+    }
+    if scan::same(b"if", token) {
+        return 12;
+    }
+    15
+}
+
+fn keyword_code(token: &[u8]) -> u32
+    ensures { λ r. ⌜ r ≡ Table.code (T.find stray T.spellings (now (token .entry))) ⌝ }
+{
+    if scan::same(b"not", token) {
+        return 2;
+    }
+    if scan::same(b"imp", token) {
+        return 3;
+    }
+    if scan::same(b"eq", token) {
+        return 4;
+    }
+    if scan::same(b"le", token) {
+        return 5;
+    }
+    operator_code(token)
+}
+
+// A number, moved up so that none is negative.
+pub fn biased(z: i32) -> u32
+    ensures { λ r. ⌜ r ≡ Table.biased z ⌝ }
+{
+    if z < -32768 {
+        return 0;
+    }
+    (z as i64 + 32768) as u32
+}
+
+fn number_code(s: &[u8]) -> u32
+    ensures { λ r. ⌜ r ≡ numberCode (now (s .entry)) ⌝ }
+{
+    let m = scan::integer(s, -32768, 32767);
+    match m {
+        scan::Integer::In(z) => 6 + 16 * biased(z),
+        scan::Integer::Out => 15,
+    }
+}
+
+// A word with an argument from 0 to `high`.
+fn argument_code(kind: u32, high: u32, s: &[u8]) -> u32
+    requires { ⌜ (kind ≤ 15) × (high ≤ 512) ⌝ }
+    ensures { λ r. ⌜ r ≡ argumentCode kind high (now (s .entry)) ⌝ }
+{
+    let m = scan::natural(s, high);
+    match m {
+        scan::Natural::In(k) => kind + 16 * k,
+        scan::Natural::Out => 15,
+    }
+}
+
+fn variable_code(letter: u8, s: &[u8]) -> u32
+    ensures { λ r. ⌜ r ≡ variableCode letter (now (s .entry)) ⌝ }
+{
+    if letter == 118 {
+        return argument_code(7, 47, s);
+    }
+    if letter == 110 {
+        return argument_code(8, 47, s);
+    }
+    15
+}
+
+// A word that is one token.
+pub fn word_code(token: &[u8]) -> u32
+    ensures { λ r. ⌜ r ≡ wordCode (now (token .entry)) ⌝ }
+{
+    let shape = tokens::numeral(token);
+    match shape {
+        Shape::Bare => number_code(token),
+        Shape::Lettered(b) => variable_code(b, &token[1..]),
+        Shape::Plain => keyword_code(token),
+    }
+}
+
+// The K after `all` (kind 0) or `any` (kind 1), with it.
+pub fn count_code(kind: u32, token: &[u8]) -> u32
+    requires { ⌜ kind ≤ 15 ⌝ }
+    ensures { λ r. ⌜ r ≡ countCode kind (now (token .entry)) ⌝ }
+{
+    let shape = tokens::numeral(token);
+    match shape {
+        Shape::Bare => argument_code(kind, 512, token),
+        Shape::Lettered(_) => 15,
+        Shape::Plain => 15,
+    }
+}
