@@ -111,12 +111,12 @@ unfolding broken
 unbroken row true rest h = absurd (none-some row (sym h))
 unbroken row false rest h = (refl, h)
 
-in-range : (r : Reading) (e : Entry) → faultOf r e ≡ none → numbersInRange e ≡ true
+pub in-range : (r : Reading) (e : Entry) → faultOf r e ≡ none → numbersInRange e ≡ true
 unfolding faultOf
 in-range r e h = not-false _ (unbroken 3 (not (numbersInRange e)) (contentFault r e) h .0)
 
 -- with the numbers in range, the first row that an entry could break
-unsaid : (r : Reading) (e : Entry) (row : ℕ) (b : Bool) (rest : Option ℕ) → faultOf r e ≡ none → contentFault r e ≡ broken row (not b) rest → b ≡ true
+pub unsaid : (r : Reading) (e : Entry) (row : ℕ) (b : Bool) (rest : Option ℕ) → faultOf r e ≡ none → contentFault r e ≡ broken row (not b) rest → b ≡ true
 unfolding faultOf
 unsaid r e row b rest h s = not-false b (unbroken row (not b) rest (sym s ∙ unbroken 3 (not (numbersInRange e)) (contentFault r e) h .1) .0)
 

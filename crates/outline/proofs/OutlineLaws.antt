@@ -166,7 +166,7 @@ ranges-length (v ∷ vs) = omega (arith, ranges-length vs)
 
 -- a sheet
 module _ (t rest : List ℕ) (m : Model) (e : t ≡ sheetWords m ++ rest) where
-  sheet-parts : drop 0 t ≡ 1 ∷ m .actions ∷ length (m .variables) ∷ (wordsOf (map variableLine (m .variables)) ++ (length (m .automata) ∷ (automatonWords (m .automata) ++ (lineWords (composeLine (m .tree)) ++ rest))))
+  pub sheet-parts : drop 0 t ≡ 1 ∷ m .actions ∷ length (m .variables) ∷ (wordsOf (map variableLine (m .variables)) ++ (length (m .automata) ∷ (automatonWords (m .automata) ++ (lineWords (composeLine (m .tree)) ++ rest))))
   unfolding sheetWords lines flatMap lineWords
   sheet-parts =
       let vs = map variableLine (m .variables) in

@@ -207,7 +207,7 @@ module _ (low high : ℕ) (l : low < 4294967296) (u : high < 4294967296) (one : 
       ap (λ e. (high * 2 ^ 32 + low) / 2 ^ e) d ∙ sym (shr-shr (high * 2 ^ 32 + low) 32 (k - 32)) ∙ ap (λ x. x / 2 ^ (k - 32)) (P.high high 32 l) in
       rw is (ap (λ x. eqb (x % 2) 1) (sym q))
 
-  set-of-one : setOf low high ≡ keep (bit one) (countUp 0 64)
+  pub set-of-one : setOf low high ≡ keep (bit one) (countUp 0 64)
   unfolding setOf
   set-of-one =
       let halves : countUp 0 64 ≡ countUp 0 32 ++ countUp 32 32 = unfold countUp in refl in

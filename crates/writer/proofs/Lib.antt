@@ -1,0 +1,9 @@
+pub mod GrowingLaws
+pub mod ReadLaws
+pub mod JoinLaws
+pub mod WordLaws
+pub mod NodeLaws
+pub mod LineLaws
+pub mod SheetLaws
+pub mod TextLaws
+pub mod SheetText

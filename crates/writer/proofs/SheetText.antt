@@ -1,0 +1,254 @@
+-- Line by line: what the writer writes for a model's table is the model's text.
+use Prim.Native.Nat.{ℕ, zero, suc, _+_, _-_, _≤_, _<_}
+use mathlib.Core.Path.{_≡_, refl, sym, _∙_, ap, ap₂}
+use mathlib.Core.Bool.{Bool, true, false}
+use mathlib.Core.List.{List, [], _∷_, _++_, map, flatMap, append-assoc, append-nil}
+use mathlib.Core.Option.{Option, none, some}
+use native.Mathlib.Omega.{arith}
+use lib.Dec.{leb}
+use lib.ListN.{length, getD, take, drop, length-map, take-append-drop}
+use lib.Seq.{drop-at}
+use Rattle.model.specs.Basic.{lacks, between}
+use Rattle.model.specs.Bounds.{tableWords, leastNumber, greatestNumber}
+use Rattle.model.specs.Predicate.{Pred, words, nodeCount}
+use Rattle.model.specs.Model.{Model}
+use Rattle.model.specs.Lines.{Key as LineKey, format, actions, variables, variable, automata, sync, locations, init, inv, edges, edge, compose, Entry, formatLine, actionsLine, variablesLine, variableLine, automataLine, syncLine, locationsLine, initLine, invLine, edgesLine, edgeLine, composeLine, keyOf, lines, dueAtFirst, thenDue, Reading, atFirst, noted}
+use Rattle.model.specs.Limits.{numbersInRange, rises, treeRises, contentFault, faultOf, withinLimits, limits}
+use Rattle.model.specs.Lawful.{Lawful}
+use Rattle.model.specs.Table.{code, setWords, predWords, lineWords, sheetWords, tableOf, modelOf, row18, Opened, unopened, opened, openTable}
+use Rattle.model.proofs.Tests.{and-left, and-right}
+use Rattle.model.proofs.Decode.{number-back, none-lacks, in-range, unsaid}
+use Rattle.model.proofs.Bits.{set-back}
+use Rattle.model.proofs.LinesLaws.{Follows, follow-lines}
+use Rattle.model.proofs.LimitsLaws.{lawful-is}
+use Rattle.model.proofs.Sizes.{lines-few}
+use Rattle.model.proofs.TableLaws.{model-given}
+use Rattle.outline.proofs.OutlineLaws.{table-sheet}
+use Rattle.lines.specs.declared.Key.{Key}
+use Rattle.lines.specs.declared.Due.{Due}
+use Rattle.lines.specs.Due.{isEnd, dueFirst, dueAfterKey, dueAfter, keysDue, laterKeys, laterDue, codeOf, numberOf}
+use Rattle.lines.proofs.KeyLaws.{no-end}
+use Rattle.lines.proofs.DueLaws.{due-first, due-key, due-later, due-end, due-after}
+use Rattle.table.specs.declared.Checked.{Checked}
+use Rattle.table.specs.declared.Checked.the-variants.{Good, Refused}
+use Rattle.table.specs.Check.{answered}
+use Rattle.format.specs.Bytes.{Bytes, ledBy, joined, comma, LF}
+use Rattle.format.specs.Number.{decimal, signed}
+use Rattle.format.specs.Spelling.{spelling, textOfList, textOfPred, valueText, lineText, textOf}
+use Rattle.format.specs.Writer.{writeAnswer, bufferAfter}
+use Rattle.format.proofs.FitsLaws.{text-fits}
+use Rattle.writer.specs.Text.{rangeText, fieldText, edgeText, valueOf, keyText, lineOf, sizeOf, linesFrom, sheetText}
+use Rattle.writer.specs.declared.WriteAnswer.{WriteAnswer}
+use Rattle.writer.specs.declared.WriteAnswer.the-variants as W
+use Rattle.writer.specs.Answer.{fitting, Spelt, copyAnswer, given, Answered}
+use Rattle.writer.proofs.TextLaws.{predicate-text, tree-text}
+use Rattle.writer.proofs.SheetLaws.{lines-end, lines-on, fitting-in}
+
+-- four items with commas between them
+fields : (a b c t : Bytes) → (a ++ (comma ∷ [])) ++ (b ++ (comma ∷ [])) ++ (c ++ (comma ∷ [])) ++ t ≡ a ++ (comma ∷ (b ++ (comma ∷ (c ++ (comma ∷ (t ++ []))))))
+fields a b c t = simp (append-assoc, append-nil)
+
+-- the value of a line that breaks no row
+value-text : (r : Reading) (e : Entry) (rest : List ℕ) → faultOf r e ≡ none → valueOf (codeOf (keyOf e)) (lineWords e ++ rest) ≡ valueText e
+unfolding valueOf codeOf keyOf lineWords valueText setWords numbersInRange contentFault rangeText edgeText fieldText joined ledBy
+value-text r formatLine rest h = refl
+value-text r (actionsLine n) rest h = refl
+value-text r (variablesLine n) rest h = refl
+value-text r (variableLine x) rest h =
+    let z = in-range r (variableLine x) h in
+    let low = number-back (x .low) (and-left (between leastNumber greatestNumber (x .low)) _ z) in
+    let high = number-back (x .high) (and-right (between leastNumber greatestNumber (x .low)) _ z) in
+    rw (low, high) (ap (λ (b : Bytes). signed (x .low) ++ (comma ∷ b)) (sym (append-nil (signed (x .high)))))
+value-text r (automataLine n) rest h = refl
+value-text r (syncLine list) rest h =
+    ap textOfList (set-back (r .model .actions) list (unsaid r (syncLine list) 5 (rises (r .model .actions) 0 list) none h refl) (in-range r (syncLine list) h))
+value-text r (locationsLine n) rest h = refl
+value-text r (initLine p) rest h = predicate-text p rest (in-range r (initLine p) h)
+value-text r (invLine p) rest h = predicate-text p rest (in-range r (invLine p) h)
+value-text r (edgesLine n) rest h = refl
+value-text r (edgeLine e) rest h =
+    let z = in-range r (edgeLine e) h in
+    let p = predicate-text (e .update) rest (and-right (leb (e .to) 31) _ (and-right (leb (e .action) 63) _ (and-right (leb (e .from) 31) _ z))) in
+    ap (λ (t : Bytes). fieldText (e .from) ++ fieldText (e .action) ++ fieldText (e .to) ++ t) p ∙
+    fields (decimal (e .from)) (decimal (e .action)) (decimal (e .to)) (textOfPred (e .update))
+value-text r (composeLine c) rest h =
+    let up : treeRises (r .model .actions) c ≡ true = unsaid r (composeLine c) 5 (treeRises (r .model .actions) c) _ h refl in
+    tree-text (r .model .actions) c rest up (in-range r (composeLine c) h)
+
+key-text : (e : Entry) → keyText (codeOf (keyOf e)) ≡ spelling (keyOf e)
+unfolding keyText codeOf keyOf
+key-text formatLine = refl
+key-text (actionsLine n) = refl
+key-text (variablesLine n) = refl
+key-text (variableLine x) = refl
+key-text (automataLine n) = refl
+key-text (syncLine list) = refl
+key-text (locationsLine n) = refl
+key-text (initLine p) = refl
+key-text (invLine p) = refl
+key-text (edgesLine n) = refl
+key-text (edgeLine e) = refl
+key-text (composeLine c) = refl
+
+line-text : (r : Reading) (e : Entry) (rest : List ℕ) → faultOf r e ≡ none → lineOf (codeOf (keyOf e)) (lineWords e ++ rest) ≡ lineText e
+unfolding lineOf lineText
+line-text r e rest h =
+    ap₂ (λ (k v : Bytes). k ++ v ++ (LF ∷ [])) (key-text e) (value-text r e rest h) ∙ append-assoc (spelling (keyOf e)) (valueText e) (LF ∷ [])
+
+-- what is due after it
+due-counted : (e : Entry) (d : Due) (rest : List ℕ) → dueAfterKey (codeOf (keyOf e)) d (getD (lineWords e ++ rest) 0 0) ≡ dueAfterKey (codeOf (keyOf e)) d (numberOf e)
+unfolding dueAfterKey codeOf keyOf lineWords numberOf
+due-counted formatLine d rest = refl
+due-counted (actionsLine n) d rest = refl
+due-counted (variablesLine n) d rest = refl
+due-counted (variableLine x) d rest = refl
+due-counted (automataLine n) d rest = refl
+due-counted (syncLine list) d rest = refl
+due-counted (locationsLine n) d rest = refl
+due-counted (initLine p) d rest = refl
+due-counted (invLine p) d rest = refl
+due-counted (edgesLine n) d rest = refl
+due-counted (edgeLine e) d rest = refl
+due-counted (composeLine c) d rest = refl
+
+-- past a predicate's words
+past-predicate : (p : Pred) (rest : List ℕ) → drop (1 + nodeCount p) (predWords p ++ rest) ≡ rest
+unfolding predWords nodeCount
+past-predicate p rest =
+    let e : 1 + length (words p) ≡ suc (length (words p)) = omega arith in
+    rw e (drop-at (map code (words p)) rest (length (words p)) (length-map (words p) code))
+
+past-edge : (a b c n : ℕ) (ws : List ℕ) → drop (4 + n) (a ∷ b ∷ c ∷ ws) ≡ drop (1 + n) ws
+past-edge a b c n ws =
+    let e : 4 + n ≡ suc (suc (suc (1 + n))) = omega arith in
+    rw e
+
+-- after a line the words of the lines that follow stand, up to some rest
+Stands : List Entry → List ℕ → Type 0
+Stands es ws = (rest : List ℕ) × (ws ≡ flatMap lineWords es ++ rest)
+
+none-follow : (es : List Entry) (r : Reading) (ks : List LineKey) (m : Model) → ks ≡ [] → Follows es r ks m → (ws : List ℕ) → Stands es ws
+unfolding Stands flatMap
+none-follow [] r ks m e f ws = (ws, refl)
+none-follow (x ∷ es) r ks m e f ws = absurd (rw e at f)
+
+-- the composition is the last line
+none-later : (d : Due) (ks : List LineKey) → keysDue d ≡ compose ∷ ks → ks ≡ []
+unfolding laterDue laterKeys codeOf
+none-later d ks k = sym (due-later d compose ks k) ∙ ap (λ (q : Key). laterKeys q d) (due-key d compose ks k)
+
+module _ (m : Model) (d : Due) (r : Reading) (es : List Entry) (rest : List ℕ) where
+  after-line : (e : Entry) (ks : List LineKey) → keysDue d ≡ keyOf e ∷ ks → Follows es (noted r e) (thenDue e ++ ks) m
+      → Stands es (drop (sizeOf (codeOf (keyOf e)) (lineWords e ++ (flatMap lineWords es ++ rest))) (lineWords e ++ (flatMap lineWords es ++ rest)))
+  unfolding Stands sizeOf codeOf keyOf lineWords setWords predWords nodeCount thenDue
+  after-line formatLine ks k f = (rest, refl)
+  after-line (actionsLine n) ks k f = (rest, refl)
+  after-line (variablesLine n) ks k f = (rest, refl)
+  after-line (variableLine x) ks k f = (rest, refl)
+  after-line (automataLine n) ks k f = (rest, refl)
+  after-line (syncLine list) ks k f = (rest, refl)
+  after-line (locationsLine n) ks k f = (rest, refl)
+  after-line (initLine p) ks k f = (rest, past-predicate p (flatMap lineWords es ++ rest))
+  after-line (invLine p) ks k f = (rest, past-predicate p (flatMap lineWords es ++ rest))
+  after-line (edgesLine n) ks k f = (rest, refl)
+  after-line (edgeLine e) ks k f =
+      let ws = predWords (e .update) ++ (flatMap lineWords es ++ rest) in
+      (rest, past-edge (e .from) (e .action) (e .to) (nodeCount (e .update)) ws ∙ past-predicate (e .update) (flatMap lineWords es ++ rest))
+  after-line (composeLine c) ks k f = none-follow es (noted r (composeLine c)) ks m (none-later d ks k) f _
+
+-- all lines that follow
+lines-text : (es : List Entry) (r : Reading) (ks : List LineKey) (m : Model) (d : Due) → keysDue d ≡ ks → Follows es r ks m → withinLimits r es ≡ true → (n : ℕ) → length es < n → (rest : List ℕ)
+    → linesFrom n d (flatMap lineWords es ++ rest) ≡ flatMap lineText es
+unfolding withinLimits flatMap dueAfter Stands isEnd
+lines-text es r ks m d k f h zero l rest = absurd (omega arith)
+lines-text [] r [] m d k f h (suc n) l rest = lines-end n d rest (ap isEnd (due-end d k))
+lines-text [] r (k' ∷ ks) m d k f h (suc n) l rest = absurd f
+lines-text (e ∷ es) r [] m d k f h (suc n) l rest = absurd f
+lines-text (e ∷ es) r (k' ∷ ks) m d k f h (suc n) l rest =
+    let ok = none-lacks (faultOf r e) (and-left (lacks (faultOf r e)) _ h) in
+    let keys : keysDue d ≡ keyOf e ∷ ks = k ∙ ap (λ (x : LineKey). x ∷ ks) (sym (f .0)) in
+    let key : d .key ≡ codeOf (keyOf e) = due-key d (keyOf e) ks keys in
+    let later = flatMap lineWords es ++ rest in
+    let ws = lineWords e ++ later in
+    let next = after-line m d r es rest e ks keys (f .1) in
+    let due : dueAfter d (getD ws 0 0) ≡ dueAfter d (numberOf e) =
+    ap (λ (q : Key). dueAfterKey q d (getD ws 0 0)) key ∙ due-counted e d later ∙ ap (λ (q : Key). dueAfterKey q d (numberOf e)) (sym key) in
+    let others = lines-text es (noted r e) (thenDue e ++ ks) m (dueAfter d (numberOf e)) (due-after d e ks keys) (f .1) (and-right (lacks (faultOf r e)) _ h) n (omega arith) (next .0) in
+    ap (linesFrom (suc n) d) (append-assoc (lineWords e) (flatMap lineWords es) rest) ∙
+    lines-on n d ws (ap isEnd key ∙ no-end (keyOf e)) ∙
+    ap₂ (λ (a b : Bytes). a ++ b) (ap (λ (q : Key). lineOf q ws) key ∙ line-text r e later ok)
+    (ap (λ (x : Due). linesFrom n x (drop (sizeOf (d .key) ws) ws)) due ∙
+    ap (linesFrom n (dueAfter d (numberOf e))) (ap (λ (q : Key). drop (sizeOf q ws) ws) key ∙ next .1) ∙
+    others)
+
+module _ (m : Model) (h : Lawful m) (t rest : List ℕ) (stands : t ≡ sheetWords m ++ rest) where
+  -- what is written for words that begin with a model's is the model's text
+  pub sheet-text : sheetText t ≡ textOf m
+  unfolding sheetText textOf sheetWords limits
+  sheet-text =
+      let few = lines-few m h in
+      ap (linesFrom 8193 dueFirst) stands ∙
+      lines-text (lines m) atFirst dueAtFirst m dueFirst due-first (follow-lines m) (lawful-is m .1 h) 8193 (omega arith) rest
+
+  -- and it fits
+  pub fitting-text : (room : ℕ) → 65536 ≤ room → fitting room (sheetText t) ≡ textOf m
+  fitting-text room big =
+      let l = text-fits m h in
+      let k : length (textOf m) ≤ room = omega arith in
+      ap (fitting room) sheet-text ∙ fitting-in room (textOf m) k
+
+  -- so that is what `spell` leaves in the first bytes
+  pub spell-model : (old new : Bytes) (n : ℕ) → 65536 ≤ length old → Spelt (sheetText t) old new n → (n ≡ length (textOf m)) × (take n new ≡ textOf m)
+  spell-model old new n big s =
+      let e = fitting-text (length old) big in
+      (s .size ∙ ap length e, s .text ∙ e)
+
+-- a table that is opened begins with its model's words
+opened-is : (t : List ℕ) (m : Model) → openTable t ≡ opened m → modelOf t ≡ some m
+unfolding openTable
+opened-is t m e = go (row18 (length t)) refl (modelOf t) refl
+  where
+    go : (b : Bool) → row18 (length t) ≡ b → (o : Option Model) → modelOf t ≡ o → modelOf t ≡ some m
+    go true p o q =
+        let a : openTable t ≡ unopened 18 = rw (p, openTable) in
+        cc
+    go false p none q =
+        let a : openTable t ≡ unopened 19 = rw (p, openTable, q, openTable) in
+        cc
+    go false p (some x) q =
+        let a : openTable t ≡ opened x = rw (p, openTable, q, openTable) in
+        cc
+
+pub opened-text : (t : List ℕ) (m : Model) → openTable t ≡ opened m → fitting 65536 (sheetText t) ≡ textOf m
+opened-text t m e =
+    let g = model-given t m (opened-is t m e) in
+    let whole : t ≡ tableOf m ++ drop tableWords t = sym (take-append-drop tableWords t) ∙ ap (λ (l : List ℕ). l ++ drop tableWords t) (g .1) in
+    fitting-text m (lawful-is m .0 (g .0)) t _ (table-sheet t (drop tableWords t) m whole) 65536 (omega arith)
+
+-- `write`
+module _ (t old : List ℕ) (c : Checked) (e : c ≡ answered (openTable t)) where
+  pub write-refused : (row : ℕ) → c ≡ Refused row → Answered (writeAnswer t (length old)) old old (W.Refused row)
+  unfolding writeAnswer answered given bufferAfter
+  write-refused row f = go (openTable t) refl
+    where
+      go : (o : Opened) → openTable t ≡ o → Answered (writeAnswer t (length old)) old old (W.Refused row)
+      go (unopened x) p =
+          let z : row ≡ x = cc (ap answered p) in
+          rw (p, writeAnswer) (record { answer = ap W.Refused z; memory = refl; long = refl })
+      go (opened m) p =
+          let z : _≡_ {A = ℕ} 0 1 = cc (ap answered p) in
+          absurd (omega arith)
+
+  pub write-good : c ≡ Good → (new : Bytes) (r : WriteAnswer) → Answered (copyAnswer (fitting 65536 (sheetText t)) (length old)) old new r → Answered (writeAnswer t (length old)) old new r
+  unfolding writeAnswer answered copyAnswer
+  write-good f new r g = go (openTable t) refl
+    where
+      go : (o : Opened) → openTable t ≡ o → Answered (writeAnswer t (length old)) old new r
+      go (unopened x) p =
+          let z : _≡_ {A = ℕ} 0 1 = cc (ap answered p) in
+          absurd (omega arith)
+      go (opened m) p =
+          let h : Answered (copyAnswer (textOf m) (length old)) old new r = rw (opened-text t m p) at g in
+          rw (p, writeAnswer) h
+
+pub ruleset write-laws = (write-refused, write-good)

@@ -1,0 +1,50 @@
+-- `writer::line::edge` meets its contract: each way out is a law of LineLaws.
+use Rattle.writer.proofs.LineLaws.{edge-is}
+use borrow.Author.Needs.{needs}
+use Rattle.writer.proofs.line.edge.Statement.{statement}
+use Rattle.writer.proofs.line.edge.Tie as tie
+
+word-requires : tie.Need-word-requires
+word-requires c κs = search needs
+
+field-requires : tie.Need-field-requires
+field-requires c κs = search needs
+
+word-requires-2 : tie.Need-word-requires-2
+word-requires-2 c κs = search needs
+
+field-requires-2 : tie.Need-field-requires-2
+field-requires-2 c κs = search needs
+
+word-requires-3 : tie.Need-word-requires-3
+word-requires-3 c κs = search needs
+
+field-requires-3 : tie.Need-field-requires-3
+field-requires-3 c κs = search needs
+
+rest-requires : tie.Need-rest-requires
+rest-requires c κs = search needs
+
+predicate-requires : tie.Need-predicate-requires
+predicate-requires c κs = search needs
+
+same-length : tie.Need-same-length
+same-length c = search needs
+
+returns : tie.Need-returns
+returns c = search (needs, edge-is)
+
+pub edge-spec : {M : Type 1} → statement M
+edge-spec =
+    tie.close
+    (tie.spec
+    word-requires
+    field-requires
+    word-requires-2
+    field-requires-2
+    word-requires-3
+    field-requires-3
+    rest-requires
+    predicate-requires
+    same-length
+    returns)

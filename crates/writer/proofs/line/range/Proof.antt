@@ -1,0 +1,42 @@
+-- `writer::line::range` meets its contract: each way out is a law of LineLaws.
+use Rattle.writer.proofs.LineLaws.{range-is}
+use borrow.Author.Needs.{needs}
+use Rattle.writer.proofs.line.range.Statement.{statement}
+use Rattle.writer.proofs.line.range.Tie as tie
+
+word-requires : tie.Need-word-requires
+word-requires c κs = search needs
+
+biased-requires : tie.Need-biased-requires
+biased-requires c κs = search needs
+
+slice-aggregate-put : tie.Need-slice-aggregate-put
+slice-aggregate-put c = search needs
+
+put-requires : tie.Need-put-requires
+put-requires c κs = search needs
+
+word-requires-2 : tie.Need-word-requires-2
+word-requires-2 c κs = search needs
+
+biased-requires-2 : tie.Need-biased-requires-2
+biased-requires-2 c κs = search needs
+
+same-length : tie.Need-same-length
+same-length c = search needs
+
+returns : tie.Need-returns
+returns c = search (needs, range-is)
+
+pub range-spec : {M : Type 1} → statement M
+range-spec =
+    tie.close
+    (tie.spec
+    word-requires
+    biased-requires
+    slice-aggregate-put
+    put-requires
+    word-requires-2
+    biased-requires-2
+    same-length
+    returns)

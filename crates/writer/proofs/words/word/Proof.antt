@@ -1,0 +1,20 @@
+-- `writer::words::word` meets its contract: each way out is a law of WordLaws.
+use Rattle.writer.proofs.WordLaws.{word-is}
+use borrow.Author.Needs.{needs}
+use Rattle.writer.proofs.words.word.Statement.{statement}
+use Rattle.writer.proofs.words.word.Tie as tie
+
+name-requires : tie.Need-name-requires
+name-requires c κs = search needs
+
+argument-requires : tie.Need-argument-requires
+argument-requires c κs = search needs
+
+same-length : tie.Need-same-length
+same-length c = search needs
+
+returns : tie.Need-returns
+returns c = search (needs, word-is)
+
+pub word-spec : {M : Type 1} → statement M
+word-spec = tie.close (tie.spec name-requires argument-requires same-length returns)

@@ -1,0 +1,145 @@
+-- What the writer writes for a table's words, on any words; past the end it reads 0. On a model's words this is the model's
+-- text: the law sheet-text.
+use Prim.Native.Nat.{ℕ, zero, suc, _+_}
+use mathlib.Core.Bool.{Bool, true, false, not}
+use mathlib.Core.List.{List, [], _∷_, _++_, map}
+use lib.ListN.{getD, take, drop}
+use Rattle.model.specs.Bounds.{tableWords}
+use Rattle.model.specs.Lines.{format, actions, variables, variable, automata, sync, locations, init, inv, edges, edge, compose}
+use Rattle.model.specs.Table.{unbiased, wordOf, setOf}
+use Rattle.format.specs.Bytes.{Bytes, bytes, joined, LF, space, comma, 'a}
+use Rattle.format.specs.Number.{decimal, signed}
+use Rattle.format.specs.Spelling.{spelling, spelled, textOfList}
+use Rattle.lines.specs.declared.Key.{Key}
+use Rattle.lines.specs.declared.Key.the-variants.{Format, Actions, Variables, Variable, Automata, Sync, Locations, Init, Inv, Edges, Edge, Compose, End}
+use Rattle.lines.specs.declared.Due.{Due}
+use Rattle.lines.specs.Due.{isEnd, dueFirst, dueAfter}
+use Rattle.writer.specs.Growing.{between}
+
+-- A node of a predicate, and nodes in a row.
+unfoldable pub wordText : ℕ → Bytes
+wordText w = joined space (spelled (wordOf w))
+
+unfoldable pub wordsText : List ℕ → Bytes
+wordsText ws = joined space (map wordText ws)
+
+-- the same in two parts, each by the kind: the name, and the argument
+unfoldable pub nameText : (kind : ℕ) → Bytes
+nameText kind =
+    getD
+    (bytes "all " ∷ bytes "any " ∷ bytes "not" ∷ bytes "imp" ∷ bytes "eq" ∷ bytes "le" ∷ [] ∷ bytes "v" ∷ bytes "n" ∷
+    bytes "add" ∷ bytes "sub" ∷ bytes "mul" ∷ bytes "if" ∷ [])
+    kind
+    []
+
+unfoldable pub argumentText : (kind k : ℕ) → Bytes
+argumentText kind k =
+    getD (decimal k ∷ decimal k ∷ [] ∷ [] ∷ [] ∷ [] ∷ signed (unbiased k) ∷ decimal k ∷ decimal k ∷ []) kind []
+
+-- A set of two words. An action is written if it is in the set, after a comma if others were.
+abbrev pub setText : (low high : ℕ) → Bytes
+setText low high = textOfList (setOf low high)
+
+unfoldable pub memberText : (isIn first : Bool) → ℕ → Bytes
+memberText true first k = between first (comma ∷ []) ++ decimal k
+memberText false first k = []
+
+-- The node of the tree that some words begin with, how many words it has, and n nodes.
+unfoldable pub nodeBy : ℕ → List ℕ → Bytes
+nodeBy zero ws = bytes "par"
+nodeBy (suc zero) ws = bytes "syn " ++ setText (getD ws 1 0) (getD ws 2 0)
+nodeBy (suc (suc k)) ws = 'a ∷ decimal k
+
+unfoldable pub nodeText : List ℕ → Bytes
+nodeText ws = nodeBy (getD ws 0 0) ws
+
+unfoldable pub sizeBy : ℕ → ℕ
+sizeBy zero = 1
+sizeBy (suc zero) = 3
+sizeBy (suc (suc k)) = 1
+
+unfoldable pub nodeSize : List ℕ → ℕ
+nodeSize ws = sizeBy (getD ws 0 0)
+
+unfoldable pub nodeTexts : ℕ → List ℕ → List Bytes
+nodeTexts zero ws = []
+nodeTexts (suc n) ws = nodeText ws ∷ nodeTexts n (drop (nodeSize ws) ws)
+
+-- The values of lines.
+unfoldable pub rangeText : List ℕ → Bytes
+rangeText ws = signed (unbiased (getD ws 0 0)) ++ (comma ∷ signed (unbiased (getD ws 1 0)))
+
+unfoldable pub predicateText : List ℕ → Bytes
+predicateText ws = wordsText (take (getD ws 0 0) (drop 1 ws))
+
+-- a number and a comma
+unfoldable pub fieldText : ℕ → Bytes
+fieldText n = decimal n ++ (comma ∷ [])
+
+unfoldable pub edgeText : List ℕ → Bytes
+edgeText ws = fieldText (getD ws 0 0) ++ fieldText (getD ws 1 0) ++ fieldText (getD ws 2 0) ++ predicateText (drop 3 ws)
+
+unfoldable pub treeText : List ℕ → Bytes
+treeText ws = joined space (nodeTexts (getD ws 0 0) (drop 1 ws))
+
+unfoldable pub valueOf : Key → List ℕ → Bytes
+valueOf Format ws = decimal (getD ws 0 0)
+valueOf Actions ws = decimal (getD ws 0 0)
+valueOf Variables ws = decimal (getD ws 0 0)
+valueOf Variable ws = rangeText ws
+valueOf Automata ws = decimal (getD ws 0 0)
+valueOf Sync ws = setText (getD ws 0 0) (getD ws 1 0)
+valueOf Locations ws = decimal (getD ws 0 0)
+valueOf Init ws = predicateText ws
+valueOf Inv ws = predicateText ws
+valueOf Edges ws = decimal (getD ws 0 0)
+valueOf Edge ws = edgeText ws
+valueOf Compose ws = treeText ws
+valueOf End ws = []
+
+unfoldable pub keyText : Key → Bytes
+keyText Format = spelling format
+keyText Actions = spelling actions
+keyText Variables = spelling variables
+keyText Variable = spelling variable
+keyText Automata = spelling automata
+keyText Sync = spelling sync
+keyText Locations = spelling locations
+keyText Init = spelling init
+keyText Inv = spelling inv
+keyText Edges = spelling edges
+keyText Edge = spelling edge
+keyText Compose = spelling compose
+keyText End = []
+
+-- A line, and how many words it has; after the composition no line follows, so its size is not asked for.
+unfoldable pub lineOf : Key → List ℕ → Bytes
+lineOf key ws = keyText key ++ valueOf key ws ++ (LF ∷ [])
+
+unfoldable pub sizeOf : Key → List ℕ → ℕ
+sizeOf Format ws = 1
+sizeOf Actions ws = 1
+sizeOf Variables ws = 1
+sizeOf Variable ws = 2
+sizeOf Automata ws = 1
+sizeOf Sync ws = 2
+sizeOf Locations ws = 1
+sizeOf Init ws = 1 + getD ws 0 0
+sizeOf Inv ws = 1 + getD ws 0 0
+sizeOf Edges ws = 1
+sizeOf Edge ws = 4 + getD ws 3 0
+sizeOf Compose ws = 0
+sizeOf End ws = 0
+
+-- The lines from one that is due on; the fuel bounds the rounds, of which the last only finds the end.
+unfoldable pub linesFrom : (fuel : ℕ) → Due → List ℕ → Bytes
+linesFrom zero d ws = []
+linesFrom (suc n) d ws =
+    elim (isEnd (d .key)) [
+      | true ↦ []
+      | false ↦ lineOf (d .key) ws ++ linesFrom n (dueAfter d (getD ws 0 0)) (drop (sizeOf (d .key) ws) ws)
+    ]
+
+-- each line takes a word at least, so the fuel is enough for a table
+unfoldable pub sheetText : List ℕ → Bytes
+sheetText ws = linesFrom (tableWords + 1) dueFirst ws

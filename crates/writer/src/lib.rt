@@ -1,0 +1,55 @@
+// The writer of sheets: from a table to the text.
+mod line;
+mod nodes;
+mod put;
+mod read;
+mod sheet;
+mod words;
+
+use table::Checked;
+ghost use lib.ListN.{length};
+ghost use Rattle.model.specs.Bounds.{maxBytes};
+ghost use Rattle.format.specs.Writer.{writeAnswer};
+ghost use Rattle.writer.specs.Answer.{Answered, wordsAnswer};
+pub use sheet::spell;
+
+// Refused has the row. Written has the length of the text.
+pub enum WriteAnswer {
+    Written(usize),
+    Refused(u32),
+}
+
+// No sheet's text is longer.
+const BYTES: usize = 65536;
+
+// What the words spell, by way of a buffer for the text. Row 35 is decided by its length, and it is copied as the last act.
+fn deliver(table: &[u32], text: &mut [u8], out: &mut [u8]) -> WriteAnswer
+    ensures { λ r. ⌜ Answered (wordsAnswer (length (now (text .entry))) (now (table .entry)) (length (now (out .entry))))
+        (now (out .entry)) (now (out .exit)) r ⌝ }
+{
+    let n = spell(table, text);
+    if out.len() < n {
+        return WriteAnswer::Refused(35);
+    }
+    let _end = scan::copy(&text[..n], out, 0);
+    WriteAnswer::Written(n)
+}
+
+// The same for a table that is known to be good.
+fn good(table: &[u32], out: &mut [u8]) -> WriteAnswer
+    ensures { λ r. ⌜ Answered (wordsAnswer maxBytes (now (table .entry)) (length (now (out .entry)))) (now (out .entry)) (now (out .exit)) r ⌝ }
+{
+    let mut text = [0u8; BYTES];
+    deliver(table, &mut text, out)
+}
+
+// The text of the model whose table this is. Rows 18, 19 and 35; a refusal has written nothing.
+pub fn write(table: &[u32], out: &mut [u8]) -> WriteAnswer
+    ensures { λ r. ⌜ Answered (writeAnswer (now (table .entry)) (length (now (out .entry)))) (now (out .entry)) (now (out .exit)) r ⌝ }
+{
+    let checked = table::check(table);
+    match checked {
+        Checked::Good => good(table, out),
+        Checked::Refused(row) => WriteAnswer::Refused(row),
+    }
+}

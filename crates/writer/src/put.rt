@@ -1,0 +1,45 @@
+// Writing on from a place; where there is no room, that is passed on.
+use scan::Written;
+ghost use mathlib.Core.Path.{_≡_};
+ghost use Rattle.format.specs.Number as N;
+ghost use Rattle.model.specs.Table.{unbiased};
+ghost use Rattle.writer.specs.Growing.{Grew, between};
+
+pub(crate) fn put(s: &[u8], out: &mut [u8], at: Written) -> Written
+    ensures { λ r. ⌜ Grew (now (s .entry)) at (now (out .entry)) (now (out .exit)) r ⌝ }
+{
+    match at {
+        Written::To(n) => scan::copy(s, out, n),
+        Written::Full => Written::Full,
+    }
+}
+
+pub(crate) fn number(n: u32, out: &mut [u8], at: Written) -> Written
+    ensures { λ r. ⌜ Grew (N.decimal n) at (now (out .entry)) (now (out .exit)) r ⌝ }
+{
+    match at {
+        Written::To(place) => scan::decimal(n, out, place),
+        Written::Full => Written::Full,
+    }
+}
+
+// What stands before an item, unless it is the first.
+pub(crate) fn apart(mark: &[u8], first: bool, out: &mut [u8], at: Written) -> Written
+    ensures { λ r. ⌜ Grew (between first (now (mark .entry))) at (now (out .entry)) (now (out .exit)) r ⌝ }
+{
+    if first {
+        return at;
+    }
+    put(mark, out, at)
+}
+
+// The number that a biased word stands for.
+pub(crate) fn biased(word: u32, out: &mut [u8], at: Written) -> Written
+    ensures { λ r. ⌜ Grew (N.signed (unbiased word)) at (now (out .entry)) (now (out .exit)) r ⌝ }
+{
+    if word < 32768 {
+        let a = put(b"-", out, at);
+        return number(32768 - word, out, a);
+    }
+    number(word - 32768, out, at)
+}
