@@ -15,3 +15,4 @@ pub mod Refusals
 pub mod FitsLaws
 pub mod Given
 pub mod TextRuns
+pub mod Inverse

@@ -131,7 +131,7 @@ unfolding preds allStayAll
 preds-stay declared [] h = refl
 preds-stay declared (p ∷ l) h = and-intro (h p (List·Memᴰ·head refl)) (preds-stay declared l (λ q i. h q (List·Memᴰ·tail i)))
 
-preds-count : (l : List Pred) → operands (preds l) ≡ length l
+pub preds-count : (l : List Pred) → operands (preds l) ≡ length l
 unfolding preds operands
 preds-count [] = refl
 preds-count (p ∷ l) = ap suc (preds-count l)
@@ -248,12 +248,12 @@ none-of f l h x i = go (f x) refl
 
 -- how many predicates the merged init, inv and updates join
 module _ (m : Model) (part : Location → Pred) where
-  locations-length : (i j : ℕ) (ls : List Location) → length (atLocations m part i j ls) ≡ length ls
+  pub locations-length : (i j : ℕ) (ls : List Location) → length (atLocations m part i j ls) ≡ length ls
   unfolding atLocations
   locations-length i j [] = refl
   locations-length i j (l ∷ ls) = ap suc (locations-length i (suc j) ls)
 
-  automata-length : (i : ℕ) (xs : List Automaton) → Members (λ x. length (x .locations) ≤ maxLocations) xs → length (atAutomata m part i xs) ≤ maxLocations * length xs
+  pub automata-length : (i : ℕ) (xs : List Automaton) → Members (λ x. length (x .locations) ≤ maxLocations) xs → length (atAutomata m part i xs) ≤ maxLocations * length xs
   unfolding atAutomata
   automata-length i [] h = omega arith
   automata-length i (x ∷ xs) h =
@@ -261,7 +261,7 @@ module _ (m : Model) (part : Location → Pred) where
       let ih = automata-length (suc i) xs (λ y k. h y (List·Memᴰ·tail k)) in
       omega (arith, length-append (atLocations m part i 0 (x .locations)) (atAutomata m part (suc i) xs), locations-length i 0 (x .locations))
 
-pointers-length : (m : Model) (x : List Taker) → length (pointerMoves m x) ≡ 2 * length x
+pub pointers-length : (m : Model) (x : List Taker) → length (pointerMoves m x) ≡ 2 * length x
 unfolding pointerMoves
 pointers-length m [] = refl
 pointers-length m (y ∷ x) = let ih = pointers-length m x in omega arith

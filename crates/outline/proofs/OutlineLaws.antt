@@ -159,7 +159,7 @@ passed-at t rest (x ∷ xs) at (suc k) h e =
     passed-at t rest xs (afterAutomaton t at) k (omega arith) (after-automaton t (others ++ rest) x at f)
 
 -- two words a variable
-ranges-length : (vs : List Range) → length (wordsOf (map variableLine vs)) ≡ length vs + length vs
+pub ranges-length : (vs : List Range) → length (wordsOf (map variableLine vs)) ≡ length vs + length vs
 unfolding flatMap lineWords
 ranges-length [] = refl
 ranges-length (v ∷ vs) = omega (arith, ranges-length vs)

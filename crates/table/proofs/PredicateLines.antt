@@ -35,11 +35,11 @@ use Rattle.table.proofs.NumberLines.{when-sound, when-true, mended, fir
 
 module _ (t : List ℕ) (r : Reading) (c : Counts) (k : Counted r c) (d : Declared t r) where
   -- the declared ranges are those that have been read
-  declared-are : declaredOf (rangesIn t (c .variables)) ≡ r .model .variables
+  pub declared-are : declaredOf (rangesIn t (c .variables)) ≡ r .model .variables
   unfolding rangesIn lineWords
   declared-are = rw (k .variables, d .words) (declared-back (r .model .variables) (d .lawful))
 
-  declared-lawful : (x : Range) → List·Memᴰ x (declaredOf (rangesIn t (c .variables))) → LawfulRange x
+  pub declared-lawful : (x : Range) → List·Memᴰ x (declaredOf (rangesIn t (c .variables))) → LawfulRange x
   declared-lawful = rw declared-are (d .lawful)
 
   -- n nodes from `start` on are a predicate's, which breaks no row

@@ -5,6 +5,8 @@ mod sheet;
 use lines::Counts;
 use lines::Due;
 use model::Model;
+pub use one_line::fits;
+pub use one_line::ranges;
 ghost use mathlib.Core.Path.{_≡_};
 ghost use Rattle.model.specs.Table.{openTable};
 ghost use Rattle.table.specs.Check.{answered};

@@ -92,7 +92,7 @@ fn sync(t: &[u32], at: usize, actions: usize) -> Line
 }
 
 // The words of the first ranges, which stand from word 3 on, as far as they are there.
-fn ranges(t: &[u32], variables: usize) -> &[u32]
+pub fn ranges(t: &[u32], variables: usize) -> &[u32]
     ensures { λ r. ⌜ now r ≡ rangesIn (now (t .entry)) variables ⌝ }
 {
     if t.len() < 3 {
@@ -116,7 +116,7 @@ fn walked_to(walk: Walked, start: usize, n: usize) -> bool
 }
 
 // The sum goes no higher than `most`.
-fn fits(x: usize, y: usize, most: usize) -> bool
+pub fn fits(x: usize, y: usize, most: usize) -> bool
     ensures { λ r. ⌜ r ≡ leb (x + y) most ⌝ }
 {
     if most < y {

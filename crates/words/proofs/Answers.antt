@@ -59,7 +59,7 @@ agree-stray cs ws (next c w ds vs e n a) l = stack-none w vs (agree-stray ds vs 
 
 -- what an answer says of the codes
 module _ (cs : List ℕ) (room : ℕ) where
-  said-read : (n : ℕ) → Read n ≡ answer cs room → (n ≡ gap strayCode cs) × (n ≤ room) × (length cs ≤ n)
+  pub said-read : (n : ℕ) → Read n ≡ answer cs room → (n ≡ gap strayCode cs) × (n ≤ room) × (length cs ≤ n)
   unfolding answer count
   said-read n e = go (leb (gap strayCode cs) room) refl (ltb (gap strayCode cs) (length cs)) refl e
     where

@@ -1,0 +1,34 @@
+-- `linear::edges::edge` meets its contract.
+use Rattle.linear.proofs.AllEdgesLaws.{edge-is}
+use borrow.Author.Needs.{needs}
+use Rattle.linear.proofs.edges.edge.Statement.{statement}
+use Rattle.linear.proofs.edges.edge.Tie as tie
+
+tree-at-requires : tie.Need-tree-at-requires
+tree-at-requires c κs = search needs
+
+step-requires : tie.Need-step-requires
+step-requires c κs = search needs
+
+pick-requires : tie.Need-pick-requires
+pick-requires c κs = search needs
+
+takers-of-requires : tie.Need-takers-of-requires
+takers-of-requires c κs = search needs
+
+edge-requires : tie.Need-edge-requires
+edge-requires c κs = search needs
+
+returns : tie.Need-returns
+returns c = search (needs, edge-is)
+
+pub edge-spec : {M : Type 1} → statement M
+edge-spec =
+    tie.close
+    (tie.spec
+    tree-at-requires
+    step-requires
+    pick-requires
+    takers-of-requires
+    edge-requires
+    returns)

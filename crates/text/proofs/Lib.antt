@@ -1,0 +1,6 @@
+pub mod StoreLaws
+pub mod SheetLaws
+pub mod Filling
+pub mod ReadExact
+pub mod Exact
+pub mod ReadLaws

@@ -1,0 +1,240 @@
+//! Times of the five calls beside the reference, in one run, as Markdown tables.
+use differential::calls::{self, Reference, Sheets};
+use differential::reference::judge::Proposal;
+use differential::reference::model::{TABLE_WORDS, TEXT_BYTES};
+use differential::rounds::OVEN;
+use std::fmt::Write;
+use std::hint::black_box;
+use std::time::{Duration, Instant};
+
+/// How long one measurement lasts, and how many there are. The best is taken, for others use the machine too.
+const LASTS: Duration = Duration::from_millis(12);
+const MEASUREMENTS: usize = 12;
+
+/// Nanoseconds of one call, in one measurement.
+fn time(mut call: impl FnMut()) -> f64 {
+    let start = Instant::now();
+    let mut count = 0;
+    while start.elapsed() < LASTS {
+        call();
+        count += 1;
+    }
+    start.elapsed().as_nanos() as f64 / count as f64
+}
+
+/// A call on a subject: the nanoseconds of one measurement.
+type Measure = fn(&Subject, &dyn Sheets) -> f64;
+
+/// The best time of each of some, measured in turn so that a busy moment of the machine meets them all.
+fn best<const N: usize>(subject: &Subject, measure: Measure, of: [&dyn Sheets; N]) -> [f64; N] {
+    let mut best = [f64::INFINITY; N];
+    for _ in 0..MEASUREMENTS {
+        for (best, sheets) in best.iter_mut().zip(of) {
+            *best = best.min(measure(subject, sheets));
+        }
+    }
+    best
+}
+
+/// A sheet to measure, with a proposal that is answered with yes.
+struct Subject {
+    name: String,
+    text: String,
+    table: Vec<u32>,
+    locations: Vec<u32>,
+    values: Vec<i32>,
+    new_values: Vec<i32>,
+    new_locations: Vec<u32>,
+    action: u32,
+}
+
+impl Subject {
+    fn new(name: &str, text: String) -> Subject {
+        let mut table = vec![0; TABLE_WORDS];
+        let answer = Reference.read(text.as_bytes(), &mut table);
+        assert_eq!(answer, 0, "{name}: row {}, line {}", calls::row(answer), calls::line(answer));
+        let (variables, automata) = (table[2] as usize, table[3 + 2 * table[2] as usize] as usize);
+        Subject {
+            name: name.to_string(),
+            text,
+            table,
+            locations: vec![0; automata],
+            values: vec![0; variables],
+            new_values: vec![0; variables],
+            new_locations: vec![0; automata],
+            action: 1,
+        }
+    }
+
+    fn proposal(&self) -> Proposal<'_> {
+        Proposal {
+            phase: 0,
+            locations: &self.locations,
+            values: &self.values,
+            new_locations: &self.new_locations,
+            new_values: &self.new_values,
+        }
+    }
+
+    fn read(&self, sheets: &dyn Sheets) -> f64 {
+        let mut table = vec![0; TABLE_WORDS];
+        time(|| {
+            black_box(sheets.read(self.text.as_bytes(), &mut table));
+        })
+    }
+
+    fn write(&self, sheets: &dyn Sheets) -> f64 {
+        let mut out = vec![0; TEXT_BYTES];
+        time(|| {
+            black_box(sheets.write(&self.table, &mut out));
+        })
+    }
+
+    fn merge(&self, sheets: &dyn Sheets) -> f64 {
+        let mut out = vec![0; TEXT_BYTES];
+        time(|| {
+            black_box(sheets.merge(&self.table, &mut out));
+        })
+    }
+
+    fn step(&self, sheets: &dyn Sheets) -> f64 {
+        time(|| {
+            black_box(sheets.step(&self.table, &self.proposal(), self.action));
+        })
+    }
+
+    fn environment(&self, sheets: &dyn Sheets) -> f64 {
+        time(|| {
+            black_box(sheets.environment(&self.table, &self.proposal()));
+        })
+    }
+
+    /// What each call answers, so that a table of times says what was timed.
+    fn answers(&self) -> [String; 5] {
+        let merged = Reference.merge(&self.table, &mut vec![0; TEXT_BYTES]);
+        let row = calls::row(merged);
+        let merge = if row == 0 {
+            format!("{} edges, {} bytes", calls::edges(merged), calls::length(merged))
+        } else {
+            format!("refused {row}")
+        };
+        let judge = |answer: u32| if answer == 0 { "no" } else { "yes" }.to_string();
+        [
+            format!("{} bytes", self.text.len()),
+            format!("{} bytes", self.text.len()),
+            merge,
+            judge(Reference.step(&self.table, &self.proposal(), self.action)),
+            judge(Reference.environment(&self.table, &self.proposal())),
+        ]
+    }
+}
+
+/// A sheet with so many automata, of which the first few share action 1; the other actions are taken alone.
+fn chain(automata: usize, locations: usize, edges: usize, variables: usize, shared: usize) -> String {
+    let mut text = format!("format=1\nactions=63\nvariables={variables}\n");
+    text.push_str(&"variable=-9,9\n".repeat(variables));
+    writeln!(text, "automata={automata}").unwrap();
+    for k in 0..automata {
+        writeln!(text, "sync={}\nlocations={locations}", if k < shared { "1" } else { "" }).unwrap();
+        for _ in 0..locations {
+            text.push_str("init=all 0\ninv=le v0 9\n");
+        }
+        writeln!(text, "edges={edges}").unwrap();
+        for e in 0..edges {
+            let action = if k < shared && e == 0 { 1 } else { 2 + (k * edges + e) % 60 };
+            writeln!(text, "edge={},{action},{},eq n{} v{}", e % locations, (e / 2) % locations, k % variables, e % variables)
+                .unwrap();
+        }
+    }
+    let leaves: Vec<String> = (0..automata).map(|k| format!("a{k}")).collect();
+    writeln!(text, "compose={}{}", "par ".repeat(automata - 1), leaves.join(" ")).unwrap();
+    text
+}
+
+/// A sheet with 16 automata, 512 edges, 4,096 nodes, 48 variables and a tree of 64 nodes.
+fn at_the_limits() -> String {
+    let mut text = "format=1\nactions=63\nvariables=48\n".to_string();
+    text.push_str(&"variable=-32768,32767\n".repeat(48));
+    text.push_str("automata=16\n");
+    // 16 * (32 * 2 + 32 * 6) = 4,096 nodes.
+    for k in 0..16 {
+        text.push_str("sync=1\nlocations=32\n");
+        text.push_str(&"init=all 0\ninv=all 0\n".repeat(32));
+        text.push_str("edges=32\n");
+        for e in 0..32 {
+            let action = if e == 0 { 1 } else { 2 + (k * 32 + e) % 62 };
+            writeln!(text, "edge={e},{action},{},all 1 le n{k} add v{} 32767", e % 2, k + 32).unwrap();
+        }
+    }
+    // 31 nodes of leaves and `par`, and 33 `syn`.
+    let leaves: Vec<String> = (0..16).map(|k| format!("a{k}")).collect();
+    writeln!(text, "compose={}{}{}", "syn 1 ".repeat(33), "par ".repeat(15), leaves.join(" ")).unwrap();
+    text
+}
+
+fn subjects() -> Vec<Subject> {
+    let mut oven = Subject::new("oven", OVEN.to_string());
+    oven.new_locations = vec![1, 0];
+    vec![
+        oven,
+        Subject::new("middle", chain(4, 6, 12, 6, 2)),
+        Subject::new("merger's limits", chain(16, 4, 20, 32, 3)),
+        Subject::new("limits", at_the_limits()),
+    ]
+}
+
+const CALLS: [(&str, Measure); 5] = [
+    ("read", Subject::read),
+    ("write", Subject::write),
+    ("merge", Subject::merge),
+    ("step", Subject::step),
+    ("environment", Subject::environment),
+];
+
+fn shown(call: &str, bytes: usize, nanoseconds: f64) -> String {
+    if call == "read" {
+        format!("{:.2} MB/s", bytes as f64 * 1e3 / nanoseconds)
+    } else {
+        format!("{nanoseconds:.0} ns")
+    }
+}
+
+fn main() {
+    let (name, sheets) = calls::tried();
+    println!("# Times\n\nTried: {name}. A ratio above 1 says that the reference takes longer.\n");
+    println!("| sheet | call | of | tried | reference | ratio |\n|---|---|---|---|---|---|");
+    for subject in subjects() {
+        let answers = subject.answers();
+        for ((call, measure), answer) in CALLS.iter().zip(&answers) {
+            let [tried, reference] = best(&subject, *measure, [sheets.as_ref(), &Reference]);
+            let bytes = subject.text.len();
+            println!(
+                "| {} | {call} | {answer} | {} | {} | {:.2} |",
+                subject.name,
+                shown(call, bytes, tried),
+                shown(call, bytes, reference),
+                reference / tried
+            );
+        }
+    }
+    growth("Text size", sizes(), sheets.as_ref());
+    growth("Automata", automata(), sheets.as_ref());
+}
+
+/// The same automaton with more and more edges.
+fn sizes() -> Vec<Subject> {
+    [1, 2, 4, 8].iter().map(|times| Subject::new(&format!("times {times}"), chain(2, 4, 24 * times, 6, 2))).collect()
+}
+
+fn automata() -> Vec<Subject> {
+    [1, 2, 4, 8, 16].iter().map(|count| Subject::new(&format!("{count} automata"), chain(*count, 4, 12, 6, 2))).collect()
+}
+
+fn growth(title: &str, subjects: Vec<Subject>, sheets: &dyn Sheets) {
+    println!("\n## {title}: how the tried calls grow\n\n| sheet | bytes | read | write | merge | step | environment | merged |\n|---|---|---|---|---|---|---|---|");
+    for subject in subjects {
+        let times: Vec<String> =
+            CALLS.iter().map(|(_, measure)| format!("{:.0} ns", best(&subject, *measure, [sheets])[0])).collect();
+        println!("| {} | {} | {} | {} |", subject.name, subject.text.len(), times.join(" | "), subject.answers()[2]);
+    }
+}

@@ -1,0 +1,266 @@
+//! Damaged texts and tables.
+use super::Random;
+use crate::reference::model::TABLE_WORDS;
+
+/// Words, numbers and what is neither, for predicates and compositions.
+pub const TOKENS: &[&str] = &[
+    "all",
+    "any",
+    "not",
+    "imp",
+    "eq",
+    "le",
+    "add",
+    "sub",
+    "mul",
+    "if",
+    "par",
+    "syn",
+    "a0",
+    "a1",
+    "a15",
+    "a16",
+    "v0",
+    "v1",
+    "v47",
+    "v48",
+    "n0",
+    "n1",
+    "n48",
+    "0",
+    "1",
+    "-1",
+    "-0",
+    "00",
+    "01",
+    "2,1",
+    "1,2",
+    "0,1",
+    "1,",
+    ",1",
+    "63",
+    "64",
+    "512",
+    "513",
+    "32767",
+    "32768",
+    "-32768",
+    "-32769",
+    "99999999999999999999",
+    "x",
+    "",
+    "-",
+    "v",
+    "n",
+    "a",
+    "v-1",
+    "v01",
+    "all 0",
+    "any 0",
+    "+1",
+    "1x",
+];
+const NUMBERS: &[i64] = &[
+    0, 1, 2, 3, 15, 16, 17, 31, 32, 33, 47, 48, 49, 63, 64, 65, 511, 512, 513, 4_096, 32_767, 32_768, -1, -32_768, -32_769, 65_536,
+    99_999_999,
+];
+const BYTES: &[u8] = b"\n\r\t ,=-0123456789vnaALsyn\x00\x1f\x20\x7e\x7f\x80\xff";
+
+/// A text with one or two faults, perhaps.
+pub fn damaged_text(random: &mut Random, text: &[u8]) -> Vec<u8> {
+    let mut damaged = damaged_once(random, text);
+    while random.percent(20) {
+        damaged = damaged_once(random, &damaged);
+    }
+    damaged
+}
+
+fn damaged_once(random: &mut Random, text: &[u8]) -> Vec<u8> {
+    match random.below(11) {
+        0 | 1 => damaged_byte(random, text),
+        9 | 10 => rewritten_line(random, text),
+        2 | 3 => damaged_parts(random, text, b'\n'),
+        4 | 5 => damaged_token(random, text),
+        6 | 7 => damaged_number(random, text),
+        _ => cut_or_repeated(random, text),
+    }
+}
+
+fn damaged_byte(random: &mut Random, text: &[u8]) -> Vec<u8> {
+    let mut damaged = text.to_vec();
+    let byte = if random.percent(70) { random.pick(BYTES) } else { random.below(256) as u8 };
+    let at = random.below(text.len());
+    match random.below(4) {
+        0 => damaged.insert(at, byte),
+        _ if text.is_empty() => damaged.push(byte),
+        1 => {
+            damaged.remove(at);
+        }
+        2 => damaged.swap(at, random.below(text.len())),
+        _ => damaged[at] = byte,
+    }
+    damaged
+}
+
+/// Parts between separators: one dropped, repeated, or two swapped.
+fn damaged_parts(random: &mut Random, text: &[u8], separator: u8) -> Vec<u8> {
+    let mut parts: Vec<&[u8]> = text.split(|byte| *byte == separator).collect();
+    let (at, other) = (random.below(parts.len()), random.below(parts.len()));
+    let part = parts[at];
+    match random.below(4) {
+        0 => {
+            parts.remove(at);
+        }
+        1 => parts.insert(at, part),
+        2 if at + 1 < parts.len() => parts.swap(at, at + 1),
+        _ => parts.swap(at, other),
+    }
+    parts.join(&separator)
+}
+
+/// A line whose words are dropped, repeated, swapped or replaced.
+fn damaged_token(random: &mut Random, text: &[u8]) -> Vec<u8> {
+    if random.percent(40) {
+        let separator = random.pick(b" ,");
+        return damaged_parts(random, text, separator);
+    }
+    let mut damaged = Vec::new();
+    let ends = |byte: &u8| matches!(byte, b' ' | b',' | b'=' | b'\n');
+    let starts: Vec<usize> = (0..text.len()).filter(|i| *i == 0 || ends(&text[i - 1])).collect();
+    if starts.is_empty() {
+        return text.to_vec();
+    }
+    let start = random.pick(&starts);
+    let end = start + text[start..].iter().position(ends).unwrap_or(text.len() - start);
+    damaged.extend(&text[..start]);
+    damaged.extend(random.pick(TOKENS).bytes());
+    if random.percent(30) {
+        damaged.push(b' ');
+        damaged.extend(&text[start..end]);
+    }
+    damaged.extend(&text[end..]);
+    damaged
+}
+
+/// A line whose predicate or composition is a row of random words: ill-formed, and with numbers in every place.
+fn rewritten_line(random: &mut Random, text: &[u8]) -> Vec<u8> {
+    let mut lines: Vec<Vec<u8>> = text.split(|byte| *byte == b'\n').map(<[u8]>::to_vec).collect();
+    let keys: [&[u8]; 4] = [b"compose=", b"init=", b"inv=", b"edge="];
+    let key = random.pick(&keys);
+    let of_key: Vec<usize> = (0..lines.len()).filter(|i| lines[*i].starts_with(key)).collect();
+    if of_key.is_empty() {
+        return text.to_vec();
+    }
+    let line = &mut lines[random.pick(&of_key)];
+    let start = if key == b"edge=" { line.iter().rposition(|byte| *byte == b',').map_or(5, |comma| comma + 1) } else { key.len() };
+    if random.percent(50) {
+        line.truncate(start);
+    } else {
+        // Only the end is new, so that what comes before it is sound.
+        let spaces: Vec<usize> = (start..line.len()).filter(|i| line[*i] == b' ').collect();
+        line.truncate(if spaces.is_empty() { start } else { random.pick(&spaces) + 1 });
+    }
+    let words: Vec<&str> = (0..1 + random.below(6)).map(|_| word(random, key == b"compose=")).collect();
+    line.extend(words.join(" ").bytes());
+    lines.join(&b'\n')
+}
+
+fn word(random: &mut Random, in_composition: bool) -> &'static str {
+    let usual: &[&str] =
+        if in_composition { &["par", "syn", "a0", "a1", "1", "2,1", "1,2"] } else { &["all", "any", "eq", "v0", "n0", "1", "not"] };
+    if random.percent(60) {
+        random.pick(usual)
+    } else {
+        random.pick(TOKENS)
+    }
+}
+
+fn damaged_number(random: &mut Random, text: &[u8]) -> Vec<u8> {
+    let digit = |i: usize| text.get(i).is_some_and(u8::is_ascii_digit);
+    let starts: Vec<usize> = (0..text.len()).filter(|i| digit(*i) && (*i == 0 || !digit(i - 1))).collect();
+    if starts.is_empty() {
+        return text.to_vec();
+    }
+    let start = random.pick(&starts);
+    let end = (start..).find(|i| !digit(*i)).expect("a text ends");
+    let old: i64 = std::str::from_utf8(&text[start..end]).expect("digits").parse().unwrap_or(i64::MAX / 2);
+    let new = match random.below(6) {
+        0 => (old + 1).to_string(),
+        1 => (old - 1).to_string(),
+        2 => format!("0{old}"),
+        3 => format!("-{old}"),
+        _ => random.pick(NUMBERS).to_string(),
+    };
+    [&text[..start], new.as_bytes(), &text[end..]].concat()
+}
+
+fn cut_or_repeated(random: &mut Random, text: &[u8]) -> Vec<u8> {
+    let at = random.below(text.len() + 1);
+    match random.below(4) {
+        0 => text[at..].to_vec(),
+        1 => [text, &text[at..]].concat(),
+        _ => text[..at].to_vec(),
+    }
+}
+
+/// Each small damage of a text, one after the other.
+pub fn every_damage(text: &[u8]) -> Vec<Vec<u8>> {
+    let mut all = Vec::new();
+    for at in 0..text.len() {
+        all.push(text[..at].to_vec());
+        all.push([&text[..at], &text[at + 1..]].concat());
+        for byte in [b'\n', b' ', b',', b'0', b'9', b'-', b'=', b'v', 31, 127, text[at] ^ 1] {
+            all.push([&text[..at], &[byte], &text[at + 1..]].concat());
+        }
+        all.push([&text[..at], b"1", &text[at..]].concat());
+    }
+    let lines: Vec<&[u8]> = text.split_inclusive(|byte| *byte == b'\n').collect();
+    for at in 0..lines.len() {
+        all.push([lines[..at].concat(), lines[at + 1..].concat()].concat());
+        all.push([lines[..=at].concat(), lines[at..].concat()].concat());
+        if at > 0 {
+            all.push([lines[..at - 1].concat(), lines[at].to_vec(), lines[at - 1].to_vec(), lines[at + 1..].concat()].concat());
+        }
+    }
+    all
+}
+
+/// A table with some words changed.
+pub fn damaged_table(random: &mut Random, table: &[u32]) -> Vec<u32> {
+    let mut damaged = table.to_vec();
+    let used = table.iter().rposition(|word| *word != 0).map_or(1, |last| last + 2).min(table.len());
+    loop {
+        let at = if random.percent(97) { random.below(used) } else { random.below(table.len()) };
+        match random.below(12) {
+            0 | 1 => damaged[at] = 0,
+            2 | 3 => damaged[at] = damaged[at].wrapping_add(1),
+            4 | 5 => damaged[at] = damaged[at].wrapping_sub(1),
+            6 => damaged[at] = random.draw() as u32,
+            7 => damaged[at] ^= 1 << random.below(32),
+            8 => damaged[at] = damaged[random.below(used)],
+            9 => damaged[at] = random.below(700) as u32,
+            10 => {
+                damaged.remove(at);
+                damaged.push(0);
+            }
+            _ => {
+                damaged.insert(at, random.below(40) as u32);
+                damaged.pop();
+            }
+        }
+        if random.percent(80) {
+            return damaged;
+        }
+    }
+}
+
+/// A length for a lent table, mostly enough.
+pub fn table_length(random: &mut Random) -> usize {
+    match random.below(12) {
+        0 => random.pick(&[0, 1, 2, 100, 8_190, 8_191]),
+        1 => random.below(TABLE_WORDS),
+        2 => TABLE_WORDS + 1,
+        3 => TABLE_WORDS + random.below(300),
+        _ => TABLE_WORDS,
+    }
+}

@@ -1,0 +1,7 @@
+//! Compares the library with a second implementation of the paper.
+pub mod calls;
+pub mod compare;
+pub mod generate;
+pub mod lent;
+pub mod reference;
+pub mod rounds;

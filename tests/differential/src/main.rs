@@ -1,0 +1,77 @@
+//! `differential [--seed N] [--calls N] [--fixed] [--soak] [--trace]`: compares the library with the reference, call by call.
+//!
+//! Round R of seed S is the first round of seed S + R, so `--seed S+R --calls 1` makes it again, without the fixed part.
+//! `--fixed` makes the fixed part alone. `--soak` goes on with later seeds until a difference is found; `--trace` names each
+//! round before it begins.
+use differential::calls;
+use differential::compare::Comparison;
+use differential::rounds;
+use std::time::Instant;
+
+struct Options {
+    seed: u64,
+    calls: u64,
+    fixed: bool,
+    soak: bool,
+    trace: bool,
+}
+
+fn options() -> Result<Options, String> {
+    let mut options = Options { seed: 1, calls: 100_000, fixed: false, soak: false, trace: false };
+    let mut words = std::env::args().skip(1);
+    while let Some(word) = words.next() {
+        let mut number = || words.next().and_then(|n| n.parse().ok()).ok_or(format!("{word} wants a number"));
+        match word.as_str() {
+            "--seed" => options.seed = number()?,
+            "--calls" => options.calls = number()?,
+            "--fixed" => options.fixed = true,
+            "--soak" => options.soak = true,
+            "--trace" => options.trace = true,
+            _ => return Err(format!("unknown: {word}\nusage: differential [--seed N] [--calls N] [--fixed] [--soak] [--trace]")),
+        }
+    }
+    Ok(options)
+}
+
+fn main() {
+    let options = options().unwrap_or_else(|message| {
+        eprintln!("{message}");
+        std::process::exit(2);
+    });
+    let (name, sheets) = calls::tried();
+    println!("{name} beside the reference, from seed {}", options.seed);
+    let start = Instant::now();
+    let mut comparison = Comparison::new(sheets.as_ref());
+    if options.fixed || options.calls > 1 {
+        rounds::fixed(&mut comparison);
+    }
+    if !options.fixed {
+        compare(&mut comparison, &options, start);
+    }
+    comparison.summary();
+    println!("{:.1} s", start.elapsed().as_secs_f64());
+    println!("{} passed, {} failed", comparison.calls - comparison.failed, comparison.failed);
+    std::process::exit((comparison.failed > 0) as i32);
+}
+
+fn compare(comparison: &mut Comparison, options: &Options, start: Instant) {
+    let mut done = 0;
+    loop {
+        let seed = options.seed.wrapping_add(done);
+        if options.trace {
+            eprintln!("round {seed}");
+        }
+        rounds::round(comparison, seed);
+        done += 1;
+        if options.soak {
+            if done % 1_000 == 0 {
+                println!("{done} rounds, {} calls, {:.0} s", comparison.calls, start.elapsed().as_secs_f64());
+            }
+            if comparison.failed > 0 {
+                return;
+            }
+        } else if comparison.calls >= options.calls {
+            return;
+        }
+    }
+}

@@ -1,0 +1,295 @@
+//! A sheet: automata over shared integer variables, and their composition.
+use std::collections::BTreeSet;
+
+pub const TEXT_BYTES: usize = 65_536;
+pub const TABLE_WORDS: usize = 8_192;
+pub const NODES: usize = 4_096;
+pub const DEPTH: usize = 24;
+pub const EDGES: usize = 512;
+pub const TREE_NODES: usize = 64;
+pub const HIGHEST_ACTION: i64 = 63;
+pub const VARIABLES: i64 = 48;
+pub const AUTOMATA: i64 = 16;
+pub const LOCATIONS: i64 = 32;
+pub const HIGHEST_COUNT: i64 = 512;
+pub const LEAST_NUMBER: i64 = -32_768;
+pub const GREATEST_NUMBER: i64 = 32_767;
+
+pub type ActionSet = BTreeSet<u32>;
+/// The least and the greatest value of a variable.
+pub type Range = (i32, i32);
+
+#[derive(Clone, Debug, PartialEq)]
+pub enum Predicate {
+    All(Vec<Predicate>),
+    Any(Vec<Predicate>),
+    Not(Box<Predicate>),
+    Imp(Box<Predicate>, Box<Predicate>),
+    Eq(Expression, Expression),
+    Le(Expression, Expression),
+}
+
+#[derive(Clone, Debug, PartialEq)]
+pub enum Expression {
+    Number(i32),
+    Old(usize),
+    New(usize),
+    Add(Box<Expression>, Box<Expression>),
+    Sub(Box<Expression>, Box<Expression>),
+    Mul(Box<Expression>, Box<Expression>),
+    If(Box<Predicate>, Box<Expression>, Box<Expression>),
+}
+
+#[derive(Clone, Debug, PartialEq)]
+pub enum Composition {
+    Par(Box<Composition>, Box<Composition>),
+    Syn(ActionSet, Box<Composition>),
+    Leaf(usize),
+}
+
+#[derive(Clone, Debug, PartialEq)]
+pub struct Location {
+    pub init: Predicate,
+    pub invariant: Predicate,
+}
+
+#[derive(Clone, Debug, PartialEq)]
+pub struct Edge {
+    pub from: usize,
+    pub action: u32,
+    pub to: usize,
+    pub update: Predicate,
+}
+
+#[derive(Clone, Debug, PartialEq)]
+pub struct Automaton {
+    pub sync: ActionSet,
+    pub locations: Vec<Location>,
+    pub edges: Vec<Edge>,
+}
+
+#[derive(Clone, Debug, PartialEq)]
+pub struct Model {
+    /// A: the actions are 0 (silent) and 1 to A.
+    pub actions: u32,
+    pub ranges: Vec<Range>,
+    pub automata: Vec<Automaton>,
+    pub composition: Composition,
+}
+
+impl Predicate {
+    pub fn nodes(&self) -> usize {
+        use Predicate::*;
+        1 + match self {
+            All(operands) | Any(operands) => operands.iter().map(Predicate::nodes).sum(),
+            Not(p) => p.nodes(),
+            Imp(p, q) => p.nodes() + q.nodes(),
+            Eq(x, y) | Le(x, y) => x.nodes() + y.nodes(),
+        }
+    }
+
+    pub fn depth(&self) -> usize {
+        use Predicate::*;
+        1 + match self {
+            All(operands) | Any(operands) => operands.iter().map(Predicate::depth).max().unwrap_or(0),
+            Not(p) => p.depth(),
+            Imp(p, q) => p.depth().max(q.depth()),
+            Eq(x, y) | Le(x, y) => x.depth().max(y.depth()),
+        }
+    }
+
+    /// Whether it is true of these old and new values.
+    pub fn holds(&self, old: &[i32], new: &[i32]) -> bool {
+        use Predicate::*;
+        match self {
+            All(operands) => operands.iter().all(|p| p.holds(old, new)),
+            Any(operands) => operands.iter().any(|p| p.holds(old, new)),
+            Not(p) => !p.holds(old, new),
+            Imp(p, q) => !p.holds(old, new) || q.holds(old, new),
+            Eq(x, y) => x.value(old, new) == y.value(old, new),
+            Le(x, y) => x.value(old, new) <= y.value(old, new),
+        }
+    }
+
+    /// Whether each expression in it keeps to 32 bits (not row 10).
+    pub fn keeps_to_32_bits(&self, ranges: &[Range]) -> bool {
+        use Predicate::*;
+        match self {
+            All(operands) | Any(operands) => operands.iter().all(|p| p.keeps_to_32_bits(ranges)),
+            Not(p) => p.keeps_to_32_bits(ranges),
+            Imp(p, q) => p.keeps_to_32_bits(ranges) && q.keeps_to_32_bits(ranges),
+            Eq(x, y) | Le(x, y) => x.interval(ranges).is_some() && y.interval(ranges).is_some(),
+        }
+    }
+
+    /// Calls `visit` for each number and variable in it.
+    pub fn visit(&self, visit: &mut dyn FnMut(&Expression)) {
+        use Predicate::*;
+        match self {
+            All(operands) | Any(operands) => operands.iter().for_each(|p| p.visit(visit)),
+            Not(p) => p.visit(visit),
+            Imp(p, q) => {
+                p.visit(visit);
+                q.visit(visit);
+            }
+            Eq(x, y) | Le(x, y) => {
+                x.visit(visit);
+                y.visit(visit);
+            }
+        }
+    }
+
+    /// The variables whose new value it mentions, one bit each.
+    pub fn mentions_new(&self) -> u64 {
+        let mut mentioned = 0;
+        self.visit(&mut |x| {
+            if let Expression::New(k) = x {
+                mentioned |= 1 << k;
+            }
+        });
+        mentioned
+    }
+}
+
+impl Expression {
+    pub fn nodes(&self) -> usize {
+        use Expression::*;
+        1 + match self {
+            Number(_) | Old(_) | New(_) => 0,
+            Add(x, y) | Sub(x, y) | Mul(x, y) => x.nodes() + y.nodes(),
+            If(p, x, y) => p.nodes() + x.nodes() + y.nodes(),
+        }
+    }
+
+    pub fn depth(&self) -> usize {
+        use Expression::*;
+        1 + match self {
+            Number(_) | Old(_) | New(_) => 0,
+            Add(x, y) | Sub(x, y) | Mul(x, y) => x.depth().max(y.depth()),
+            If(p, x, y) => p.depth().max(x.depth()).max(y.depth()),
+        }
+    }
+
+    /// Its value. Row 10 keeps every part within 32 bits, so 64 are enough.
+    pub fn value(&self, old: &[i32], new: &[i32]) -> i64 {
+        use Expression::*;
+        match self {
+            Number(number) => *number as i64,
+            Old(k) => old[*k] as i64,
+            New(k) => new[*k] as i64,
+            Add(x, y) => x.value(old, new) + y.value(old, new),
+            Sub(x, y) => x.value(old, new) - y.value(old, new),
+            Mul(x, y) => x.value(old, new) * y.value(old, new),
+            If(p, x, y) => {
+                if p.holds(old, new) {
+                    x.value(old, new)
+                } else {
+                    y.value(old, new)
+                }
+            }
+        }
+    }
+
+    /// Between which two numbers it can lie; none where it or a part of it leaves 32 bits (row 10).
+    pub fn interval(&self, ranges: &[Range]) -> Option<(i64, i64)> {
+        use Expression::*;
+        let (least, greatest) = match self {
+            Number(number) => (*number as i64, *number as i64),
+            Old(k) | New(k) => (ranges[*k].0 as i64, ranges[*k].1 as i64),
+            Add(x, y) => {
+                let (x, y) = (x.interval(ranges)?, y.interval(ranges)?);
+                (x.0 + y.0, x.1 + y.1)
+            }
+            Sub(x, y) => {
+                let (x, y) = (x.interval(ranges)?, y.interval(ranges)?);
+                (x.0 - y.1, x.1 - y.0)
+            }
+            Mul(x, y) => {
+                let (x, y) = (x.interval(ranges)?, y.interval(ranges)?);
+                let products = [x.0 * y.0, x.0 * y.1, x.1 * y.0, x.1 * y.1];
+                (*products.iter().min()?, *products.iter().max()?)
+            }
+            If(p, x, y) => {
+                let (x, y) = (x.interval(ranges)?, y.interval(ranges)?);
+                if !p.keeps_to_32_bits(ranges) {
+                    return None;
+                }
+                (x.0.min(y.0), x.1.max(y.1))
+            }
+        };
+        (i32::MIN as i64 <= least && greatest <= i32::MAX as i64).then_some((least, greatest))
+    }
+
+    fn visit(&self, visit: &mut dyn FnMut(&Expression)) {
+        use Expression::*;
+        match self {
+            Number(_) | Old(_) | New(_) => visit(self),
+            Add(x, y) | Sub(x, y) | Mul(x, y) => {
+                x.visit(visit);
+                y.visit(visit);
+            }
+            If(p, x, y) => {
+                p.visit(visit);
+                x.visit(visit);
+                y.visit(visit);
+            }
+        }
+    }
+}
+
+impl Composition {
+    pub fn nodes(&self) -> usize {
+        match self {
+            Composition::Par(left, right) => 1 + left.nodes() + right.nodes(),
+            Composition::Syn(_, inner) => 1 + inner.nodes(),
+            Composition::Leaf(_) => 1,
+        }
+    }
+
+    /// Its automata from left to right.
+    pub fn leaves(&self) -> Vec<usize> {
+        match self {
+            Composition::Par(left, right) => [left.leaves(), right.leaves()].concat(),
+            Composition::Syn(_, inner) => inner.leaves(),
+            Composition::Leaf(k) => vec![*k],
+        }
+    }
+
+    /// Its synchronising set: of `par` the union, of `syn` the list added.
+    pub fn sync(&self, automata: &[Automaton]) -> ActionSet {
+        match self {
+            Composition::Par(left, right) => &left.sync(automata) | &right.sync(automata),
+            Composition::Syn(list, inner) => list | &inner.sync(automata),
+            Composition::Leaf(k) => automata[*k].sync.clone(),
+        }
+    }
+
+    /// Whether the action is in its synchronising set.
+    pub fn shares(&self, action: u32, automata: &[Automaton]) -> bool {
+        match self {
+            Composition::Par(left, right) => left.shares(action, automata) || right.shares(action, automata),
+            Composition::Syn(list, inner) => list.contains(&action) || inner.shares(action, automata),
+            Composition::Leaf(k) => automata[*k].sync.contains(&action),
+        }
+    }
+}
+
+impl Model {
+    /// All its predicates, in file order.
+    pub fn predicates(&self) -> Vec<&Predicate> {
+        let mut all = Vec::new();
+        for automaton in &self.automata {
+            all.extend(automaton.locations.iter().flat_map(|location| [&location.init, &location.invariant]));
+            all.extend(automaton.edges.iter().map(|edge| &edge.update));
+        }
+        all
+    }
+
+    pub fn nodes(&self) -> usize {
+        self.predicates().iter().map(|p| p.nodes()).sum()
+    }
+
+    pub fn edges(&self) -> usize {
+        self.automata.iter().map(|automaton| automaton.edges.len()).sum()
+    }
+}

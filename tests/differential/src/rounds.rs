@@ -1,0 +1,322 @@
+//! What a round puts to the five calls: a sheet drawn from its seed, damage of it, and runs over it.
+use crate::calls;
+use crate::compare::Comparison;
+use crate::generate::*;
+use crate::reference::judge::REFUSED;
+use crate::reference::model::{Model, TABLE_WORDS, TEXT_BYTES};
+use crate::reference::{self, reader};
+
+/// The oven of the paper.
+pub const OVEN: &str = "format=1
+actions=2
+variables=1
+variable=0,1
+automata=2
+sync=1
+locations=2
+init=all 0
+inv=all 0
+init=any 0
+inv=eq v0 0
+edges=1
+edge=0,1,1,all 0
+sync=1
+locations=1
+init=all 0
+inv=all 0
+edges=2
+edge=0,1,0,eq n0 0
+edge=0,2,0,eq n0 1
+compose=par a0 a1
+";
+
+/// One sheet and what belongs to it.
+pub fn round(comparison: &mut Comparison, seed: u64) {
+    comparison.again = format!("--seed {seed} --calls 1");
+    let mut random = Random::new(seed);
+    let drawn = sheet(&mut random);
+    let text = text_of(&drawn);
+    damaged_reads(comparison, &mut random, &text);
+    for _ in 0..6 {
+        let faulty = faulty_sheet(&mut random, &drawn);
+        comparison.read(&text_of(&faulty), &vec![0; TABLE_WORDS]);
+    }
+    let table = vec![0xDEAD_BEEF; table_length(&mut random)];
+    comparison.read(&text, &table);
+    let (answer, table) = comparison.read(&text, &vec![7; TABLE_WORDS]);
+    let Ok(model) = reader::read(&text, TABLE_WORDS) else {
+        return;
+    };
+    comparison.law("the reference opens its own table", reference_opens(&model), || String::from_utf8_lossy(&text).into());
+    if answer != 0 {
+        return;
+    }
+    let out = written(comparison, &mut random, &table, false);
+    comparison.law("writing after reading gives the text", out.as_deref() == Some(&text), || String::from_utf8_lossy(&text).into());
+    judged(comparison, &mut random, &model, &table);
+    damaged_tables(comparison, &mut random, &model, &table);
+    faulty_tables(comparison, &mut random, &model);
+    let merged_text = written(comparison, &mut random, &table, true);
+    let merged_table = merged_text.map(|text| merged_read(comparison, &text));
+    for _ in 0..2 {
+        run(comparison, &mut random, &model, &table, merged_table.as_deref());
+    }
+}
+
+/// Every small damage of the oven, each word of its table, and what stands alone.
+pub fn fixed(comparison: &mut Comparison) {
+    comparison.again = "--fixed".to_string();
+    let mut random = Random::new(0);
+    let empty = vec![0; TABLE_WORDS];
+    for text in every_damage(OVEN.as_bytes()) {
+        comparison.read(&text, &empty);
+    }
+    let (_, table) = comparison.read(OVEN.as_bytes(), &empty);
+    let model = reader::read(OVEN.as_bytes(), TABLE_WORDS).expect("the oven is accepted");
+    for at in (0..60).chain([TABLE_WORDS - 2, TABLE_WORDS - 1]) {
+        for word in [0, table[at].wrapping_add(1), table[at].wrapping_sub(1), random.draw() as u32] {
+            let mut damaged = table.clone();
+            damaged[at] = word;
+            on_any_table(comparison, &mut random, &model, &damaged);
+        }
+    }
+    for length in [0, 1, 2, 100, 8_190, 8_191, 8_192, 8_193, 9_000] {
+        let mut lent = table.clone();
+        lent.resize(length, 5);
+        on_any_table(comparison, &mut random, &model, &lent);
+        comparison.read(OVEN.as_bytes(), &lent);
+        comparison.read(b"", &lent);
+        comparison.read(&vec![b'x'; TEXT_BYTES + 1], &lent);
+    }
+    long_texts(comparison, &empty);
+    pairs_of_words(comparison, &empty);
+    lines_with_many_faults(comparison, &empty);
+}
+
+/// Texts at the limit of bytes, and lines that nest as deep as a text can.
+fn long_texts(comparison: &mut Comparison, table: &[u32]) {
+    for length in [TEXT_BYTES - 1, TEXT_BYTES, TEXT_BYTES + 1] {
+        comparison.read(&vec![b'\n'; length], table);
+        let mut text = OVEN.as_bytes().to_vec();
+        text.resize(length, b' ');
+        comparison.read(&text, table);
+    }
+    let head = "format=1\nactions=1\nvariables=0\nautomata=1\nsync=\nlocations=1\ninit=";
+    for (word, last) in [
+        ("not ", "all 0"),
+        ("imp all 0 ", "all 0"),
+        ("all 512 ", ""),
+        ("eq if ", ""),
+        ("add ", "1"),
+        ("all 1 ", "any 0"),
+        ("par ", ""),
+    ] {
+        let text = format!("{head}{}{last}\n", word.repeat(60_000 / word.len()));
+        comparison.read(text.as_bytes(), table);
+    }
+    let middle = "all 0\ninv=all 0\nedges=0\ncompose=";
+    for (word, last) in [("syn 1 ", "a0"), ("par ", "a0"), ("syn ", ""), ("par a0 ", "a0"), ("syn 0 ", "a0")] {
+        let text = format!("{head}{middle}{}{last}\n", word.repeat(60_000 / word.len()));
+        comparison.read(text.as_bytes(), table);
+    }
+}
+
+/// A sheet with these for its init, its edge and its composition; A is 2, V is 1, N is 1.
+fn small_sheet(init: &str, edge: &str, compose: &str) -> Vec<u8> {
+    let head = "format=1\nactions=2\nvariables=1\nvariable=0,1\nautomata=1\nsync=\nlocations=1";
+    format!("{head}\ninit={init}\ninv=all 0\nedges=1\nedge={edge}\ncompose={compose}\n").into_bytes()
+}
+
+/// Each two words after each other, in a predicate and in a composition.
+fn pairs_of_words(comparison: &mut Comparison, table: &[u32]) {
+    for first in TOKENS {
+        for second in TOKENS {
+            let pair = format!("{first} {second}");
+            comparison.read(&small_sheet(&pair, "0,1,0,all 0", "a0"), table);
+            comparison.read(&small_sheet("all 0", "0,1,0,all 0", &format!("{pair} a0")), table);
+        }
+    }
+}
+
+/// Lines that break two rows or more: the smallest counts.
+fn lines_with_many_faults(comparison: &mut Comparison, table: &[u32]) {
+    let huge = "le mul mul 32767 32767 3 0";
+    let deep = format!("{}all 0", "not ".repeat(24));
+    let large = format!("all 512 {}", "all 7 all 0 all 0 all 0 all 0 all 0 all 0 all 0 ".repeat(512)).trim_end().to_string();
+    let faults = ["foo", "eq v0", "eq 99999 0", "eq v1 0", "eq n0 0", "eq n1 0", huge, &deep, &large, "all 0"];
+    for first in faults {
+        for second in faults {
+            let both = format!("all 2 {first} {second}");
+            comparison.read(&small_sheet(&both, "0,1,0,all 0", "a0"), table);
+            for edge in ["0,1,0", "1,1,0", "0,3,0", "0,1,1", "32,1,0", "0,64,0"] {
+                comparison.read(&small_sheet("all 0", &format!("{edge},{both}"), "a0"), table);
+            }
+        }
+    }
+    let tall = "syn 1 ".repeat(64);
+    for front in ["", "syn 2,1 ", "syn 0 ", "syn 3 ", "syn 64 ", "par ", &tall] {
+        for back in ["a0", "a1", "a16", "a0 a0", "a0 a1", "par a0 a0", "foo", "syn 2,2 a0", "syn", "syn a0 a0"] {
+            comparison.read(&small_sheet("all 0", "0,1,0,all 0", &format!("{front}{back}")), table);
+            comparison.read(&small_sheet("all 0", "0,1,0,all 0", &format!("{tall}{front}{back}")), table);
+        }
+    }
+}
+
+fn damaged_reads(comparison: &mut Comparison, random: &mut Random, text: &[u8]) {
+    // Fewer of the long texts, so that no round takes long.
+    let count = if text.len() > 4_000 { 12 } else { 60 };
+    for _ in 0..count {
+        let damaged = damaged_text(random, text);
+        let (answer, table) = comparison.read(&damaged, &vec![0; TABLE_WORDS]);
+        if answer == 0 {
+            read_back(comparison, &table, &damaged);
+        }
+    }
+}
+
+/// Reader and writer are inverse.
+fn read_back(comparison: &mut Comparison, table: &[u32], text: &[u8]) {
+    let (answer, out) = comparison.write(table, &vec![1; text.len()]);
+    let same = answer == text.len() as u64 && out == text;
+    comparison.law("writing after reading gives the text", same, || String::from_utf8_lossy(text).into());
+}
+
+/// Writer or merger on buffers around the length of their text; the text, if there is one.
+fn written(comparison: &mut Comparison, random: &mut Random, table: &[u32], merged: bool) -> Option<Vec<u8>> {
+    let mut put = |length: usize| {
+        let out = vec![0xEE; length];
+        if merged {
+            comparison.merge(table, &out)
+        } else {
+            comparison.write(table, &out)
+        }
+    };
+    let (answer, out) = put(TEXT_BYTES);
+    put(0);
+    if calls::row(answer) != 0 {
+        return None;
+    }
+    let length = calls::length(answer);
+    for other in [length, length - 1, length + 1, random.below(length), length + random.below(1_000)] {
+        put(other);
+    }
+    out.get(..length).map(<[u8]>::to_vec)
+}
+
+/// The merged text is always accepted: its table.
+fn merged_read(comparison: &mut Comparison, text: &[u8]) -> Vec<u32> {
+    let (answer, table) = comparison.read(text, &vec![3; TABLE_WORDS + 5]);
+    comparison.law("the merged text is accepted", answer == 0, || String::from_utf8_lossy(text).into());
+    table
+}
+
+/// Proposals from many states, also those that the rows refuse.
+fn judged(comparison: &mut Comparison, random: &mut Random, model: &Model, table: &[u32]) {
+    for _ in 0..25 {
+        let from = state(random, model);
+        let proposed = proposal(random, model, &from);
+        comparison.judge(table, &from, &proposed);
+        let (from, proposed) = faulty(random, model, &from, &proposed);
+        comparison.judge(table, &from, &proposed);
+    }
+}
+
+fn damaged_tables(comparison: &mut Comparison, random: &mut Random, model: &Model, table: &[u32]) {
+    for _ in 0..10 {
+        let mut damaged = damaged_table(random, table);
+        if random.percent(15) {
+            damaged.resize(table_length(random), 9);
+        }
+        on_any_table(comparison, random, model, &damaged);
+    }
+}
+
+/// Tables that are well made, of sheets that are not.
+fn faulty_tables(comparison: &mut Comparison, random: &mut Random, model: &Model) {
+    for _ in 0..3 {
+        let faulty = faulty_sheet(random, model);
+        if faulty.automata.iter().all(|automaton| automaton.sync.iter().all(|action| *action < 64)) {
+            on_any_table(comparison, random, model, &reference::table(&faulty));
+        }
+    }
+}
+
+/// All calls on a table that may be bad; proposals fit the model that it was made from.
+fn on_any_table(comparison: &mut Comparison, random: &mut Random, model: &Model, table: &[u32]) {
+    let (answer, out) = comparison.write(table, &vec![0; TEXT_BYTES]);
+    comparison.merge(table, &vec![0; TEXT_BYTES]);
+    for _ in 0..2 {
+        let from = state(random, model);
+        let proposed = proposal(random, model, &from);
+        comparison.judge(table, &from, &proposed);
+    }
+    // A table that is not refused has a text, and that text has this table.
+    if calls::row(answer) == 0 {
+        let (answer, again) = comparison.read(&out[..calls::length(answer)], &vec![1; TABLE_WORDS]);
+        comparison
+            .law("reading after writing gives the table", answer == 0 && again == table[..TABLE_WORDS], || format!("{table:?}"));
+    }
+}
+
+/// The paper's "Runs": a list of proposals on both tables, each run moving by its own answers.
+fn run(comparison: &mut Comparison, random: &mut Random, model: &Model, table: &[u32], merged: Option<&[u32]>) {
+    let mut here = state(random, model);
+    let mut there = joined(&here);
+    let mut alike = true;
+    for _ in 0..24 {
+        let mut proposed = proposal(random, model, &here);
+        if random.percent(12) {
+            spoil_proposed(random, model, &mut proposed);
+        }
+        let answer = comparison.judge(table, &here, &proposed);
+        if let Some(merged) = merged.filter(|_| translates(answer)) {
+            let translated = translation(&proposed, &there, model.ranges.len());
+            let merged_answer = comparison.judge(merged, &there, &translated);
+            alike &= answer == merged_answer;
+            there = moved(there, &translated, merged_answer);
+        }
+        here = moved(here, &proposed, answer);
+    }
+    if merged.is_some() {
+        comparison.runs += 1;
+        comparison.law("runs are alike", alike && joined(&here) == there, || format!("{here:?} {there:?}"));
+    }
+}
+
+/// The merged run's state: location 0, and the locations behind the values.
+fn joined(state: &State) -> State {
+    State { phase: state.phase, locations: vec![0], values: with_pointers(&state.values, &state.locations) }
+}
+
+fn with_pointers(values: &[i32], locations: &[u32]) -> Vec<i32> {
+    values.iter().copied().chain(locations.iter().map(|location| *location as i32)).collect()
+}
+
+/// What 21 or 22 refuses has no translation.
+fn translates(answer: u32) -> bool {
+    answer != REFUSED + 21 && answer != REFUSED + 22
+}
+
+fn translation(proposed: &Proposed, there: &State, variables: usize) -> Proposed {
+    match proposed.action {
+        Some(_) => Proposed { locations: vec![0], values: with_pointers(&proposed.values, &proposed.locations), ..*proposed },
+        None => {
+            let values = [&proposed.values[..], &there.values[variables..]].concat();
+            Proposed { action: None, locations: Vec::new(), values }
+        }
+    }
+}
+
+/// A yes moves the run, and ends in phase 1; anything else leaves it.
+fn moved(state: State, proposed: &Proposed, answer: u32) -> State {
+    if !is_yes(answer) {
+        return state;
+    }
+    let locations = if proposed.action.is_some() { proposed.locations.clone() } else { state.locations };
+    State { phase: 1, locations, values: proposed.values.clone() }
+}
+
+/// The reference by itself: a fault of it would else look like the library's.
+fn reference_opens(model: &Model) -> bool {
+    reference::open(&reference::table(model)).as_ref() == Ok(model)
+}

@@ -1,0 +1,169 @@
+//! The reference on the cases that the paper states itself, and the harness on calls that are wrong.
+use differential::calls::{self, Reference, Sheets};
+use differential::compare::Comparison;
+use differential::generate::{self, Random};
+use differential::reference::judge::{step_of, Proposal, REFUSED};
+use differential::reference::merge::{count_all, moves, Takers};
+use differential::reference::model::{Model, EDGES, TABLE_WORDS, TEXT_BYTES};
+use differential::reference::{self, table};
+use differential::rounds::{self, OVEN};
+
+fn table_of(text: &str) -> Vec<u32> {
+    let mut table = vec![0; TABLE_WORDS];
+    assert_eq!(Reference.read(text.as_bytes(), &mut table), 0);
+    table
+}
+
+/// The answer to a step on a sheet of two automata and one variable.
+fn step(text: &str, phase: u32, from: ([u32; 2], i32), action: u32, to: ([u32; 2], i32)) -> u32 {
+    let proposal = Proposal { phase, locations: &from.0, values: &[from.1], new_locations: &to.0, new_values: &[to.1] };
+    Reference.step(&table_of(text), &proposal, action)
+}
+
+fn environment(phase: u32, from: ([u32; 2], i32), value: i32) -> u32 {
+    let proposal = Proposal { phase, locations: &from.0, values: &[from.1], new_locations: &from.0, new_values: &[value] };
+    Reference.environment(&table_of(OVEN), &proposal)
+}
+
+#[test]
+fn on_that_oven() {
+    assert_eq!(step(OVEN, 0, ([0, 0], 1), 1, ([1, 0], 0)), 2);
+    assert_eq!(step(OVEN, 0, ([0, 0], 0), 2, ([0, 0], 1)), 1);
+    assert_eq!(step(OVEN, 1, ([1, 0], 0), 2, ([1, 0], 1)), 0);
+    assert_eq!(step(OVEN, 0, ([1, 0], 0), 2, ([1, 0], 0)), 0);
+    assert_eq!(environment(1, ([1, 0], 0), 0), 1);
+    assert_eq!(environment(1, ([1, 0], 0), 1), 0);
+    assert_eq!(step(OVEN, 1, ([0, 0], 1), 1, ([1, 0], 1)), 0);
+    assert_eq!(step(OVEN, 1, ([0, 0], 1), 0, ([0, 0], 1)), 0);
+    let unshared = OVEN.replacen("sync=1", "sync=", 1);
+    assert_eq!(step(&unshared, 0, ([0, 0], 0), 1, ([1, 0], 0)), 0);
+}
+
+#[test]
+fn the_table_has_the_stated_words() {
+    let table = table_of(OVEN);
+    let start = [1, 2, 1, 32_768, 32_769, 2, 2, 0, 2, 1, 0, 1, 0, 1, 1, 3, 4, 7, 524_294, 1, 0, 1, 1, 1, 0, 2, 0, 1];
+    assert_eq!(table[..start.len()], start);
+    assert_eq!(table.iter().rposition(|word| *word != 0), Some(TABLE_WORDS - 8_141 - 1));
+}
+
+#[test]
+fn a_middle_row_beats_a_later_one() {
+    let refusal = |line: usize, text: &str| {
+        let mut lines: Vec<&str> = OVEN.lines().collect();
+        lines[line - 1] = text;
+        let answer = Reference.read((lines.join("\n") + "\n").as_bytes(), &mut vec![0; TABLE_WORDS]);
+        (calls::row(answer), calls::line(answer))
+    };
+    assert_eq!(refusal(4, "variable=40000,9"), (3, 4));
+    assert_eq!(refusal(8, "init=foo 99999"), (3, 8));
+    assert_eq!(refusal(8, "init=eq v9"), (6, 8));
+    assert_eq!(refusal(8, "init=eq n9 0"), (7, 8));
+    assert_eq!(refusal(13, "edge=0,3,0,eq v0"), (6, 13));
+    assert_eq!(refusal(21, "compose=par a1 syn 2,1 a0"), (5, 21));
+}
+
+/// Whether these takers allow the step: each takes its edge, all others are still, and who changes a variable mentions it.
+fn allows(model: &Model, proposal: &Proposal, takers: &Takers) -> bool {
+    let (old, new) = (proposal.values, proposal.new_values);
+    let mentioned = takers.iter().fold(0, |all, (_, edge)| all | edge.update.mentions_new());
+    let framed = (0..old.len()).all(|k| old[k] == new[k] || mentioned >> k & 1 == 1);
+    let automaton_allows = |i: usize| {
+        let locations = &model.automata[i].locations;
+        let (from, to) = (proposal.locations[i] as usize, proposal.new_locations[i] as usize);
+        let moves = match takers.iter().find(|(k, _)| *k == i) {
+            Some((_, edge)) => edge.from == from && edge.to == to && edge.update.holds(old, new),
+            None => from == to,
+        };
+        let started = proposal.phase == 1 || locations[from].init.holds(old, old);
+        moves && started && locations[from].invariant.holds(old, old) && locations[to].invariant.holds(new, new)
+    };
+    framed && (0..model.automata.len()).all(automaton_allows)
+}
+
+/// The search of the reference's judge against a trial of every merged edge.
+#[test]
+fn the_search_finds_what_there_is() {
+    let mut tried = 0;
+    for seed in 0..400 {
+        let random = &mut Random::new(seed);
+        let model = generate::sheet(random);
+        if reference::open(&table(&model)).is_err() || count_all(&model) > EDGES as u128 {
+            continue;
+        }
+        for _ in 0..30 {
+            let state = generate::state(random, &model);
+            let proposed = generate::proposal(random, &model, &state);
+            let Some(action) = proposed.action else { continue };
+            let proposal = proposed.from(&state);
+            let answer = step_of(&model, &proposal, action);
+            let expected = moves(&model, &model.composition, action).iter().any(|takers| allows(&model, &proposal, takers));
+            assert!(answer < REFUSED && (answer > 0) == expected, "seed {seed}: {state:?} {proposed:?}");
+            tried += 1;
+        }
+    }
+    assert!(tried > 2_000, "{tried}");
+}
+
+/// How a `Sheets` can be wrong without a wrong answer.
+enum Wrong {
+    Answer,
+    Table,
+    Buffer,
+    Mark,
+}
+
+impl Sheets for Wrong {
+    fn read(&self, text: &[u8], table: &mut [u32]) -> u64 {
+        let answer = Reference.read(text, table);
+        if matches!(self, Wrong::Table) && answer != 0 && !table.is_empty() {
+            table[0] ^= 1;
+        }
+        answer + (matches!(self, Wrong::Answer) && text.len() == 100) as u64
+    }
+
+    fn write(&self, table: &[u32], out: &mut [u8]) -> u64 {
+        let answer = Reference.write(table, out);
+        if matches!(self, Wrong::Buffer) && calls::row(answer) == 0 && calls::length(answer) < out.len() {
+            out[calls::length(answer)] = 0;
+        }
+        answer
+    }
+
+    fn merge(&self, table: &[u32], out: &mut [u8]) -> u64 {
+        Reference.merge(table, out)
+    }
+
+    fn step(&self, table: &[u32], proposal: &Proposal, action: u32) -> u32 {
+        let answer = Reference.step(table, proposal, action);
+        if matches!(self, Wrong::Mark) && answer == 1 {
+            2
+        } else {
+            answer
+        }
+    }
+
+    fn environment(&self, table: &[u32], proposal: &Proposal) -> u32 {
+        Reference.environment(table, proposal)
+    }
+}
+
+#[test]
+fn wrong_calls_are_noticed() {
+    for wrong in [Wrong::Answer, Wrong::Table, Wrong::Buffer, Wrong::Mark] {
+        let mut comparison = Comparison::new(&wrong);
+        comparison.quiet = true;
+        rounds::fixed(&mut comparison);
+        (1..20).for_each(|seed| rounds::round(&mut comparison, seed));
+        assert!(comparison.failed > 0);
+    }
+}
+
+#[test]
+fn a_buffer_is_long_enough_or_refused() {
+    let table = table_of(OVEN);
+    let answer = Reference.merge(&table, &mut vec![0; TEXT_BYTES]);
+    assert_eq!((calls::row(answer), calls::edges(answer), calls::length(answer)), (0, 2, 354));
+    assert_eq!(Reference.merge(&table, &mut [0; 354]), answer);
+    assert_eq!(calls::row(Reference.merge(&table, &mut [0; 353])), 35);
+}
