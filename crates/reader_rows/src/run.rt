@@ -1,7 +1,7 @@
 // Reading a text and saying what came of it: `refused=ROW,LINE`, or `accepted` and whether the writer gives the text back.
 use crate::build::{self};
 use text::ReadAnswer;
-use writer::WriteAnswer;
+use text::WriteAnswer;
 
 // What stands in the table before each reading.
 const PATTERN: u32 = 2863311530;
@@ -48,7 +48,7 @@ fn refused(row: u32, line: usize, table: &[u32]) {
 fn accepted(sheet: &[u8], table: &[u32]) {
     say(b"accepted");
     let mut back = [0u8; 65537];
-    let answer = writer::write(table, &mut back);
+    let answer = text::write(table, &mut back);
     match answer {
         WriteAnswer::Written(n) => {
             if scan::same(sheet, build::first(&back, n)) {

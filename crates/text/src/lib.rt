@@ -1,6 +1,9 @@
-// The sheet text: reading it into a table.
+// The sheet text: read into a table, and written from one.
 mod sheet;
 mod store;
+
+pub use writer::WriteAnswer;
+pub use writer::write;
 
 use model::Model;
 ghost use mathlib.Core.Path.{_≡_};
