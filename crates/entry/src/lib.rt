@@ -9,6 +9,7 @@ mod sync;
 
 use lines::Counts;
 use lines::Key;
+use model::Model;
 ghost use mathlib.Core.Path.{_≡_};
 ghost use Rattle.entry.specs.Line.{lineRead, lineAfter};
 
@@ -32,12 +33,44 @@ pub fn read(
 {
     match key {
         Key::Format => number::format(line, ended, words, at),
-        Key::Actions => number::counting_line(line, ended, b"actions=", 0, 63, words, at),
-        Key::Variables => number::counting_line(line, ended, b"variables=", 0, 48, words, at),
+        Key::Actions => number::counting_line(
+            line,
+            ended,
+            b"actions=",
+            0,
+            Model::ACTIONS,
+            words,
+            at,
+        ),
+        Key::Variables => number::counting_line(
+            line,
+            ended,
+            b"variables=",
+            0,
+            Model::VARIABLES as u32,
+            words,
+            at,
+        ),
         Key::Variable => number::variable(line, ended, words, at),
-        Key::Automata => number::counting_line(line, ended, b"automata=", 1, 16, words, at),
+        Key::Automata => number::counting_line(
+            line,
+            ended,
+            b"automata=",
+            1,
+            Model::AUTOMATA as u32,
+            words,
+            at,
+        ),
         Key::Sync => sync::sync(line, ended, counts, words, at),
-        Key::Locations => number::counting_line(line, ended, b"locations=", 1, 32, words, at),
+        Key::Locations => number::counting_line(
+            line,
+            ended,
+            b"locations=",
+            1,
+            Model::LOCATIONS as u32,
+            words,
+            at,
+        ),
         Key::Init => predicates::location(line, ended, b"init=", counts, words, at, scratch),
         Key::Inv => predicates::location(line, ended, b"inv=", counts, words, at, scratch),
         Key::Edges => {

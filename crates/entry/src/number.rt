@@ -203,7 +203,10 @@ pub fn edges(
     ensures { λ r. ⌜ (r ≡ numberRead true (fewEdges before (countIn (spelling Lines.edges) 0 maxEdges (now (line .entry)) ended)) at) × (now (words .exit) ≡ numberAfter (fewEdges before (countIn (spelling Lines.edges) 0 maxEdges (now (line .entry)) ended)) at (now (words .entry))) ⌝ }
 {
     counting(
-        few_edges(before, one_number(line, ended, b"edges=", 0, 512)),
+        few_edges(
+            before,
+            one_number(line, ended, b"edges=", 0, Model::EDGES as u32),
+        ),
         words,
         at,
     )

@@ -2,10 +2,9 @@
 mod sheet;
 mod store;
 
+use model::Model;
 pub use writer::WriteAnswer;
 pub use writer::write;
-
-use model::Model;
 ghost use mathlib.Core.Path.{_≡_};
 ghost use lib.ListN.{length};
 ghost use Rattle.format.specs.Reader.{readAnswer, tableAfter};

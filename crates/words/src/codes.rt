@@ -1,6 +1,7 @@
 // The code of the word that a token spells: kind + 16 * argument. 15 is no word's code, and says that it spells none.
 use crate::tokens::Shape;
 use crate::tokens::{self};
+use model::Model;
 ghost use mathlib.Core.Path.{_≡_};
 ghost use Prim.Native.Nat.{_≤_};
 ghost use lib.ListN.{drop};
@@ -53,7 +54,7 @@ pub fn biased(z: i32) -> u32
     if z < -32768 {
         return 0;
     }
-    (z as i64 + 32768) as u32
+    (z as i64 + Model::BIAS) as u32
 }
 
 fn number_code(s: &[u8]) -> u32
@@ -82,10 +83,10 @@ fn variable_code(letter: u8, s: &[u8]) -> u32
     ensures { λ r. ⌜ r ≡ variableCode letter (now (s .entry)) ⌝ }
 {
     if letter == 118 {
-        return argument_code(7, 47, s);
+        return argument_code(7, Model::LAST_VARIABLE, s);
     }
     if letter == 110 {
-        return argument_code(8, 47, s);
+        return argument_code(8, Model::LAST_VARIABLE, s);
     }
     15
 }
@@ -109,7 +110,7 @@ pub fn count_code(kind: u32, token: &[u8]) -> u32
 {
     let shape = tokens::numeral(token);
     match shape {
-        Shape::Bare => argument_code(kind, 512, token),
+        Shape::Bare => argument_code(kind, Model::OPERANDS, token),
         Shape::Lettered(_) => 15,
         Shape::Plain => 15,
     }

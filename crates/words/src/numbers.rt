@@ -1,6 +1,7 @@
 // Row 3 over the tokens of P or C: each number spelled right and in its range.
 use crate::tokens::Shape;
 use crate::tokens::{self};
+use model::Model;
 ghost use mathlib.Core.Path.{_≡_};
 ghost use mathlib.Core.List.{[]};
 ghost use lib.IntN.{pos};
@@ -40,7 +41,7 @@ pub fn list_sound(part: &[u8]) -> bool
     let mut at = 0;
     while at <= part.len() {
         let end = scan::find(part, at, 44);
-        if !tokens::natural_fits(&part[at..end], 63) {
+        if !tokens::natural_fits(&part[at..end], Model::ACTIONS) {
             return false;
         }
         at = end + 1;
@@ -53,7 +54,7 @@ fn bare_sound(before: Before, s: &[u8]) -> bool
     ensures { λ r. ⌜ r ≡ soundAs before (T.bare (now (s .entry))) ⌝ }
 {
     match before {
-        Before::Count => tokens::natural_fits(s, 512),
+        Before::Count => tokens::natural_fits(s, Model::OPERANDS),
         Before::Items => list_sound(s),
         Before::Other => tokens::number_fits(s),
     }
@@ -62,7 +63,11 @@ fn bare_sound(before: Before, s: &[u8]) -> bool
 fn last_after(letter: u8) -> u32
     ensures { λ r. ⌜ pos r ≡ T.lastAfter letter ⌝ }
 {
-    if letter == 97 { 15 } else { 47 }
+    if letter == 97 {
+        15
+    } else {
+        Model::LAST_VARIABLE
+    }
 }
 
 // A number that follows a letter.
@@ -70,7 +75,7 @@ fn lettered_sound(before: Before, letter: u8, s: &[u8]) -> bool
     ensures { λ r. ⌜ r ≡ soundAs before (T.lettered letter (now (s .entry))) ⌝ }
 {
     match before {
-        Before::Count => tokens::natural_fits(s, 512),
+        Before::Count => tokens::natural_fits(s, Model::OPERANDS),
         Before::Items => list_sound(s),
         Before::Other => tokens::natural_fits(s, last_after(letter)),
     }

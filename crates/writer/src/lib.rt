@@ -20,7 +20,7 @@ pub enum WriteAnswer {
 }
 
 // No sheet's text is longer.
-const BYTES: usize = 65536;
+const BYTES: usize = model::Model::BYTES;
 
 // What the words spell, by way of a buffer for the text. Row 35 is decided by its length, and it is copied as the last act.
 fn deliver(table: &[u32], text: &mut [u8], out: &mut [u8]) -> WriteAnswer

@@ -27,6 +27,9 @@ enum-told-3 c = search needs
 slice-aggregate-counting-line-2 : tie.Need-slice-aggregate-counting-line-2
 slice-aggregate-counting-line-2 c = search needs
 
+cast-counting-line : tie.Need-cast-counting-line
+cast-counting-line c = search needs
+
 counting-line-requires-2 : tie.Need-counting-line-requires-2
 counting-line-requires-2 c κs = search needs
 
@@ -42,6 +45,9 @@ enum-told-5 c = search needs
 slice-aggregate-counting-line-3 : tie.Need-slice-aggregate-counting-line-3
 slice-aggregate-counting-line-3 c = search needs
 
+cast-counting-line-2 : tie.Need-cast-counting-line-2
+cast-counting-line-2 c = search needs
+
 counting-line-requires-3 : tie.Need-counting-line-requires-3
 counting-line-requires-3 c κs = search needs
 
@@ -56,6 +62,9 @@ enum-told-7 c = search needs
 
 slice-aggregate-counting-line-4 : tie.Need-slice-aggregate-counting-line-4
 slice-aggregate-counting-line-4 c = search needs
+
+cast-counting-line-3 : tie.Need-cast-counting-line-3
+cast-counting-line-3 c = search needs
 
 counting-line-requires-4 : tie.Need-counting-line-requires-4
 counting-line-requires-4 c κs = search needs
@@ -162,16 +171,19 @@ read-spec =
     counting-line-requires
     enum-told-3
     slice-aggregate-counting-line-2
+    cast-counting-line
     counting-line-requires-2
     enum-told-4
     variable-requires
     enum-told-5
     slice-aggregate-counting-line-3
+    cast-counting-line-2
     counting-line-requires-3
     enum-told-6
     sync-requires
     enum-told-7
     slice-aggregate-counting-line-4
+    cast-counting-line-3
     counting-line-requires-4
     enum-told-8
     slice-aggregate-location

@@ -8,6 +8,9 @@ use Rattle.entry.proofs.number.edges.Tie as tie
 slice-aggregate-one-number : tie.Need-slice-aggregate-one-number
 slice-aggregate-one-number c = search needs
 
+cast-one-number : tie.Need-cast-one-number
+cast-one-number c = search needs
+
 one-number-requires : tie.Need-one-number-requires
 one-number-requires c κs = search needs
 
@@ -26,6 +29,7 @@ edges-spec =
     tie.close
     (tie.spec
     slice-aggregate-one-number
+    cast-one-number
     one-number-requires
     few-edges-requires
     counting-requires
