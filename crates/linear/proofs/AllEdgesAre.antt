@@ -191,6 +191,27 @@ module _ (m : Model) (lawful : Lawful m) (t rest : List ℕ) (e : t ≡ sheetWor
           let s : length (under action (automaton m i .edges)) ≡ length (under action (x .edges)) = ap (λ (w : Automaton). length (under action (w .edges))) h in
           omega arith
 
+  -- the takers of move k
+  module _ (action : ℕ) (few : moveCount m action (m .tree) ≤ maxEdges) (k : ℕ) (h : k < length (moves m action (m .tree))) where
+    abbrev picked : List ℕ
+    picked = picksOf t (cellsOf t (ownSets t) action) k
+
+    below : k < moveCount m action (m .tree)
+    below = omega (arith, moves-length m action (m .tree))
+
+    pub move-named : takersFrom action picked 0 (m .automata) ≡ getD (moves m action (m .tree)) k []
+    unfolding picksOf cellsOf takersOf
+    move-named =
+        sym (same-takers action picked (m .automata) 0 refl) ∙
+        pick-is t (ownSets t) (countsOf t action) m action (rootOf t) lawful (tree-stands m lawful t rest e) (told action) (replicate 192 0) refl k below few
+
+    pub move-valid : Valid action picked 0 (m .automata)
+    unfolding picksOf cellsOf
+    move-valid =
+        valid-picks action picked
+        (pick-there t (ownSets t) (countsOf t action) m action (rootOf t) lawful (tree-stands m lawful t rest e) (told action) (replicate 192 0) refl k below few)
+        (m .automata) 0 (omega arith) refl
+
   module _ (action : ℕ) (few : moveCount m action (m .tree) ≤ maxEdges)
       (small : (ts : List Taker) → List·Memᴰ ts (moves m action (m .tree)) → nodeCount (mergedEdge m action ts .update) ≤ most) where
     abbrev listed : List (List Taker)
@@ -201,16 +222,10 @@ module _ (m : Model) (lawful : Lawful m) (t rest : List ℕ) (e : t ≡ sheetWor
 
     -- move k's edge
     one-edge : (k : ℕ) → k < length listed → edgeWordsAt t action (picksOf t cells k) ≡ lineWords (edgeLine (mergedEdge m action (getD listed k [])))
-    unfolding picksOf cellsOf takersOf
     one-edge k h =
-        let start : List ℕ = replicate 192 0 in
-        let below : k < moveCount m action (m .tree) = omega (arith, moves-length m action (m .tree)) in
-        let picks = picksOf t cells k in
-        let is = pick-is t (ownSets t) (countsOf t action) m action (rootOf t) lawful (tree-stands m lawful t rest e) (told action) start refl k below few in
-        let there = pick-there t (ownSets t) (countsOf t action) m action (rootOf t) lawful (tree-stands m lawful t rest e) (told action) start refl k below few in
-        let named : takersFrom action picks 0 (m .automata) ≡ getD listed k [] = sym (same-takers action picks (m .automata) 0 refl) ∙ is in
-        let fits : nodeCount (mergedEdge m action (takersFrom action picks 0 (m .automata)) .update) ≤ most = rw named (small (getD listed k []) (listed-at listed k h)) in
-        edge-words m lawful t rest e action picks (valid-picks action picks there (m .automata) 0 (omega arith) refl) fits ∙
+        let named = move-named action few k h in
+        let fits : nodeCount (mergedEdge m action (takersFrom action (picksOf t cells k) 0 (m .automata)) .update) ≤ most = rw named (small (getD listed k []) (listed-at listed k h)) in
+        edge-words m lawful t rest e action (picksOf t cells k) (move-valid action few k h) fits ∙
         ap (λ (ts : List Taker). lineWords (edgeLine (mergedEdge m action ts))) named
       where
         listed-at : (l : List (List Taker)) (j : ℕ) → j < length l → List·Memᴰ (getD l j []) l

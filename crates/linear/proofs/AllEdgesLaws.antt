@@ -15,7 +15,7 @@ use Rattle.moves.specs.Pick.{pickAt}
 use Rattle.linear.specs.Append.{narrow, Appended}
 use Rattle.linear.specs.NodeWords.{capped}
 use Rattle.linear.specs.MergedEdge.{isUnder, atMost, takers, edgeBy, edgeWordsAt}
-use Rattle.linear.specs.MergedEdges.{oneMore, underFrom, underAt, countsFrom, countsOf, rootOf, cellsOf, moveTotal, picksOf, edgesFrom, edgesUnder, edgesOf, movesOf, Plans}
+use Rattle.linear.specs.MergedEdges.{oneMore, underFrom, underAt, countsFrom, countsOf, rootOf, cellsOf, moveTotal, picksOf, placesOf, edgesFrom, edgesUnder, edgesOf, movesOf, Plans}
 use Rattle.linear.proofs.AppendLaws.{then, Underway, begun, on-by, ended}
 use Rattle.linear.proofs.EdgeLaws.{at-most-few}
 
@@ -96,14 +96,20 @@ plan-is t own action a under p root before after r ea eu ep er eb h =
     let s : root ≡ rootOf t = er ∙ ap (λ k. reach t k 1) ep in
     record { cells-are = h .cells ∙ rw (u, s, eb); count-is = ap (λ (q : Planned). q .count) (h .answer) ∙ rw (u, s) }
 
--- `edge`
-pub edge-is : (t cells : List ℕ) (action k p root : ℕ) (picks places : List ℕ) (at r : ℕ) (old new : List ℕ) → p ≡ treeAt t → root ≡ reach t p 1 → picks ≡ pickAt t cells root maxTreeNodes root k (replicate 16 0)
-    → places ≡ takers t action picks → Appended (edgeBy t action places) at old new r → Appended (edgeWordsAt t action (picksOf t cells k)) at old new r
-unfolding edgeWordsAt picksOf
-edge-is t cells action k p root picks places at r old new ep er ek el a =
+-- `places_of`
+pub places-are : (t cells : List ℕ) (action k p root : ℕ) (picks places : List ℕ) → p ≡ treeAt t → root ≡ reach t p 1 → picks ≡ pickAt t cells root maxTreeNodes root k (replicate 16 0)
+    → places ≡ takers t action picks → places ≡ placesOf t cells action k
+unfolding placesOf picksOf
+places-are t cells action k p root picks places ep er ek el =
     let s : root ≡ rootOf t = er ∙ ap (λ j. reach t j 1) ep in
     let q : picks ≡ pickAt t cells (rootOf t) maxTreeNodes (rootOf t) k (replicate 16 0) = ek ∙ ap (λ j. pickAt t cells j maxTreeNodes j k (replicate 16 0)) s in
-    rw (← q, ← el) a
+    el ∙ ap (takers t action) q
+
+-- `edge`
+pub edge-is : (t cells : List ℕ) (action k : ℕ) (places : List ℕ) (at r : ℕ) (old new : List ℕ) → places ≡ placesOf t cells action k → Appended (edgeBy t action places) at old new r
+    → Appended (edgeWordsAt t action (picksOf t cells k)) at old new r
+unfolding edgeWordsAt placesOf
+edge-is t cells action k places at r old new el a = rw (← el) a
 
 -- `edges`
 pub edges-begun : (t cells : List ℕ) (action count at : ℕ) (old : List ℕ) → length old ≡ tableWords

@@ -14,5 +14,12 @@ pub mod DeepAre
 pub mod SyncIs
 pub mod AllEdgesLaws
 pub mod AllEdgesAre
+pub mod SurveyLaws
+pub mod SurveyIs
 pub mod SheetLaws
 pub mod SheetIs
+pub mod CountIs
+pub mod WordsFit
+pub mod WholeIs
+pub mod LinearizeLaws
+pub mod LinearizeIs

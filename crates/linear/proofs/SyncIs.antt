@@ -205,7 +205,7 @@ high-word f =
     ap highBits (halves f) ∙ high-append (keep f (countUp 0 32)) (keep f (countUp 32 32)) ∙ omega arith
 
 -- the words of a rising list have 32 bits
-set-fits : (A : ℕ) (list : List ℕ) → A ≤ 63 → rises A 0 list ≡ true → (lowBits list < 4294967296) × (highBits list < 4294967296)
+pub set-fits : (A : ℕ) (list : List ℕ) → A ≤ 63 → rises A 0 list ≡ true → (lowBits list < 4294967296) × (highBits list < 4294967296)
 unfolding setOf
 set-fits A list few r =
     let low = lowBits list in

@@ -7,4 +7,6 @@ pub mod MergedEdge
 pub mod Sync
 pub mod Depths
 pub mod MergedEdges
+pub mod Survey
 pub mod MergedSheet
+pub mod Linearize

@@ -12,7 +12,7 @@ use Rattle.moves.specs.Pick.{pickAt}
 use Rattle.linear.specs.Append.{narrow}
 use Rattle.linear.specs.NodeWords.{capped}
 use Rattle.linear.specs.Head.{automataOf}
-use Rattle.linear.specs.MergedEdge.{isUnder, atMost, edgeWordsAt}
+use Rattle.linear.specs.MergedEdge.{isUnder, atMost, takers, edgeWordsAt}
 
 -- how many of n edges are under an action, added to a sum
 unfoldable pub oneMore : (here : Bool) (sum : ℕ) → ℕ
@@ -48,6 +48,10 @@ moveTotal t own action = planAt t own (countsOf t action) action maxTreeNodes (r
 -- move k, as picks
 unfoldable pub picksOf : (t cells : List ℕ) (k : ℕ) → List ℕ
 picksOf t cells k = pickAt t cells (rootOf t) maxTreeNodes (rootOf t) k (replicate 16 0)
+
+-- and where the edges stand that it takes
+unfoldable pub placesOf : (t cells : List ℕ) (action k : ℕ) → List ℕ
+placesOf t cells action k = takers t action (picksOf t cells k)
 
 -- the edges of n moves from move k on
 unfoldable pub edgesFrom : (t cells : List ℕ) (action k n : ℕ) → List ℕ

@@ -8,7 +8,7 @@ ghost use lib.ListN.{length, replicate};
 ghost use Rattle.model.specs.Bounds.{tableWords};
 ghost use Rattle.linear.specs.Append.{narrow, Appended};
 ghost use Rattle.linear.specs.MergedEdge.{takers, edgeWordsAt};
-ghost use Rattle.linear.specs.MergedEdges.{oneMore, underFrom, underAt, countsOf, cellsOf, moveTotal, picksOf, edgesFrom, edgesUnder, edgesOf, movesOf, Plans};
+ghost use Rattle.linear.specs.MergedEdges.{oneMore, underFrom, underAt, countsOf, cellsOf, moveTotal, picksOf, placesOf, edgesFrom, edgesUnder, edgesOf, movesOf, Plans};
 
 // For each automaton, how many edges it has under an action.
 pub struct Counts {
@@ -61,7 +61,7 @@ fn counts_of(t: &[u32], action: usize) -> Counts
 }
 
 // The plan of an action: fills its cells, and says how many moves there are.
-fn plan(t: &[u32], own: &[u64; 16], action: u32, cells: &mut [u32; 192]) -> u32
+pub fn plan(t: &[u32], own: &[u64; 16], action: u32, cells: &mut [u32; 192]) -> u32
     requires { ⌜ now cells ≡ replicate 192 0 ⌝ }
     ensures { λ r. ⌜ Plans (now (t .entry)) (now (own .entry)) action (now (cells .exit)) r ⌝ }
 {
@@ -70,6 +70,16 @@ fn plan(t: &[u32], own: &[u64; 16], action: u32, cells: &mut [u32; 192]) -> u32
     let root = outline::step(t, outline::tree_at(t), 1);
     let p = moves::plan(t, root, own, &under, action, cells);
     p.count
+}
+
+// Where the edges stand that move k of the planned action takes; 0 for an automaton that takes none.
+pub fn places_of(t: &[u32], action: usize, cells: &[u32; 192], k: u32) -> [usize; 16]
+    ensures { λ r. ⌜ r ≡ placesOf (now (t .entry)) (now (cells .entry)) action k ⌝ }
+{
+    let root = outline::step(t, outline::tree_at(t), 1);
+    let picks = moves::pick(t, root, cells, k);
+    let taken = merged_edge::takers_of(t, action, &picks);
+    taken.places
 }
 
 // One merged edge: move k of the planned action.
@@ -84,10 +94,7 @@ fn edge(
     requires { ⌜ length (now out) ≡ tableWords ⌝ }
     ensures { λ r. ⌜ Appended (edgeWordsAt (now (t .entry)) action (picksOf (now (t .entry)) (now (cells .entry)) k)) at (now (out .entry)) (now (out .exit)) r ⌝ }
 {
-    let root = outline::step(t, outline::tree_at(t), 1);
-    let picks = moves::pick(t, root, cells, k);
-    let taken = merged_edge::takers_of(t, action, &picks);
-    let places = taken.places;
+    let places = places_of(t, action, cells, k);
     merged_edge::edge(t, action, &places, out, at)
 }
 

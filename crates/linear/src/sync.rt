@@ -13,7 +13,7 @@ pub struct Own {
     pub sets: [u64; 16],
 }
 
-fn word32(t: &[u32], at: usize) -> u32
+pub fn word32(t: &[u32], at: usize) -> u32
     ensures { λ r. ⌜ r ≡ getD (now (t .entry)) at 0 ⌝ }
 {
     if t.len() <= at {

@@ -1,3 +1,4 @@
 pub mod CodeLaws
 pub mod OutlineLaws
 pub mod Standing
+pub mod Opened

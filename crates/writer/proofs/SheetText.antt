@@ -3,27 +3,26 @@ use Prim.Native.Nat.{ℕ, zero, suc, _+_, _-_, _≤_, _<_}
 use mathlib.Core.Path.{_≡_, refl, sym, _∙_, ap, ap₂}
 use mathlib.Core.Bool.{Bool, true, false}
 use mathlib.Core.List.{List, [], _∷_, _++_, map, flatMap, append-assoc, append-nil}
-use mathlib.Core.Option.{Option, none, some}
+use mathlib.Core.Option.{none}
 use native.Mathlib.Omega.{arith}
 use lib.Dec.{leb}
-use lib.ListN.{length, getD, take, drop, length-map, take-append-drop}
+use lib.ListN.{length, getD, take, drop, length-map}
 use lib.Seq.{drop-at}
 use Rattle.model.specs.Basic.{lacks, between}
-use Rattle.model.specs.Bounds.{tableWords, leastNumber, greatestNumber}
+use Rattle.model.specs.Bounds.{leastNumber, greatestNumber}
 use Rattle.model.specs.Predicate.{Pred, words, nodeCount}
 use Rattle.model.specs.Model.{Model}
 use Rattle.model.specs.Lines.{Key as LineKey, format, actions, variables, variable, automata, sync, locations, init, inv, edges, edge, compose, Entry, formatLine, actionsLine, variablesLine, variableLine, automataLine, syncLine, locationsLine, initLine, invLine, edgesLine, edgeLine, composeLine, keyOf, lines, dueAtFirst, thenDue, Reading, atFirst, noted}
 use Rattle.model.specs.Limits.{numbersInRange, rises, treeRises, contentFault, faultOf, withinLimits, limits}
 use Rattle.model.specs.Lawful.{Lawful}
-use Rattle.model.specs.Table.{code, setWords, predWords, lineWords, sheetWords, tableOf, modelOf, row18, Opened, unopened, opened, openTable}
+use Rattle.model.specs.Table.{code, setWords, predWords, lineWords, sheetWords, Opened, unopened, opened, openTable}
 use Rattle.model.proofs.Tests.{and-left, and-right}
 use Rattle.model.proofs.Decode.{number-back, none-lacks, in-range, unsaid}
 use Rattle.model.proofs.Bits.{set-back}
 use Rattle.model.proofs.LinesLaws.{Follows, follow-lines}
 use Rattle.model.proofs.LimitsLaws.{lawful-is}
 use Rattle.model.proofs.Sizes.{lines-few}
-use Rattle.model.proofs.TableLaws.{model-given}
-use Rattle.outline.proofs.OutlineLaws.{table-sheet}
+use Rattle.outline.proofs.Opened.{sheet-of}
 use Rattle.lines.specs.declared.Key.{Key}
 use Rattle.lines.specs.declared.Due.{Due}
 use Rattle.lines.specs.Due.{isEnd, dueFirst, dueAfterKey, dueAfter, keysDue, laterKeys, laterDue, codeOf, numberOf}
@@ -203,27 +202,10 @@ module _ (m : Model) (h : Lawful m) (t rest : List ℕ) (stands : t ≡ sheetWor
       let e = fitting-text (length old) big in
       (s .size ∙ ap length e, s .text ∙ e)
 
--- a table that is opened begins with its model's words
-opened-is : (t : List ℕ) (m : Model) → openTable t ≡ opened m → modelOf t ≡ some m
-unfolding openTable
-opened-is t m e = go (row18 (length t)) refl (modelOf t) refl
-  where
-    go : (b : Bool) → row18 (length t) ≡ b → (o : Option Model) → modelOf t ≡ o → modelOf t ≡ some m
-    go true p o q =
-        let a : openTable t ≡ unopened 18 = rw (p, openTable) in
-        cc
-    go false p none q =
-        let a : openTable t ≡ unopened 19 = rw (p, openTable, q, openTable) in
-        cc
-    go false p (some x) q =
-        let a : openTable t ≡ opened x = rw (p, openTable, q, openTable) in
-        cc
-
 pub opened-text : (t : List ℕ) (m : Model) → openTable t ≡ opened m → fitting 65536 (sheetText t) ≡ textOf m
 opened-text t m e =
-    let g = model-given t m (opened-is t m e) in
-    let whole : t ≡ tableOf m ++ drop tableWords t = sym (take-append-drop tableWords t) ∙ ap (λ (l : List ℕ). l ++ drop tableWords t) (g .1) in
-    fitting-text m (lawful-is m .0 (g .0)) t _ (table-sheet t (drop tableWords t) m whole) 65536 (omega arith)
+    let s = sheet-of t m e in
+    fitting-text m (s .lawful) t (s .rest) (s .stands) 65536 (omega arith)
 
 -- `write`
 module _ (t old : List ℕ) (c : Checked) (e : c ≡ answered (openTable t)) where

@@ -35,8 +35,8 @@ fn deliver(table: &[u32], text: &mut [u8], out: &mut [u8]) -> WriteAnswer
     WriteAnswer::Written(n)
 }
 
-// The same for a table that is known to be good.
-fn good(table: &[u32], out: &mut [u8]) -> WriteAnswer
+// The same by way of a buffer of its own. On the table of a model this is its text or row 35; the table is not checked.
+pub fn write_words(table: &[u32], out: &mut [u8]) -> WriteAnswer
     ensures { λ r. ⌜ Answered (wordsAnswer maxBytes (now (table .entry)) (length (now (out .entry)))) (now (out .entry)) (now (out .exit)) r ⌝ }
 {
     let mut text = [0u8; BYTES];
@@ -49,7 +49,7 @@ pub fn write(table: &[u32], out: &mut [u8]) -> WriteAnswer
 {
     let checked = table::check(table);
     match checked {
-        Checked::Good => good(table, out),
+        Checked::Good => write_words(table, out),
         Checked::Refused(row) => WriteAnswer::Refused(row),
     }
 }

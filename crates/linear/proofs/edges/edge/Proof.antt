@@ -4,17 +4,8 @@ use borrow.Author.Needs.{needs}
 use Rattle.linear.proofs.edges.edge.Statement.{statement}
 use Rattle.linear.proofs.edges.edge.Tie as tie
 
-tree-at-requires : tie.Need-tree-at-requires
-tree-at-requires c κs = search needs
-
-step-requires : tie.Need-step-requires
-step-requires c κs = search needs
-
-pick-requires : tie.Need-pick-requires
-pick-requires c κs = search needs
-
-takers-of-requires : tie.Need-takers-of-requires
-takers-of-requires c κs = search needs
+places-of-requires : tie.Need-places-of-requires
+places-of-requires c κs = search needs
 
 edge-requires : tie.Need-edge-requires
 edge-requires c κs = search needs
@@ -23,12 +14,4 @@ returns : tie.Need-returns
 returns c = search (needs, edge-is)
 
 pub edge-spec : {M : Type 1} → statement M
-edge-spec =
-    tie.close
-    (tie.spec
-    tree-at-requires
-    step-requires
-    pick-requires
-    takers-of-requires
-    edge-requires
-    returns)
+edge-spec = tie.close (tie.spec places-of-requires edge-requires returns)
