@@ -33,7 +33,7 @@ width (suc d) (suc k) n h = go (ltb n 10) (width d k (n / 10) (omega arith))
     go true w = omega arith
     go false w = let e = length-append (decimalIn k (n / 10)) (('0 + n % 10) ∷ []) in omega arith
 
-decimal-width : (d n : ℕ) → n < 10 ^ suc d → length (decimal n) ≤ suc d
+pub decimal-width : (d n : ℕ) → n < 10 ^ suc d → length (decimal n) ≤ suc d
 unfolding decimal
 decimal-width d n h = width d (suc n) n h
 

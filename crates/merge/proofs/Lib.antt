@@ -1,1 +1,2 @@
 pub mod MergeLaws
+pub mod OutcomeLaws

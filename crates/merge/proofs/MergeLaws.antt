@@ -122,14 +122,16 @@ module _ (m : Model) (t : List ℕ) (p : openTable t ≡ opened m) (q : mergeFau
   unfolding mergeModel copyAnswer given bufferAfter reportedOf mergeOf mergeAfter
   said true f =
       let c : copyAnswer (textOf (linear m)) (length old) ≡ F.unwritten 35 = rw (f, copyAnswer) in
-      let g : mergeModel m (length old) ≡ unmerged 35 = rw (q, mergeModel, f) in
-      (ap (λ (x : WriteAnswer). reportedOf x (mergedCount m)) (a .answer ∙ ap given c) ∙ sym (ap mergeOf g),
-       a .memory ∙ ap (λ (x : F.WriteAnswer). bufferAfter x old) c ∙ sym (ap (λ (x : Answer). mergeAfter x old) g))
+      let g : mergeModel m (length old) ≡ unmerged 35 = rw (q, mergeModel, f) in (
+        ap (λ (x : WriteAnswer). reportedOf x (mergedCount m)) (a .answer ∙ ap given c) ∙ sym (ap mergeOf g),
+        a .memory ∙ ap (λ (x : F.WriteAnswer). bufferAfter x old) c ∙ sym (ap (λ (x : Answer). mergeAfter x old) g),
+      )
   said false f =
       let c : copyAnswer (textOf (linear m)) (length old) ≡ F.written (textOf (linear m)) = rw (f, copyAnswer) in
-      let g : mergeModel m (length old) ≡ merged (textOf (linear m)) (mergedCount m) = rw (q, mergeModel, f) in
-      (ap (λ (x : WriteAnswer). reportedOf x (mergedCount m)) (a .answer ∙ ap given c) ∙ sym (ap mergeOf g),
-       a .memory ∙ ap (λ (x : F.WriteAnswer). bufferAfter x old) c ∙ sym (ap (λ (x : Answer). mergeAfter x old) g))
+      let g : mergeModel m (length old) ≡ merged (textOf (linear m)) (mergedCount m) = rw (q, mergeModel, f) in (
+        ap (λ (x : WriteAnswer). reportedOf x (mergedCount m)) (a .answer ∙ ap given c) ∙ sym (ap mergeOf g),
+        a .memory ∙ ap (λ (x : F.WriteAnswer). bufferAfter x old) c ∙ sym (ap (λ (x : Answer). mergeAfter x old) g),
+      )
 
   pub said-of : (reportedOf w (mergedCount m) ≡ mergeOf (mergeAnswer t (length old))) × (new ≡ mergeAfter (mergeAnswer t (length old)) old)
   said-of =

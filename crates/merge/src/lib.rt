@@ -1,14 +1,26 @@
-// The merger: from a table to the text of the merged sheet.
+// The merger: from a table, or from a sheet text, to the text of the merged sheet.
+mod program;
+
+pub use program::Printed;
+pub use program::output;
+use text::ReadAnswer;
 use writer::WriteAnswer;
 ghost use mathlib.Core.Path.{_≡_};
 ghost use lib.ListN.{length};
 ghost use Rattle.format.specs.Merger.{mergeAnswer, mergeAfter};
 ghost use Rattle.merge.specs.Answers.{mergeOf, reportedOf};
+ghost use Rattle.merge.specs.Outcome.{passedOn, outcome, outcomeAfter};
 
 // Merged has the length of the text and the count of its edges. Refused has the row.
 pub enum MergeAnswer {
     Merged(usize, usize),
     Refused(u32),
+}
+
+// The same from a text: Refused has the row and the line, which is 0 where the merger refuses.
+pub enum Outcome {
+    Merged(usize, usize),
+    Refused(u32, usize),
 }
 
 // What was written, with the count of edges.
@@ -32,4 +44,26 @@ pub fn merge(table: &[u32], out: &mut [u8]) -> MergeAnswer
     }
     let words = merged.table;
     reported(writer::write_words(&words, out), merged.edges)
+}
+
+fn passed_on(answer: MergeAnswer) -> Outcome
+    ensures { λ r. ⌜ r ≡ passedOn answer ⌝ }
+{
+    match answer {
+        MergeAnswer::Merged(n, edges) => Outcome::Merged(n, edges),
+        MergeAnswer::Refused(row) => Outcome::Refused(row, 0),
+    }
+}
+
+// Reads a sheet text and writes the merged text. A refusal has written nothing.
+pub fn linearize(text: &[u8], out: &mut [u8]) -> Outcome
+    ensures { λ r. ⌜ r ≡ outcome (now (text .entry)) (length (now (out .entry))) ⌝ }
+    ensures { λ _. ⌜ now (out .exit) ≡ outcomeAfter (now (text .entry)) (now (out .entry)) ⌝ }
+{
+    let mut table = [0u32; 8192];
+    let read = text::read(text, &mut table);
+    match read {
+        ReadAnswer::Accepted => passed_on(merge(&table, out)),
+        ReadAnswer::Refused(row, line) => Outcome::Refused(row, line),
+    }
 }

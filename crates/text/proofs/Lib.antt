@@ -4,3 +4,4 @@ pub mod Filling
 pub mod ReadExact
 pub mod Exact
 pub mod ReadLaws
+pub mod LineBound

@@ -1,7 +1,7 @@
 // The writer of sheets: from a table to the text.
+mod growing;
 mod line;
 mod nodes;
-mod put;
 mod read;
 mod sheet;
 mod words;
@@ -11,6 +11,8 @@ ghost use lib.ListN.{length};
 ghost use Rattle.model.specs.Bounds.{maxBytes};
 ghost use Rattle.format.specs.Writer.{writeAnswer};
 ghost use Rattle.writer.specs.Answer.{Answered, wordsAnswer};
+pub use growing::number;
+pub use growing::put;
 pub use sheet::spell;
 
 // Refused has the row. Written has the length of the text.

@@ -1,6 +1,6 @@
 // One line: its key, its value and a line feed.
+use crate::growing::{self};
 use crate::nodes::{self};
-use crate::put::{self};
 use crate::read::{self};
 use crate::words::{self};
 use lines::Key;
@@ -13,9 +13,9 @@ ghost use Rattle.writer.specs.Text.{rangeText, predicateText, fieldText,
 fn range(ws: &[u32], out: &mut [u8], at: Written) -> Written
     ensures { λ r. ⌜ Grew (rangeText (now (ws .entry))) at (now (out .entry)) (now (out .exit)) r ⌝ }
 {
-    let a = put::biased(read::word(ws, 0), out, at);
-    let b = put::put(b",", out, a);
-    put::biased(read::word(ws, 1), out, b)
+    let a = growing::biased(read::word(ws, 0), out, at);
+    let b = growing::put(b",", out, a);
+    growing::biased(read::word(ws, 1), out, b)
 }
 
 // A predicate: its count of nodes, and the nodes.
@@ -30,8 +30,8 @@ fn predicate(ws: &[u32], out: &mut [u8], at: Written) -> Written
 fn field(n: u32, out: &mut [u8], at: Written) -> Written
     ensures { λ r. ⌜ Grew (fieldText n) at (now (out .entry)) (now (out .exit)) r ⌝ }
 {
-    let a = put::number(n, out, at);
-    put::put(b",", out, a)
+    let a = growing::number(n, out, at);
+    growing::put(b",", out, a)
 }
 
 // Where an edge starts, its action, where it ends, and its update.
@@ -56,16 +56,16 @@ fn value(key: Key, ws: &[u32], out: &mut [u8], at: Written) -> Written
     ensures { λ r. ⌜ Grew (valueOf key (now (ws .entry))) at (now (out .entry)) (now (out .exit)) r ⌝ }
 {
     match key {
-        Key::Format => put::number(read::word(ws, 0), out, at),
-        Key::Actions => put::number(read::word(ws, 0), out, at),
-        Key::Variables => put::number(read::word(ws, 0), out, at),
+        Key::Format => growing::number(read::word(ws, 0), out, at),
+        Key::Actions => growing::number(read::word(ws, 0), out, at),
+        Key::Variables => growing::number(read::word(ws, 0), out, at),
         Key::Variable => range(ws, out, at),
-        Key::Automata => put::number(read::word(ws, 0), out, at),
+        Key::Automata => growing::number(read::word(ws, 0), out, at),
         Key::Sync => nodes::set(read::word(ws, 0), read::word(ws, 1), out, at),
-        Key::Locations => put::number(read::word(ws, 0), out, at),
+        Key::Locations => growing::number(read::word(ws, 0), out, at),
         Key::Init => predicate(ws, out, at),
         Key::Inv => predicate(ws, out, at),
-        Key::Edges => put::number(read::word(ws, 0), out, at),
+        Key::Edges => growing::number(read::word(ws, 0), out, at),
         Key::Edge => edge(ws, out, at),
         Key::Compose => tree(ws, out, at),
         Key::End => at,
@@ -77,18 +77,18 @@ fn name(key: Key, out: &mut [u8], at: Written) -> Written
     ensures { λ r. ⌜ Grew (keyText key) at (now (out .entry)) (now (out .exit)) r ⌝ }
 {
     match key {
-        Key::Format => put::put(b"format=", out, at),
-        Key::Actions => put::put(b"actions=", out, at),
-        Key::Variables => put::put(b"variables=", out, at),
-        Key::Variable => put::put(b"variable=", out, at),
-        Key::Automata => put::put(b"automata=", out, at),
-        Key::Sync => put::put(b"sync=", out, at),
-        Key::Locations => put::put(b"locations=", out, at),
-        Key::Init => put::put(b"init=", out, at),
-        Key::Inv => put::put(b"inv=", out, at),
-        Key::Edges => put::put(b"edges=", out, at),
-        Key::Edge => put::put(b"edge=", out, at),
-        Key::Compose => put::put(b"compose=", out, at),
+        Key::Format => growing::put(b"format=", out, at),
+        Key::Actions => growing::put(b"actions=", out, at),
+        Key::Variables => growing::put(b"variables=", out, at),
+        Key::Variable => growing::put(b"variable=", out, at),
+        Key::Automata => growing::put(b"automata=", out, at),
+        Key::Sync => growing::put(b"sync=", out, at),
+        Key::Locations => growing::put(b"locations=", out, at),
+        Key::Init => growing::put(b"init=", out, at),
+        Key::Inv => growing::put(b"inv=", out, at),
+        Key::Edges => growing::put(b"edges=", out, at),
+        Key::Edge => growing::put(b"edge=", out, at),
+        Key::Compose => growing::put(b"compose=", out, at),
         Key::End => at,
     }
 }
@@ -99,7 +99,7 @@ pub(crate) fn line(key: Key, ws: &[u32], out: &mut [u8], at: Written) -> Written
 {
     let a = name(key, out, at);
     let b = value(key, ws, out, a);
-    put::put(b"\n", out, b)
+    growing::put(b"\n", out, b)
 }
 
 // How many words it has; none follows the composition.

@@ -1,5 +1,5 @@
 // Sets, and the tree's nodes: `par`, `syn` with its set, and leaves.
-use crate::put::{self};
+use crate::growing::{self};
 use crate::read::{self};
 use scan::Written;
 ghost use mathlib.Core.Path.{_≡_};
@@ -14,8 +14,8 @@ fn member(is_in: bool, first: bool, k: u32, out: &mut [u8], at: Written) -> Writ
     if !is_in {
         return at;
     }
-    let a = put::apart(b",", first, out, at);
-    put::number(k, out, a)
+    let a = growing::apart(b",", first, out, at);
+    growing::number(k, out, a)
 }
 
 // The actions of a set, which rise, and commas between them.
@@ -41,14 +41,14 @@ fn node(ws: &[u32], out: &mut [u8], at: Written) -> Written
 {
     let w = read::word(ws, 0);
     if w == 0 {
-        return put::put(b"par", out, at);
+        return growing::put(b"par", out, at);
     }
     if w == 1 {
-        let a = put::put(b"syn ", out, at);
+        let a = growing::put(b"syn ", out, at);
         return set(read::word(ws, 1), read::word(ws, 2), out, a);
     }
-    let a = put::put(b"a", out, at);
-    put::number(w - 2, out, a)
+    let a = growing::put(b"a", out, at);
+    growing::number(w - 2, out, a)
 }
 
 // How many words it has.
@@ -66,7 +66,7 @@ pub(crate) fn nodes(ws: &[u32], n: usize, out: &mut [u8], at: Written) -> Writte
     let mut next: usize = 0;
     let mut i: usize = 0;
     while i < n {
-        let a = put::apart(b" ", i == 0, out, end);
+        let a = growing::apart(b" ", i == 0, out, end);
         end = node(read::rest(ws, next), out, a);
         next = outline::step(ws, next, size(read::rest(ws, next)));
         i += 1;

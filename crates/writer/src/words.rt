@@ -1,5 +1,5 @@
 // Predicates: the nodes of a predicate, each one word, and spaces between them.
-use crate::put::{self};
+use crate::growing::{self};
 use scan::Written;
 ghost use mathlib.Core.Path.{_≡_};
 ghost use Rattle.writer.specs.Growing.{Grew};
@@ -10,18 +10,18 @@ fn name(kind: u32, out: &mut [u8], at: Written) -> Written
     ensures { λ r. ⌜ Grew (nameText kind) at (now (out .entry)) (now (out .exit)) r ⌝ }
 {
     match kind {
-        0 => put::put(b"all ", out, at),
-        1 => put::put(b"any ", out, at),
-        2 => put::put(b"not", out, at),
-        3 => put::put(b"imp", out, at),
-        4 => put::put(b"eq", out, at),
-        5 => put::put(b"le", out, at),
-        7 => put::put(b"v", out, at),
-        8 => put::put(b"n", out, at),
-        9 => put::put(b"add", out, at),
-        10 => put::put(b"sub", out, at),
-        11 => put::put(b"mul", out, at),
-        12 => put::put(b"if", out, at),
+        0 => growing::put(b"all ", out, at),
+        1 => growing::put(b"any ", out, at),
+        2 => growing::put(b"not", out, at),
+        3 => growing::put(b"imp", out, at),
+        4 => growing::put(b"eq", out, at),
+        5 => growing::put(b"le", out, at),
+        7 => growing::put(b"v", out, at),
+        8 => growing::put(b"n", out, at),
+        9 => growing::put(b"add", out, at),
+        10 => growing::put(b"sub", out, at),
+        11 => growing::put(b"mul", out, at),
+        12 => growing::put(b"if", out, at),
         _ => at,
     }
 }
@@ -31,11 +31,11 @@ fn argument(kind: u32, k: u32, out: &mut [u8], at: Written) -> Written
     ensures { λ r. ⌜ Grew (argumentText kind k) at (now (out .entry)) (now (out .exit)) r ⌝ }
 {
     match kind {
-        0 => put::number(k, out, at),
-        1 => put::number(k, out, at),
-        6 => put::biased(k, out, at),
-        7 => put::number(k, out, at),
-        8 => put::number(k, out, at),
+        0 => growing::number(k, out, at),
+        1 => growing::number(k, out, at),
+        6 => growing::biased(k, out, at),
+        7 => growing::number(k, out, at),
+        8 => growing::number(k, out, at),
         _ => at,
     }
 }
@@ -53,7 +53,7 @@ pub(crate) fn words(ws: &[u32], out: &mut [u8], at: Written) -> Written
     let mut end = at;
     let mut i: usize = 0;
     while i < ws.len() {
-        let a = put::apart(b" ", i == 0, out, end);
+        let a = growing::apart(b" ", i == 0, out, end);
         end = word(ws[i], out, a);
         i += 1;
     }

@@ -1,10 +1,10 @@
 -- src/put.rt:21:21
 use Rattle.writer.proofs.GrowingLaws.{put-laws}
 use borrow.Author.Needs.{needs}
-use Rattle.writer.proofs.put.number.Statement.{statement}
-use Rattle.writer.proofs.put.number.Tie as tie
-use Rattle.writer.proofs.put.number.Reads as reads
-use Rattle.writer.proofs.put.number.Lts as lts
+use Rattle.writer.proofs.growing.number.Statement.{statement}
+use Rattle.writer.proofs.growing.number.Tie as tie
+use Rattle.writer.proofs.growing.number.Reads as reads
+use Rattle.writer.proofs.growing.number.Lts as lts
 use Rattle.scan.proofs.decimal.Reads as decimal-reads
 
 enum-known-at : tie.Need-enum-known-at

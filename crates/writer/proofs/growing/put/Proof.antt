@@ -1,10 +1,10 @@
 -- src/put.rt:12:21
 use Rattle.writer.proofs.GrowingLaws.{put-laws}
 use borrow.Author.Needs.{needs}
-use Rattle.writer.proofs.put.put.Statement.{statement}
-use Rattle.writer.proofs.put.put.Tie as tie
-use Rattle.writer.proofs.put.put.Reads as reads
-use Rattle.writer.proofs.put.put.Lts as lts
+use Rattle.writer.proofs.growing.put.Statement.{statement}
+use Rattle.writer.proofs.growing.put.Tie as tie
+use Rattle.writer.proofs.growing.put.Reads as reads
+use Rattle.writer.proofs.growing.put.Lts as lts
 use Rattle.scan.proofs.copy.Reads as copy-reads
 
 enum-known-at : tie.Need-enum-known-at

@@ -1,12 +1,12 @@
 -- src/put.rt:41:21
 use Rattle.writer.proofs.GrowingLaws.{biased-laws}
 use borrow.Author.Needs.{needs}
-use Rattle.writer.proofs.put.biased.Statement.{statement}
-use Rattle.writer.proofs.put.biased.Tie as tie
-use Rattle.writer.proofs.put.biased.Reads as reads
-use Rattle.writer.proofs.put.biased.Lts as lts
-use Rattle.writer.proofs.put.number.Reads as number-reads
-use Rattle.writer.proofs.put.put.Reads as put-reads
+use Rattle.writer.proofs.growing.biased.Statement.{statement}
+use Rattle.writer.proofs.growing.biased.Tie as tie
+use Rattle.writer.proofs.growing.biased.Reads as reads
+use Rattle.writer.proofs.growing.biased.Lts as lts
+use Rattle.writer.proofs.growing.number.Reads as number-reads
+use Rattle.writer.proofs.growing.put.Reads as put-reads
 
 slice-aggregate-put : tie.Need-slice-aggregate-put
 slice-aggregate-put c = search needs

@@ -1,11 +1,11 @@
 -- src/put.rt:31:9
 use Rattle.writer.proofs.GrowingLaws.{apart-laws}
 use borrow.Author.Needs.{needs}
-use Rattle.writer.proofs.put.apart.Statement.{statement}
-use Rattle.writer.proofs.put.apart.Tie as tie
-use Rattle.writer.proofs.put.apart.Reads as reads
-use Rattle.writer.proofs.put.apart.Lts as lts
-use Rattle.writer.proofs.put.put.Reads as put-reads
+use Rattle.writer.proofs.growing.apart.Statement.{statement}
+use Rattle.writer.proofs.growing.apart.Tie as tie
+use Rattle.writer.proofs.growing.apart.Reads as reads
+use Rattle.writer.proofs.growing.apart.Lts as lts
+use Rattle.writer.proofs.growing.put.Reads as put-reads
 
 returns : tie.Need-returns
 returns c = search (needs, apart-laws)

@@ -1,0 +1,46 @@
+-- `merge::program::output` meets its contract: each way out is a law.
+use Rattle.merge.proofs.OutcomeLaws.{output-laws}
+use borrow.Author.Needs.{needs}
+use Rattle.merge.proofs.program.output.Statement.{statement}
+use Rattle.merge.proofs.program.output.Tie as tie
+
+slice-aggregate-linearize : tie.Need-slice-aggregate-linearize
+slice-aggregate-linearize c = search needs
+
+linearize-requires : tie.Need-linearize-requires
+linearize-requires c κs = search needs
+
+enum-known-outcome : tie.Need-enum-known-outcome
+enum-known-outcome c = search needs
+
+enum-known-outcome-2 : tie.Need-enum-known-outcome-2
+enum-known-outcome-2 c = search needs
+
+slice-aggregate-refusal : tie.Need-slice-aggregate-refusal
+slice-aggregate-refusal c = search needs
+
+refusal-requires : tie.Need-refusal-requires
+refusal-requires c κs = search needs
+
+place-requires : tie.Need-place-requires
+place-requires c κs = search needs
+
+returns : tie.Need-returns
+returns c = search (needs, output-laws)
+
+returns-2 : tie.Need-returns-2
+returns-2 c = search (needs, output-laws)
+
+pub output-spec : {M : Type 1} → statement M
+output-spec =
+    tie.close
+    (tie.spec
+    slice-aggregate-linearize
+    linearize-requires
+    enum-known-outcome
+    enum-known-outcome-2
+    slice-aggregate-refusal
+    refusal-requires
+    place-requires
+    returns
+    returns-2)
