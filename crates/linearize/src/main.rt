@@ -4,6 +4,8 @@
 use libc::STDERR_FILENO;
 use libc::STDIN_FILENO;
 use libc::STDOUT_FILENO;
+ghost use Prim.Native.Nat.{_≤_};
+ghost use lib.ListN.{length};
 
 // One byte more than a text may have, so that a longer input shows.
 const BYTES: usize = model::Model::BYTES + 1;
@@ -15,7 +17,9 @@ struct Input {
 }
 
 // Reads until the input ends, the bytes are full or a read fails.
-fn read_all(bytes: &mut [u8]) -> Input {
+fn read_all(bytes: &mut [u8]) -> Input
+    ensures { λ r. ⌜ r .length ≤ length (now (bytes .exit)) ⌝ }
+{
     let mut n = 0;
     while n < bytes.len() {
         let got = libc::read(STDIN_FILENO, &mut bytes[n..]);
@@ -25,7 +29,7 @@ fn read_all(bytes: &mut [u8]) -> Input {
                 failed: true,
             };
         }
-        let more = got as usize;
+        let more = io::count(got, &bytes[n..]);
         if more == 0 {
             break;
         }

@@ -6,21 +6,19 @@ use mathlib.Core.Option.{Option, none, some}
 use Prim.Native.Nat.{ℕ, zero, suc, _+_, _%_, _≤_, _<_}
 use native.Mathlib.Omega.{arith}
 use native.Mathlib.Nat.{mod-eq-of-lt}
-use lib.ListN.{length, take, drop, replicate, length-append, length-drop, length-replicate, drop-of-length-le}
+use lib.ListN.{length, take, drop, replicate, length-append, length-replicate, drop-of-length-le}
 use lib.Seq.{take-at}
-use lib.Dec.{leb, ltb}
-use borrow.Author.Tests.{ltb-false, leb-true, leb-false}
+use lib.Dec.{leb}
+use borrow.Author.Tests.{leb-true, leb-false}
 use Rattle.model.specs.Bounds.{maxBytes, tableWords}
 use Rattle.model.specs.Model.{Model}
-use Rattle.model.specs.Table.{tableOf, Opened, unopened, opened, openTable}
-use Rattle.model.specs.Linear.{linear, mergedCount, mergeFault}
+use Rattle.model.specs.Table.{tableOf}
 use Rattle.format.specs.Bytes.{Bytes, bytes}
 use Rattle.format.specs.Number.{decimal}
-use Rattle.format.specs.Spelling.{textOf}
 use Rattle.format.specs.Reader as Reader
 use Rattle.format.specs.Reader.{readAnswer, tableAfter}
-use Rattle.format.specs.Writer.{row35, withText}
-use Rattle.format.specs.Merger.{MergeAnswer as Answer, unmerged, merged, mergeModel, mergeAnswer, mergeAfter}
+use Rattle.format.specs.Writer.{withText}
+use Rattle.format.specs.Merger.{MergeAnswer as Answer, unmerged, merged, mergeAnswer, mergeAfter}
 use Rattle.format.specs.Program.{refusal, mergeOutput, programOutput}
 use Rattle.format.proofs.FitsLaws.{decimal-width}
 use Rattle.scan.specs.declared.answer.Written.{Written}
@@ -126,35 +124,10 @@ place-full w e = sym (ap placeOf e)
 
 pub ruleset place-laws = (place-to, place-full)
 
--- `output`: what the merger gives fits where it was put
-merged-short : (t : List ℕ) (buffer : ℕ) (text : Bytes) (edges : ℕ) → mergeAnswer t buffer ≡ merged text edges → length text ≤ buffer
-unfolding mergeAnswer mergeModel row35
-merged-short t buffer text edges e = go (openTable t) refl
-  where
-    never : (row : ℕ) → unmerged row ≡ merged text edges → ⊥
-    never row h = let z : _≡_ {A = ℕ} 0 1 = cc in omega arith
-
-    last : (m : Model) → openTable t ≡ opened m → mergeFault m ≡ none → (b : Bool) → ltb buffer (length (textOf (linear m))) ≡ b → length text ≤ buffer
-    last m p q true f = absurd (never 35 (sym (rw (p, mergeAnswer, q, mergeModel, f)) ∙ e))
-    last m p q false f =
-        let s : merged (textOf (linear m)) (mergedCount m) ≡ merged text edges = sym (rw (p, mergeAnswer, q, mergeModel, f)) ∙ e in
-        let same : textOf (linear m) ≡ text = cc in
-        let l : length (textOf (linear m)) ≡ length text = ap length same in
-        let h = ltb-false buffer (length (textOf (linear m))) f in
-        omega arith
-
-    in-model : (m : Model) → openTable t ≡ opened m → (o : Option ℕ) → mergeFault m ≡ o → length text ≤ buffer
-    in-model m p (some row) q = absurd (never row (sym (rw (p, mergeAnswer, q, mergeModel)) ∙ e))
-    in-model m p none q = last m p q (ltb buffer (length (textOf (linear m)))) refl
-
-    go : (o : Opened) → openTable t ≡ o → length text ≤ buffer
-    go (unopened row) p = absurd (never row (sym (rw (p, mergeAnswer)) ∙ e))
-    go (opened m) p = in-model m p (mergeFault m) refl
-
--- the outcome for a buffer of 65,536 bytes, and the program's output: a text, or a refusal
+-- `output`: the outcome for a buffer of 65,536 bytes, and the program's output: a text, or a refusal
 record Printing (text new : Bytes) (n : ℕ) : Type 0 where
   prints : take n new ≡ programOutput text
-  within : n ≤ 65536
+  within : n ≤ length new
 
 record Refusing (text new : Bytes) (row line : ℕ) : Type 0 where
   prints : programOutput text ≡ refusal row line
@@ -166,8 +139,9 @@ module _ (text zeros : Bytes) (long : length zeros ≡ 65536) where
       → Printing text (outcomeAfter text zeros) (length t)
   unfolding outcomeAfter mergeAfter withText programOutput mergeOutput
   prints-text m f t edges g =
-      let l = merged-short (tableOf m) (length zeros) t edges g in
       let after : outcomeAfter text zeros ≡ t ++ drop (length t) zeros = rw (f, outcomeAfter, g, mergeAfter) in
+      let whole = ap length after in
+      let parts = length-append t (drop (length t) zeros) in
       let h : mergeAnswer (tableOf m) maxBytes ≡ merged t edges = ap (mergeAnswer (tableOf m)) (sym long) ∙ g in
       record { prints = ap (take (length t)) after ∙ take-at t (drop (length t) zeros) (length t) refl ∙ sym (rw (f, programOutput, h, mergeOutput)); within = omega arith }
 
@@ -235,26 +209,25 @@ refusal-short row line h k =
     omega arith
 
 -- what has grown from the start of a buffer with room for it
-grown-whole : (t old new : Bytes) (w : Written) → Grew t (To 0) old new w → length t ≤ length old → (take (placeOf w) new ≡ t) × (placeOf w ≤ length old)
+grown-whole : (t old new : Bytes) (w : Written) → Grew t (To 0) old new w → length t ≤ length old → (take (placeOf w) new ≡ t) × (placeOf w ≤ length new)
 unfolding placeOf
 grown-whole t old new w g room = go w refl
   where
     whole : held w new ≡ some t
     whole = g .text ∙ ap (λ (o : Option Bytes). more (length old) o t) (held-in 0 old (omega arith)) ∙ more-fits (length old) [] t (omega arith)
 
-    go : (x : Written) → w ≡ x → (take (placeOf x) new ≡ t) × (placeOf x ≤ length old)
+    go : (x : Written) → w ≡ x → (take (placeOf x) new ≡ t) × (placeOf x ≤ length new)
     go Full e = let s : none ≡ some t = sym (held-full new) ∙ ap (λ (y : Written). held y new) (sym e) ∙ whole in let z : _≡_ {A = ℕ} 0 1 = cc in absurd (omega arith)
     go (To n) e = in-buffer (leb n (length new)) refl
       where
         there : held (To n) new ≡ some t
         there = ap (λ (y : Written). held y new) (sym e) ∙ whole
 
-        in-buffer : (b : Bool) → leb n (length new) ≡ b → (take n new ≡ t) × (n ≤ length old)
+        in-buffer : (b : Bool) → leb n (length new) ≡ b → (take n new ≡ t) × (n ≤ length new)
         in-buffer true f =
             let h = leb-true n (length new) f in
             let s : some (take n new) ≡ some t = sym (held-in n new h) ∙ there in
-            let l = g .long in
-            (cc, omega arith)
+            (cc, h)
         in-buffer false f =
             let h = leb-false n (length new) f in
             let s : none ≡ some t = sym (held-past n new h) ∙ there in
@@ -272,14 +245,14 @@ module _ (text : Bytes) (o : Outcome) (e : o ≡ outcome text (length {A = ℕ} 
     pub output-text : take n new ≡ programOutput text
     output-text = printing .prints
 
-    pub output-within : n ≤ 65536
+    pub output-within : n ≤ length new
     output-within = printing .within
 
   module _ (row line : ℕ) (f : o ≡ Refused row line) (low : row < 4294967296) (end : Bytes) (w : Written) (grew : Grew (refusal row (line % 4294967296)) (To 0) new end w) where
     refusing : Refusing text new row line
     refusing = subst (λ (b : Bytes). Refusing text b row line) (sym g) (in-row text (replicate 65536 0) bytes-long row line (sym e ∙ f))
 
-    spelled : (take (placeOf w) end ≡ programOutput text) × (placeOf w ≤ 65536)
+    spelled : (take (placeOf w) end ≡ programOutput text) × (placeOf w ≤ length end)
     spelled =
         let s = refusing .short in
         let r = refusing .room in
@@ -287,13 +260,12 @@ module _ (text : Bytes) (o : Outcome) (e : o ≡ outcome text (length {A = ℕ} 
         let fits = refusal-short row line low k in
         let grown : Grew (refusal row line) (To 0) new end w = subst (λ (i : ℕ). Grew (refusal row i) (To 0) new end w) (mod-eq-of-lt k) grew in
         let x = grown-whole (refusal row line) new end w grown (omega arith) in
-        let y = x .1 in
-        (x .0 ∙ sym (refusing .prints), omega arith)
+        (x .0 ∙ sym (refusing .prints), x .1)
 
     pub output-refusal : (n : ℕ) → n ≡ placeOf w → take n end ≡ programOutput text
     output-refusal n h = ap (λ (i : ℕ). take i end) h ∙ spelled .0
 
-    pub output-inside : (n : ℕ) → n ≡ placeOf w → n ≤ 65536
+    pub output-inside : (n : ℕ) → n ≡ placeOf w → n ≤ length end
     output-inside n h = let x = spelled .1 in omega arith
 
 pub ruleset output-laws = (output-text, output-within, output-refusal, output-inside)

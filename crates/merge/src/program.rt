@@ -3,7 +3,7 @@ use crate::Outcome;
 use scan::Written;
 ghost use mathlib.Core.Path.{_≡_};
 ghost use Prim.Native.Nat.{_%_, _≤_};
-ghost use lib.ListN.{take};
+ghost use lib.ListN.{length, take};
 ghost use Rattle.scan.specs.declared.answer.Written.the-variants.{To};
 ghost use Rattle.format.specs.Program.{refusal, programOutput};
 ghost use Rattle.writer.specs.Growing.{Grew};
@@ -37,7 +37,7 @@ fn place(end: Written) -> usize
 
 // The merged text of a sheet text, or the line that refuses it.
 pub fn output(text: &[u8]) -> Printed
-    ensures { λ r. ⌜ (take (r .length) (r .bytes) ≡ programOutput (now (text .entry))) × (r .length ≤ 65536) ⌝ }
+    ensures { λ r. ⌜ (take (r .length) (r .bytes) ≡ programOutput (now (text .entry))) × (r .length ≤ length (r .bytes)) ⌝ }
 {
     let mut bytes = [0u8; 65536];
     let outcome = crate::linearize(text, &mut bytes);
