@@ -1,25 +1,24 @@
 -- The judges' calls: the code's answer over any table is the definitions'.
 use mathlib.Core.Path.{_≡_, refl, sym, ap, _∙_}
 use mathlib.Core.Bool.{Bool, true, false, not, cond, _||_}
-use mathlib.Core.List.{List, _++_}
+use mathlib.Core.List.{List}
 use mathlib.Core.Option.{Option, none, some}
 use Prim.Native.Nat.{ℕ}
 use native.Mathlib.Omega.{arith}
 use lib.IntN.{ℤ, pos}
-use lib.ListN.{length, getD, drop, take-append-drop}
+use lib.ListN.{length, getD}
 use lib.Dec.{eqb}
 use Rattle.model.specs.Basic.{each}
-use Rattle.model.specs.Bounds.{tableWords}
 use Rattle.model.specs.Model.{Model, automaton}
 use Rattle.model.specs.Lawful.{Lawful}
-use Rattle.model.specs.Table.{sheetWords, tableOf, modelOf, row18, Opened, unopened, opened, openTable}
+use Rattle.model.specs.Table.{Opened, unopened, opened, openTable}
 use Rattle.model.specs.Rules as R
 use Rattle.model.specs.Judge as J
-use Rattle.model.proofs.Tests.{and-right, lt-of, not-false, eq-of, each-elim, or-none-left, or-none-right, or-same}
-use Rattle.model.proofs.LimitsLaws.{lawful-is}
-use Rattle.model.proofs.TableLaws.{model-given}
-use Rattle.outline.proofs.OutlineLaws.{table-sheet}
+use Rattle.model.proofs.Tests.{and-left, and-right, lt-of, not-false, eq-of, each-elim, or-none-left, or-none-right, or-same}
+use Rattle.outline.proofs.Opened.{Sheet, sheet-of}
 use Rattle.table.specs.Check.{answered}
+use Rattle.table.specs.declared.Checked.{Checked}
+use Rattle.table.specs.declared.Checked.the-variants as C
 use Rattle.judge.specs.declared.Phase.{Phase}
 use Rattle.judge.specs.declared.Phase.the-variants.{Start, Running}
 use Rattle.judge.specs.declared.State.{State}
@@ -31,49 +30,31 @@ use Rattle.judge.specs.Answers.{answerOf, phaseIs}
 use Rattle.judge.specs.States.{stateOf}
 use Rattle.judge.specs.RowTests.{phaseRead, lengthsFit, locationsKnown, valuesKnown}
 use Rattle.judge.specs.Settled.{settledAt}
-use Rattle.judge.specs.Calls.{listsChecked, thenLists, thenPhase, thenTable, admittedAt, thenRules, environmentIn, environmentAt}
+use Rattle.judge.specs.Calls.{listsChecked, thenLists, thenPhase, admittedOn, thenRules, thenWords, environmentIn, environmentOn, environmentAt}
 use Rattle.judge.proofs.Filled.{filled-front, filled-at}
 use Rattle.judge.proofs.RowLaws.{lengths-row, locations-row, values-row}
 use Rattle.judge.proofs.SettledLaws.{Shows, settled-is}
 
--- a table that opens begins with the words of a lawful model
-pub record Sheet (t : List ℕ) (m : Model) : Type 0 where
-  pub lawful : Lawful m
-  pub rest : List ℕ
-  pub stands : t ≡ sheetWords m ++ rest
-
-opened-model : (t : List ℕ) (m : Model) → openTable t ≡ opened m → modelOf t ≡ some m
-unfolding openTable
-opened-model t m e = go (row18 (length t)) refl (modelOf t) refl
-  where
-    go : (b : Bool) → row18 (length t) ≡ b → (o : Option Model) → modelOf t ≡ o → o ≡ some m
-    go true f o g =
-        let never : unopened 18 ≡ opened m = rw (f, openTable) at e in
-        cc
-    go false f none g =
-        let never : unopened 19 ≡ opened m = rw (f, openTable, g, openTable) at e in
-        cc
-    go false f (some n) g =
-        let same : opened n ≡ opened m = rw (f, openTable, g, openTable) at e in
-        cc
-
-pub sheet-of : (t : List ℕ) (m : Model) → openTable t ≡ opened m → Sheet t m
-sheet-of t m e =
-    let g = model-given t m (opened-model t m e) in
-    let parts : t ≡ tableOf m ++ drop tableWords t = sym (take-append-drop tableWords t) ∙ ap (λ (s : List ℕ). s ++ drop tableWords t) (g .1) in
-    record { lawful = lawful-is m .0 (g .0); rest = _; stands = table-sheet t (drop tableWords t) m parts }
-
 -- a state by its lists, as the definitions have it
 abbrev pub stands : Phase → List ℕ → List ℤ → R.State
 stands phase locations values = record { phase = phaseIs phase; locations = locations; values = values }
+
+-- row 21 refuses no state: it has a location for each automaton, and a value for each variable
+module _ (m : Model) (u : R.State) (h : J.row21 m u ≡ false) where
+  pub one-each : length (u .locations) ≡ length (m .automata)
+  unfolding J.row21
+  one-each = eq-of (length (u .locations)) (length (m .automata)) (and-left (eqb (length (u .locations)) (length (m .automata))) (J.hasValues m (u .values)) (not-false _ h))
+
+  pub one-value : length (u .values) ≡ length (m .variables)
+  unfolding J.row21 J.hasValues
+  one-value = eq-of (length (u .values)) (length (m .variables)) (and-right (eqb (length (u .locations)) (length (m .automata))) _ (not-false _ h))
 
 -- no row refuses a state, so the code's arrays show it
 pub shows : (m : Model) → Lawful m → (phase : Phase) (l : List ℕ) (v : List ℤ) → let u = stands phase l v in
     J.row21 m u ≡ false → J.row22 m u ≡ false → J.row23 m u ≡ false → Shows m (stateOf phase l v) u
 unfolding J.row21 J.hasValues J.row22 J.row23 J.rangeOf stateOf
 shows m lawful phase l v a b c =
-    let sizes = not-false _ a in
-    let size : length v ≡ length (m .variables) = eq-of (length v) (length (m .variables)) (and-right (eqb (length l) (length (m .automata))) _ sizes) in
+    let size : length v ≡ length (m .variables) = one-value m (stands phase l v) a in
     record {
       phase = refl;
       values = rw (← size) (filled-front 48 (pos 0) v (rw size (lawful .few-variables)));
@@ -83,7 +64,7 @@ shows m lawful phase l v a b c =
     }
 
 -- row 20: the code reads a phase exactly where the definitions have one
-phase-read : (p : ℕ) (P : Admitted → Option R.Phase → Type 0) → ((q : Phase) → P (In q) (some (phaseIs q))) → P (Out 20) none → P (phaseRead p) (J.phaseOf p)
+pub phase-read : (p : ℕ) (P : Admitted → Option R.Phase → Type 0) → ((q : Phase) → P (In q) (some (phaseIs q))) → P (Out 20) none → P (phaseRead p) (J.phaseOf p)
 unfolding phaseRead J.phaseOf phaseIs
 phase-read p P some-phase no-phase = go (eqb p 0) refl (eqb p 1) refl
   where
@@ -141,11 +122,11 @@ module _ (t : List ℕ) (phase : ℕ) (l : List ℕ) (v : List ℤ) (l' : List �
   pub call-exact : (rules : Phase → Answer) (judge : Model → R.State → J.Answer) (last : Model → Phase → J.Answer)
       → ((m : Model) (q : Phase) → judge m (stands q l v) ≡ listRows m (stands q l v) (stands Running l' v') (last m q))
       → ((m : Model) → Sheet t m → (q : Phase) → Pass m (stands q l v) (stands Running l' v') → answerOf (rules q) ≡ last m q)
-      → answerOf (thenRules (admittedAt t phase l v l' v') rules) ≡ J.judgeAt t phase l v judge
-  unfolding admittedAt answered thenTable thenPhase thenRules answerOf J.judgeAt
+      → answerOf (thenWords (answered (openTable t)) (thenRules (admittedOn t phase l v l' v') rules)) ≡ J.judgeAt t phase l v judge
+  unfolding admittedOn answered thenWords thenPhase thenRules answerOf J.judgeAt
   call-exact rules judge last rows passed = go (openTable t) refl
     where
-      go : (o : Opened) → openTable t ≡ o → answerOf (thenRules (admittedAt t phase l v l' v') rules) ≡ J.judgeAt t phase l v judge
+      go : (o : Opened) → openTable t ≡ o → answerOf (thenWords (answered (openTable t)) (thenRules (admittedOn t phase l v l' v') rules)) ≡ J.judgeAt t phase l v judge
       go (unopened row) e = rw (e, J.judgeAt)
       go (opened m) e =
           rw (e, J.judgeAt)
@@ -175,7 +156,7 @@ or-self false = refl
 
 module _ (t : List ℕ) (phase : ℕ) (l : List ℕ) (v v' : List ℤ) where
   pub environment-exact : answerOf (environmentAt t phase l v v') ≡ J.environmentAnswer t phase l v v'
-  unfolding environmentAt J.environmentAnswer
+  unfolding environmentAt environmentOn J.environmentAnswer
   environment-exact =
       call-exact t phase l v l v' (environmentIn t l v v') (λ m s. J.judgeEnvironment m s v') (λ m q. cond (J.settled m (stands q l v) (stands Running l v')) J.yes J.no)
       rows passed
@@ -198,25 +179,35 @@ module _ (t : List ℕ) (phase : ℕ) (l : List ℕ) (v v' : List ℤ) where
           (shows-old m (sheet .lawful) q Running l v l v' p) (shows-new m (sheet .lawful) q Running l v l v' p) in
           unfold environmentIn in ends (settledAt t (stateOf q l v) (stateOf Running l v')) _ e
 
-  -- each way out of the code
-  module _ (x : Admitted) (e : x ≡ admittedAt t phase l v l v') where
-    pub environment-out : (row : ℕ) → x ≡ Out row → answerOf (Refused row) ≡ J.environmentAnswer t phase l v v'
-    unfolding environmentAt thenRules
-    environment-out row f =
+  -- each way out of the code over a good table
+  module _ (x : Admitted) (e : x ≡ admittedOn t phase l v l v') where
+    pub environment-out : (row : ℕ) → x ≡ Out row → Refused row ≡ environmentOn t phase l v v'
+    unfolding environmentOn thenRules
+    environment-out row f = rw (sym e ∙ f)
+
+    module _ (q : Phase) (f : x ≡ In q) (s s' : State) (g : s ≡ stateOf q l v) (h : s' ≡ stateOf Running l v') (r : Bool) (i : r ≡ settledAt t s s') where
+      pub environment-yes : r ≡ true → Yes ≡ environmentOn t phase l v v'
+      unfolding environmentOn thenRules environmentIn
+      environment-yes j = rw (sym e ∙ f, rw (g, h) at (sym i ∙ j), environmentIn)
+
+      pub environment-no : r ≡ false → No ≡ environmentOn t phase l v v'
+      unfolding environmentOn thenRules environmentIn
+      environment-no j = rw (sym e ∙ f, rw (g, h) at (sym i ∙ j), environmentIn)
+
+  -- and over any
+  module _ (x : Checked) (e : x ≡ answered (openTable t)) where
+    pub environment-bad : (row : ℕ) → x ≡ C.Refused row → answerOf (Refused row) ≡ J.environmentAnswer t phase l v v'
+    unfolding environmentAt thenWords
+    environment-bad row f =
         let out : Refused row ≡ environmentAt t phase l v v' = rw (sym e ∙ f) in
         ap answerOf out ∙ environment-exact
 
-    module _ (q : Phase) (f : x ≡ In q) (s s' : State) (g : s ≡ stateOf q l v) (h : s' ≡ stateOf Running l v') (r : Bool) (i : r ≡ settledAt t s s') where
-      pub environment-yes : r ≡ true → answerOf Yes ≡ J.environmentAnswer t phase l v v'
-      unfolding environmentAt thenRules environmentIn
-      environment-yes j =
-          let out : Yes ≡ environmentAt t phase l v v' = rw (sym e ∙ f, rw (g, h) at (sym i ∙ j), environmentIn) in
-          ap answerOf out ∙ environment-exact
+    pub environment-good : x ≡ C.Good → (r : Answer) → r ≡ environmentOn t phase l v v' → answerOf r ≡ J.environmentAnswer t phase l v v'
+    unfolding environmentAt thenWords
+    environment-good f r g =
+        let out : r ≡ environmentAt t phase l v v' = rw (sym e ∙ f) g in
+        ap answerOf out ∙ environment-exact
 
-      pub environment-no : r ≡ false → answerOf No ≡ J.environmentAnswer t phase l v v'
-      unfolding environmentAt thenRules environmentIn
-      environment-no j =
-          let out : No ≡ environmentAt t phase l v v' = rw (sym e ∙ f, rw (g, h) at (sym i ∙ j), environmentIn) in
-          ap answerOf out ∙ environment-exact
+pub ruleset environment-on-laws = (environment-out, environment-yes, environment-no)
 
-pub ruleset environment-laws = (environment-out, environment-yes, environment-no)
+pub ruleset environment-laws = (environment-bad, environment-good)

@@ -14,11 +14,9 @@ use mir.Syntax.{w64}
 use mir.Val.{SFits, toZ, ofZ}
 use mir.ValLaws.{toZ-ofZ}
 use Rattle.model.specs.Basic.{between}
-use Rattle.model.specs.Table.{openTable}
 use Rattle.model.proofs.Tests.{not-true, not-false}
 use Rattle.evaluator.specs.Evaluate.{evaluate}
 use Rattle.outline.specs.Outline.{reach, countAt, afterAutomaton, locationAt, afterPredicate}
-use Rattle.table.specs.Check.{answered}
 use Rattle.table.specs.declared.Checked.{Checked}
 use Rattle.table.specs.declared.Checked.the-variants as C
 use Rattle.judge.specs.declared.Phase.{Phase}
@@ -32,7 +30,7 @@ use Rattle.judge.specs.States.{filled, stateOf}
 use Rattle.judge.specs.Places.{eachFrom}
 use Rattle.judge.specs.RowTests.{phaseRead, lengthsFit, locationKnown, locationsKnown, rangeHas, valuesKnown, actionKnown}
 use Rattle.judge.specs.Settled.{variablesShown, partAt, partHolds, locationHolds, allHold, startedIn, settledAt}
-use Rattle.judge.specs.Calls.{listsChecked, thenLists, thenPhase, thenTable, admittedAt}
+use Rattle.judge.specs.Calls.{listsChecked, thenLists, thenPhase, admittedOn}
 use Rattle.judge.proofs.WalkLaws.{automata-first, ranges-first}
 
 -- `State::of`
@@ -203,23 +201,18 @@ module _ (w l : List ℕ) (v : List ℤ) (l' : List ℕ) (v' : List ℤ) (a b : 
 pub ruleset lists-laws = (lists-21, lists-22, lists-23, lists-good)
 
 -- `admitted`
-module _ (t : List ℕ) (phase : ℕ) (l : List ℕ) (v : List ℤ) (l' : List ℕ) (v' : List ℤ) (x : Checked) (e : x ≡ answered (openTable t)) where
-  pub out-of-table : (row : ℕ) → x ≡ C.Refused row → Out row ≡ admittedAt t phase l v l' v'
-  unfolding admittedAt thenTable
-  out-of-table row h = rw (sym e ∙ h)
+module _ (w : List ℕ) (phase : ℕ) (l : List ℕ) (v : List ℤ) (l' : List ℕ) (v' : List ℤ) (y : Admitted) (f : y ≡ phaseRead phase) where
+  pub out-of-phase : (row : ℕ) → y ≡ Out row → Out row ≡ admittedOn w phase l v l' v'
+  unfolding admittedOn thenPhase
+  out-of-phase row g = rw (sym f ∙ g)
 
-  module _ (h : x ≡ C.Good) (y : Admitted) (f : y ≡ phaseRead phase) where
-    pub out-of-phase : (row : ℕ) → y ≡ Out row → Out row ≡ admittedAt t phase l v l' v'
-    unfolding admittedAt thenTable thenPhase
-    out-of-phase row g = rw (sym e ∙ h, sym f ∙ g)
+  module _ (p : Phase) (g : y ≡ In p) (z : Checked) (i : z ≡ listsChecked w l v l' v') where
+    pub out-of-lists : (row : ℕ) → z ≡ C.Refused row → Out row ≡ admittedOn w phase l v l' v'
+    unfolding admittedOn thenPhase thenLists
+    out-of-lists row j = rw (sym f ∙ g, sym i ∙ j)
 
-    module _ (p : Phase) (g : y ≡ In p) (z : Checked) (i : z ≡ listsChecked t l v l' v') where
-      pub out-of-lists : (row : ℕ) → z ≡ C.Refused row → Out row ≡ admittedAt t phase l v l' v'
-      unfolding admittedAt thenTable thenPhase thenLists
-      out-of-lists row j = rw (sym e ∙ h, sym f ∙ g, sym i ∙ j)
+    pub admitted-in : z ≡ C.Good → In p ≡ admittedOn w phase l v l' v'
+    unfolding admittedOn thenPhase thenLists
+    admitted-in j = rw (sym f ∙ g, sym i ∙ j)
 
-      pub admitted-in : z ≡ C.Good → In p ≡ admittedAt t phase l v l' v'
-      unfolding admittedAt thenTable thenPhase thenLists
-      admitted-in j = rw (sym e ∙ h, sym f ∙ g, sym i ∙ j)
-
-pub ruleset admitted-laws = (out-of-table, out-of-phase, out-of-lists, admitted-in)
+pub ruleset admitted-laws = (out-of-phase, out-of-lists, admitted-in)

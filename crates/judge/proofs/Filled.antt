@@ -18,6 +18,10 @@ module _ {A : Type 0} (n : ℕ) (other : A) (list : List A) where
   unfolding filled
   filled-front h = take-take (length list) n (list ++ replicate n other) h ∙ take-at list (replicate n other) (length list) refl
 
+  -- what is filled is not filled further
+  pub filled-twice : filled n other (filled n other list) ≡ filled n other list
+  filled-twice = unfold filled in take-at (take n (list ++ replicate n other)) (replicate n other) n (unfold filled in filled-length)
+
   pub filled-at : (k : ℕ) → k < n → getD (filled n other list) k other ≡ getD list k other
   unfolding filled
   filled-at k h = getD-take n (list ++ replicate n other) k other h ∙ past list k

@@ -7,3 +7,6 @@ pub mod SettledLaws
 pub mod CallLaws
 pub mod TakenLaws
 pub mod StepLaws
+pub mod RunCodeLaws
+pub mod NumberLaws
+pub mod RunLaws

@@ -6,7 +6,12 @@ use Prim.Native.Nat.{ℕ}
 use lib.IntN.{ℤ}
 use Rattle.model.specs.Model.{Model, inSet}
 use Rattle.model.specs.Judge as J
+use Rattle.model.specs.Table.{openTable}
 use Rattle.model.proofs.Tests.{not-true, not-false}
+use Rattle.table.specs.Check.{answered}
+use Rattle.table.specs.declared.Checked.{Checked}
+use Rattle.table.specs.declared.Checked.the-variants as C
+use Rattle.outline.proofs.Opened.{Sheet}
 use Rattle.judge.specs.declared.Phase.{Phase}
 use Rattle.judge.specs.declared.Phase.the-variants.{Running}
 use Rattle.judge.specs.declared.State.{State}
@@ -19,11 +24,11 @@ use Rattle.judge.specs.States.{stateOf}
 use Rattle.judge.specs.RowTests.{actionKnown}
 use Rattle.judge.specs.Settled.{settledAt}
 use Rattle.judge.specs.Taken.{takenAt, markAt}
-use Rattle.judge.specs.Calls.{admittedAt, thenRules, stepIn, stepAt}
+use Rattle.judge.specs.Calls.{admittedOn, thenRules, thenWords, stepIn, stepOn, stepAt}
 use Rattle.judge.proofs.RowLaws.{action-row}
 use Rattle.judge.proofs.SettledLaws.{settled-is}
 use Rattle.judge.proofs.TakenLaws.{taken-is, mark-is}
-use Rattle.judge.proofs.CallLaws.{Sheet, Pass, stands, listRows, call-exact, shows-old, shows-new}
+use Rattle.judge.proofs.CallLaws.{Pass, stands, listRows, call-exact, shows-old, shows-new}
 
 module _ (t : List ℕ) (phase : ℕ) (l : List ℕ) (v : List ℤ) (a : ℕ) (l' : List ℕ) (v' : List ℤ) where
   abbrev last : Model → Phase → J.Answer
@@ -61,25 +66,21 @@ module _ (t : List ℕ) (phase : ℕ) (l : List ℕ) (v : List ℤ) (a : ℕ) (l
           ∙ rw (f, taken-is t m sheet q l v l' v' a p, mark-is t m sheet a))
 
   pub step-exact : answerOf (stepAt t phase l v a l' v') ≡ J.stepAnswer t phase l v a l' v'
-  unfolding stepAt J.stepAnswer
+  unfolding stepAt stepOn J.stepAnswer
   step-exact = call-exact t phase l v l' v' (stepIn t l v a l' v') (λ m s. J.judgeStep m s a l' v') last step-rows step-passed
 
-  -- each way out of the code
-  module _ (x : Admitted) (e : x ≡ admittedAt t phase l v l' v') where
-    pub step-out : (row : ℕ) → x ≡ Out row → answerOf (Refused row) ≡ J.stepAnswer t phase l v a l' v'
-    unfolding stepAt thenRules
-    step-out row f =
-        let out : Refused row ≡ stepAt t phase l v a l' v' = rw (sym e ∙ f) in
-        ap answerOf out ∙ step-exact
+  -- each way out of the code over a good table
+  module _ (x : Admitted) (e : x ≡ admittedOn t phase l v l' v') where
+    pub step-out : (row : ℕ) → x ≡ Out row → Refused row ≡ stepOn t phase l v a l' v'
+    unfolding stepOn thenRules
+    step-out row f = rw (sym e ∙ f)
 
     module _ (q : Phase) (f : x ≡ In q) (k : Bool) (g : k ≡ actionKnown t a) where
-      by-rules : (y : Answer) → y ≡ stepIn t l v a l' v' q → answerOf y ≡ J.stepAnswer t phase l v a l' v'
-      unfolding stepAt thenRules
-      by-rules y h =
-          let out : y ≡ stepAt t phase l v a l' v' = rw (sym e ∙ f) h in
-          ap answerOf out ∙ step-exact
+      by-rules : (y : Answer) → y ≡ stepIn t l v a l' v' q → y ≡ stepOn t phase l v a l' v'
+      unfolding stepOn thenRules
+      by-rules y h = rw (sym e ∙ f) h
 
-      pub step-24 : not k ≡ true → answerOf (Refused 24) ≡ J.stepAnswer t phase l v a l' v'
+      pub step-24 : not k ≡ true → Refused 24 ≡ stepOn t phase l v a l' v'
       unfolding stepIn
       step-24 h =
           let unknown : actionKnown t a ≡ false = sym g ∙ not-true k h in
@@ -89,7 +90,7 @@ module _ (t : List ℕ) (phase : ℕ) (l : List ℕ) (v : List ℤ) (a : ℕ) (l
         acts : actionKnown t a ≡ true
         acts = sym g ∙ not-false k h
 
-        pub step-unsettled : not b ≡ true → answerOf No ≡ J.stepAnswer t phase l v a l' v'
+        pub step-unsettled : not b ≡ true → No ≡ stepOn t phase l v a l' v'
         unfolding stepIn
         step-unsettled n =
             let unsettled : settledAt t (stateOf q l v) (stateOf Running l' v') ≡ false = rw (i, j) at (sym o ∙ not-true b n) in
@@ -99,16 +100,32 @@ module _ (t : List ℕ) (phase : ℕ) (l : List ℕ) (v : List ℤ) (a : ℕ) (l
           is-settled : settledAt t (stateOf q l v) (stateOf Running l' v') ≡ true
           is-settled = rw (i, j) at (sym o ∙ not-false b n)
 
-          pub step-untaken : not c ≡ true → answerOf No ≡ J.stepAnswer t phase l v a l' v'
+          pub step-untaken : not c ≡ true → No ≡ stepOn t phase l v a l' v'
           unfolding stepIn
           step-untaken y =
               let none : takenAt t a (stateOf q l v) (stateOf Running l' v') ≡ false = rw (i, j) at (sym w ∙ not-true c y) in
               by-rules No (rw (acts, stepIn, is-settled, stepIn, none, stepIn))
 
-          pub step-taken : not c ≡ false → (r : Bool) → r ≡ markAt t a → answerOf (Marked r) ≡ J.stepAnswer t phase l v a l' v'
+          pub step-taken : not c ≡ false → (r : Bool) → r ≡ markAt t a → Marked r ≡ stepOn t phase l v a l' v'
           unfolding stepIn
           step-taken y r z =
               let some-move : takenAt t a (stateOf q l v) (stateOf Running l' v') ≡ true = rw (i, j) at (sym w ∙ not-false c y) in
               by-rules (Marked r) (rw (acts, stepIn, is-settled, stepIn, some-move, stepIn) (ap Marked z))
 
-pub ruleset step-laws = (step-out, step-24, step-unsettled, step-untaken, step-taken)
+  -- and over any
+  module _ (x : Checked) (e : x ≡ answered (openTable t)) where
+    pub step-bad : (row : ℕ) → x ≡ C.Refused row → answerOf (Refused row) ≡ J.stepAnswer t phase l v a l' v'
+    unfolding stepAt thenWords
+    step-bad row f =
+        let out : Refused row ≡ stepAt t phase l v a l' v' = rw (sym e ∙ f) in
+        ap answerOf out ∙ step-exact
+
+    pub step-good : x ≡ C.Good → (r : Answer) → r ≡ stepOn t phase l v a l' v' → answerOf r ≡ J.stepAnswer t phase l v a l' v'
+    unfolding stepAt thenWords
+    step-good f r g =
+        let out : r ≡ stepAt t phase l v a l' v' = rw (sym e ∙ f) g in
+        ap answerOf out ∙ step-exact
+
+pub ruleset step-on-laws = (step-out, step-24, step-unsettled, step-untaken, step-taken)
+
+pub ruleset step-laws = (step-bad, step-good)

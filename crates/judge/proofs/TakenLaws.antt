@@ -7,7 +7,7 @@ use native.Mathlib.Omega.{arith}
 use lib.IntN.{ℤ}
 use lib.ListN.{length, getD, take, drop, replicate}
 use lib.Seq.{take-at, length-take-le}
-use lib.Dec.{eqb, leb}
+use lib.Dec.{leb}
 use borrow.Author.Tests.{le-leb, lt-leb, leb-true}
 use Rattle.model.specs.Basic.{exists}
 use Rattle.model.specs.Composition.{treeSize}
@@ -16,7 +16,7 @@ use Rattle.model.specs.Table.{lineWords}
 use Rattle.model.specs.Rules as R
 use Rattle.model.specs.Moves.{moves}
 use Rattle.model.specs.Judge as J
-use Rattle.model.proofs.Tests.{and-left, and-right, not-false, eq-of, or-none-left, or-none-right}
+use Rattle.model.proofs.Tests.{or-none-left, or-none-right}
 use Rattle.outline.specs.Outline.{reach, countAt, treeAt}
 use Rattle.outline.proofs.OutlineLaws.{reached, tree-at}
 use Rattle.tree.specs.Nodes.{treeWords}
@@ -31,6 +31,7 @@ use Rattle.candidates.proofs.WalkLaws.{masks-long, first-long}
 use Rattle.candidates.proofs.MaskLaws.{changed-mask, still-bit}
 use Rattle.candidates.proofs.OffersLaws.{gather-offers}
 use Rattle.candidates.proofs.AgreeLaws.{own-agrees, leaves-agree}
+use Rattle.outline.proofs.Opened.{Sheet}
 use Rattle.judge.specs.declared.Phase.{Phase}
 use Rattle.judge.specs.declared.Phase.the-variants.{Running}
 use Rattle.judge.specs.declared.State.{State}
@@ -40,7 +41,7 @@ use Rattle.judge.specs.Taken.{automataShown, treePlace, takenIn, takenAt
 use Rattle.judge.proofs.Filled.{filled-front}
 use Rattle.judge.proofs.RowLaws.{automata-in}
 use Rattle.judge.proofs.SettledLaws.{shown-is}
-use Rattle.judge.proofs.CallLaws.{Sheet, Pass, stands, shows-old, shows-new}
+use Rattle.judge.proofs.CallLaws.{one-each, one-value, Pass, stands, shows-old, shows-new}
 
 -- `automata`
 pub automata-all : (w : List ℕ) (c n : ℕ) → c ≡ countAt w → n ≡ getD w c 0 → n ≤ 16 → n ≡ automataShown w
@@ -110,11 +111,15 @@ module _ (t : List ℕ) (m : Model) (sheet : Sheet t m) where
       let d : drop (reach t (treeAt t) 1) t ≡ c ++ sheet .rest = reached t (treeAt t) 1 (treeSize (m .tree) ∷ []) (c ++ sheet .rest) (tree-at t (sheet .rest) m (sheet .stands)) refl in
       ap (take (length c)) d ∙ take-at c (sheet .rest) (length c) refl
 
-  automata-is : automataShown t ≡ length (m .automata)
+  pub automata-is : automataShown t ≡ length (m .automata)
   unfolding automataShown
   automata-is =
       let n = automata-in t (sheet .rest) m (sheet .stands) in
       rw (n, le-leb (length (m .automata)) 16 (sheet .lawful .few-automata), automataShown) n
+
+  -- the lists of a state stand at the front of the code's arrays
+  pub in-front : (k : List ℕ) → length k ≡ length (m .automata) → take (automataShown t) (filled 16 0 k) ≡ k
+  in-front k e = rw (automata-is, ← e) (filled-front 16 0 k (rw e (sheet .lawful .few-automata)))
 
   -- the search finds taking edges exactly where some move of the composition fits the step
   pub taken-is : (q : Phase) (l : List ℕ) (v : List ℤ) (l' : List ℕ) (v' : List ℤ) (a : ℕ) → Pass m (stands q l v) (stands Running l' v')
@@ -126,27 +131,18 @@ module _ (t : List ℕ) (m : Model) (sheet : Sheet t m) where
       let ok = sheet .lawful in
       let old = shows-old m ok q Running l v l' v' p in
       let new = shows-new m ok q Running l v l' v' p in
-      let n : length l ≡ length (m .automata) = one-each u (or-none-left (J.row21 m u) (J.row21 m u') (p .no-21)) in
-      let n' : length l' ≡ length (m .automata) = one-each u' (or-none-right (J.row21 m u) (J.row21 m u') (p .no-21)) in
-      let vn : length v ≡ length (m .variables) = one-value u (or-none-left (J.row21 m u) (J.row21 m u') (p .no-21)) in
+      let n : length l ≡ length (m .automata) = one-each m u (or-none-left (J.row21 m u) (J.row21 m u') (p .no-21)) in
+      let n' : length l' ≡ length (m .automata) = one-each m u' (or-none-right (J.row21 m u) (J.row21 m u') (p .no-21)) in
+      let vn : length v ≡ length (m .variables) = one-value m u (or-none-left (J.row21 m u) (J.row21 m u') (p .no-21)) in
       let few = ok .few-automata in
       let masks = masksAfter t v v' l l' a (replicate 512 0) (replicate 17 0) in
       let first = firstAfter t v v' l l' a (replicate 512 0) (replicate 17 0) in
-      rw (automata-is, in-front l n, in-front l' n', shown-is m ok t (sheet .rest) (sheet .stands), old .values, new .values, changed-mask m u u' vn (ok .few-variables))
+      rw (in-front l n, in-front l' n', shown-is m ok t (sheet .rest) (sheet .stands), old .values, new .values, changed-mask m u u' vn (ok .few-variables))
       (found-is m ok u a u' t (treePlace t) (ownSets t) masks first (stillBits l l') tree-stands
       (λ k h. own-agrees t (sheet .rest) m ok (sheet .stands) a k)
       (gather-offers t (sheet .rest) m ok (sheet .stands) u a u' (old .inside) (new .inside) (replicate 512 0) (replicate 17 0) (omega arith) (omega arith) (zeros 17))
       (λ k h. still-bit u u' k (omega arith) (omega arith)))
     where
-      one-each : (u : R.State) → J.row21 m u ≡ false → length (u .locations) ≡ length (m .automata)
-      one-each u h = unfold J.row21 in eq-of (length (u .locations)) (length (m .automata)) (and-left (eqb (length (u .locations)) (length (m .automata))) (J.hasValues m (u .values)) (not-false _ h))
-
-      one-value : (u : R.State) → J.row21 m u ≡ false → length (u .values) ≡ length (m .variables)
-      one-value u h = unfold J.row21 J.hasValues in eq-of (length (u .values)) (length (m .variables)) (and-right (eqb (length (u .locations)) (length (m .automata))) _ (not-false _ h))
-
-      in-front : (k : List ℕ) → length k ≡ length (m .automata) → take (length (m .automata)) (filled 16 0 k) ≡ k
-      in-front k e = rw (← e) (filled-front 16 0 k (rw e (sheet .lawful .few-automata)))
-
       zeros : (n j : ℕ) → _≡_ {A = ℕ} (getD (replicate n 0) j 0) 0
       zeros zero j = refl
       zeros (suc n) zero = refl

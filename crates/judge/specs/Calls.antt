@@ -1,4 +1,4 @@
--- Rows 18 to 23 of a call, in their order, and then the rules.
+-- The rows of a call, in their order, and then the rules.
 use mathlib.Core.Bool.{true, false, not, _||_}
 use mathlib.Core.List.{List}
 use Prim.Native.Nat.{ℕ}
@@ -42,27 +42,32 @@ unfoldable pub thenPhase : Admitted → Checked → Admitted
 thenPhase (Out row) lists = Out row
 thenPhase (In phase) lists = thenLists lists phase
 
-unfoldable pub thenTable : Checked → Admitted → Admitted
-thenTable (C.Refused row) others = Out row
-thenTable C.Good others = others
-
-unfoldable pub admittedAt : (table : List ℕ) (phase : ℕ) (locations : List ℕ) (values : List ℤ) (newLocations : List ℕ) (newValues : List ℤ) → Admitted
-admittedAt table phase locations values newLocations newValues =
-    thenTable (answered (openTable table)) (thenPhase (phaseRead phase) (listsChecked table locations values newLocations newValues))
+-- rows 20 to 23, over the words of a table
+unfoldable pub admittedOn : (words : List ℕ) (phase : ℕ) (locations : List ℕ) (values : List ℤ) (newLocations : List ℕ) (newValues : List ℤ) → Admitted
+admittedOn words phase locations values newLocations newValues = thenPhase (phaseRead phase) (listsChecked words locations values newLocations newValues)
 
 -- the refusal, or what the rules answer in the phase
 unfoldable pub thenRules : Admitted → (Phase → Answer) → Answer
 thenRules (Out row) rules = Refused row
 thenRules (In phase) rules = rules phase
 
+-- the refusal of a table, or the answer over its words
+unfoldable pub thenWords : Checked → Answer → Answer
+thenWords (C.Refused row) answer = Refused row
+thenWords C.Good answer = answer
+
 -- the environment judge: every automaton is still
 unfoldable pub environmentIn : (table locations : List ℕ) (values newValues : List ℤ) → Phase → Answer
 environmentIn table locations values newValues phase =
     elim (settledAt table (stateOf phase locations values) (stateOf Running locations newValues)) [ true ↦ Yes | false ↦ No ]
 
+unfoldable pub environmentOn : (table : List ℕ) (phase : ℕ) (locations : List ℕ) (values newValues : List ℤ) → Answer
+environmentOn table phase locations values newValues =
+    thenRules (admittedOn table phase locations values locations newValues) (environmentIn table locations values newValues)
+
 unfoldable pub environmentAt : (table : List ℕ) (phase : ℕ) (locations : List ℕ) (values newValues : List ℤ) → Answer
 environmentAt table phase locations values newValues =
-    thenRules (admittedAt table phase locations values locations newValues) (environmentIn table locations values newValues)
+    thenWords (answered (openTable table)) (environmentOn table phase locations values newValues)
 
 -- the step judge: row 24; then what holds of every automaton; then whether some of them can take the action, and its mark
 unfoldable pub stepIn : (table locations : List ℕ) (values : List ℤ) (action : ℕ) (newLocations : List ℕ) (newValues : List ℤ) → Phase → Answer
@@ -76,6 +81,10 @@ stepIn table locations values action newLocations newValues phase =
           ]
     ]
 
+unfoldable pub stepOn : (table : List ℕ) (phase : ℕ) (locations : List ℕ) (values : List ℤ) (action : ℕ) (newLocations : List ℕ) (newValues : List ℤ) → Answer
+stepOn table phase locations values action newLocations newValues =
+    thenRules (admittedOn table phase locations values newLocations newValues) (stepIn table locations values action newLocations newValues)
+
 unfoldable pub stepAt : (table : List ℕ) (phase : ℕ) (locations : List ℕ) (values : List ℤ) (action : ℕ) (newLocations : List ℕ) (newValues : List ℤ) → Answer
 stepAt table phase locations values action newLocations newValues =
-    thenRules (admittedAt table phase locations values newLocations newValues) (stepIn table locations values action newLocations newValues)
+    thenWords (answered (openTable table)) (stepOn table phase locations values action newLocations newValues)

@@ -5,3 +5,5 @@ pub mod RowTests
 pub mod Settled
 pub mod Taken
 pub mod Calls
+pub mod RunAnswer
+pub mod RunWords

@@ -3,6 +3,8 @@ use mathlib.Core.List.{List, _++_}
 use Prim.Native.Nat.{ℕ}
 use lib.IntN.{ℤ, pos}
 use lib.ListN.{take, replicate}
+use Rattle.model.specs.Rules as R
+use Rattle.judge.specs.Answers.{phaseFor}
 use Rattle.judge.specs.declared.Phase.{Phase}
 use Rattle.judge.specs.declared.State.{State}
 
@@ -12,3 +14,7 @@ filled n other list = take n (list ++ replicate n other)
 
 unfoldable pub stateOf : Phase → List ℕ → List ℤ → State
 stateOf phase locations values = record { phase = phase; locations = filled 16 0 locations; values = filled 48 (pos 0) values }
+
+-- a state of the definitions, in such arrays
+abbrev pub held : R.State → State
+held u = stateOf (phaseFor (u .phase)) (u .locations) (u .values)

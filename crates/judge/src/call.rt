@@ -1,9 +1,9 @@
-// Rows 18 to 23 of a call, in their order.
+// Rows 20 to 23 of a call, in their order.
 use crate::Admitted;
 use crate::rows::{self};
 use table::Checked;
 ghost use mathlib.Core.Path.{_≡_};
-ghost use Rattle.judge.specs.Calls.{listsChecked, admittedAt};
+ghost use Rattle.judge.specs.Calls.{listsChecked, admittedOn};
 
 // Rows 21 to 23: the lists before and after, over the words of a table.
 fn lists(
@@ -29,24 +29,21 @@ fn lists(
     Checked::Good
 }
 
-// All six rows: the phase of a call that passes, or the first row that refuses it.
+// Rows 20 to 23, over the words of a table: the phase of a call that passes, or the first row that refuses it.
 pub(crate) fn admitted(
-    table: &[u32],
+    words: &[u32],
     phase: u32,
     locations: &[u32],
     values: &[i32],
     new_locations: &[u32],
     new_values: &[i32],
 ) -> Admitted
-    ensures { λ r. ⌜ r ≡ admittedAt (now (table .entry)) phase (now (locations .entry)) (now (values .entry)) (now («new_locations» .entry)) (now («new_values» .entry)) ⌝ }
+    ensures { λ r. ⌜ r ≡ admittedOn (now (words .entry)) phase (now (locations .entry)) (now (values .entry)) (now («new_locations» .entry)) (now («new_values» .entry)) ⌝ }
 {
-    if let Checked::Refused(row) = table::check(table) {
-        return Admitted::Out(row);
-    }
     let read = rows::phase_of(phase);
     match read {
         Admitted::Out(row) => Admitted::Out(row),
-        Admitted::In(p) => match lists(table, locations, values, new_locations, new_values) {
+        Admitted::In(p) => match lists(words, locations, values, new_locations, new_values) {
             Checked::Refused(row) => Admitted::Out(row),
             Checked::Good => Admitted::In(p),
         },

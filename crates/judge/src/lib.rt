@@ -2,12 +2,18 @@
 mod call;
 mod fill;
 mod rows;
+mod runs;
 mod settled;
 mod taken;
 
+use table::Checked;
 ghost use mathlib.Core.Path.{_≡_};
+ghost use Prim.Native.Nat.{_%_, _^_};
+ghost use lib.ListN.{length};
 ghost use Rattle.model.specs.Judge.{stepAnswer, environmentAnswer};
-ghost use Rattle.judge.specs.Answers.{answerOf};
+ghost use Rattle.judge.specs.Answers.{answerOf, answerNumber};
+ghost use Rattle.judge.specs.Calls.{environmentOn, stepOn};
+ghost use Rattle.judge.specs.RunAnswer.{runAnswer, ranOf, answersAfter};
 
 // Phase 0 is Start, phase 1 Running.
 pub enum Phase {
@@ -30,6 +36,12 @@ pub enum Answer {
     Refused(u32),
 }
 
+// A run's end: row 0 and the state it ends in; or the row that refuses it as a whole, and a state of zeros.
+pub struct Ran {
+    pub row: u32,
+    pub state: State,
+}
+
 // What the rows say of a call: it passes, in this phase; or the row that refuses it.
 pub enum Admitted {
     In(Phase),
@@ -45,6 +57,22 @@ pub fn environment(
     new_values: &[i32],
 ) -> Answer
     ensures { λ r. ⌜ answerOf r ≡ environmentAnswer (now (table .entry)) phase (now (locations .entry)) (now (values .entry)) (now («new_values» .entry)) ⌝ }
+{
+    if let Checked::Refused(row) = table::check(table) {
+        return Answer::Refused(row);
+    }
+    environment_on(table, phase, locations, values, new_values)
+}
+
+// The same over a table that is known to be good.
+pub(crate) fn environment_on(
+    table: &[u32],
+    phase: u32,
+    locations: &[u32],
+    values: &[i32],
+    new_values: &[i32],
+) -> Answer
+    ensures { λ r. ⌜ r ≡ environmentOn (now (table .entry)) phase (now (locations .entry)) (now (values .entry)) (now («new_values» .entry)) ⌝ }
 {
     // The automata keep their locations.
     let admitted = call::admitted(table, phase, locations, values, locations, new_values);
@@ -74,6 +102,32 @@ pub fn step(
 ) -> Answer
     ensures { λ r. ⌜ answerOf r ≡ stepAnswer (now (table .entry)) phase (now (locations .entry)) (now (values .entry)) action (now («new_locations» .entry)) (now («new_values» .entry)) ⌝ }
 {
+    if let Checked::Refused(row) = table::check(table) {
+        return Answer::Refused(row);
+    }
+    step_on(
+        table,
+        phase,
+        locations,
+        values,
+        action,
+        new_locations,
+        new_values,
+    )
+}
+
+// The same over a table that is known to be good.
+pub(crate) fn step_on(
+    table: &[u32],
+    phase: u32,
+    locations: &[u32],
+    values: &[i32],
+    action: u32,
+    new_locations: &[u32],
+    new_values: &[i32],
+) -> Answer
+    ensures { λ r. ⌜ r ≡ stepOn (now (table .entry)) phase (now (locations .entry)) (now (values .entry)) action (now («new_locations» .entry)) (now («new_values» .entry)) ⌝ }
+{
     let admitted = call::admitted(table, phase, locations, values, new_locations, new_values);
     match admitted {
         Admitted::Out(row) => Answer::Refused(row),
@@ -90,6 +144,57 @@ pub fn step(
                 return Answer::No;
             }
             Answer::Marked(taken::mark(table, action))
+        }
+    }
+}
+
+// An answer as one number: 0 no, 1 yes, 2 yes with the mark true; 100 + row refused. The sum wraps on no answer that a judge gives.
+pub fn number(answer: Answer) -> u32
+    ensures { λ r. ⌜ r ≡ answerNumber (answerOf answer) % 2 ^ 32 ⌝ }
+{
+    match answer {
+        Answer::No => 0,
+        Answer::Yes => 1,
+        Answer::Marked(mark) => { if mark { 2 } else { 1 } }
+        Answer::Refused(row) => std::num::wrapping_add_u32(100, row),
+    }
+}
+
+// Puts a list of proposals to the judges, over one check of the table. For each: its action, or 4294967295 for the environment judge;
+// its locations, which that judge does not read; its values. A yes moves the run to the proposed state. The answers' numbers go into
+// `answers`, and the rest of it is as it was.
+pub fn run(
+    table: &[u32],
+    phase: u32,
+    locations: &[u32],
+    values: &[i32],
+    actions: &[u32],
+    new_locations: &[u32],
+    new_values: &[i32],
+    answers: &mut [u32],
+) -> Ran
+    ensures { λ r. ⌜ r ≡ ranOf (runAnswer (now (table .entry)) phase (now (locations .entry)) (now (values .entry)) (now (actions .entry)) (now («new_locations» .entry)) (now («new_values» .entry)) (length (now (answers .entry)))) ⌝ }
+    ensures { λ _. ⌜ now (answers .exit) ≡ answersAfter (runAnswer (now (table .entry)) phase (now (locations .entry)) (now (values .entry)) (now (actions .entry)) (now («new_locations» .entry)) (now («new_values» .entry)) (length (now (answers .entry)))) (now (answers .entry)) ⌝ }
+{
+    if let Checked::Refused(row) = table::check(table) {
+        return runs::refused(row);
+    }
+    let begun = runs::begun(
+        table,
+        phase,
+        locations,
+        values,
+        actions.len(),
+        new_locations.len(),
+        new_values.len(),
+        answers.len(),
+    );
+    match begun {
+        Admitted::Out(row) => runs::refused(row),
+        Admitted::In(p) => {
+            let start = State::of(p, locations, values);
+            let state = runs::all(table, start, actions, new_locations, new_values, answers);
+            Ran { row: 0, state }
         }
     }
 }

@@ -2,9 +2,12 @@
 use crate::Admitted;
 use crate::Phase;
 ghost use mathlib.Core.Path.{_≡_};
+ghost use Prim.Native.Nat.{_*_};
 ghost use lib.ListN.{getD};
+ghost use lib.Dec.{eqb};
 ghost use Rattle.model.specs.Basic.{between};
 ghost use Rattle.judge.specs.RowTests.{phaseRead, lengthsFit, locationKnown, locationsKnown, rangeHas, valuesKnown, actionKnown};
+ghost use Rattle.judge.specs.RunWords.{listsFit};
 
 // Row 20: which phase has this number?
 pub(crate) fn phase_of(phase: u32) -> Admitted
@@ -24,6 +27,25 @@ pub(crate) fn lengths(words: &[u32], locations: usize, values: usize) -> bool
     let automata = outline::word(words, outline::count_at(words));
     let variables = outline::word(words, 2);
     (locations == automata) & (values == variables)
+}
+
+// Is the total n times the count? The product is not made: it might not fit.
+fn times(total: usize, n: usize, count: usize) -> bool
+    ensures { λ r. ⌜ r ≡ eqb total (n * count) ⌝ }
+{
+    if n == 0 {
+        return total == 0;
+    }
+    (total / n == count) & (total % n == 0)
+}
+
+// Row 21 of a run: so many locations and values are those of `count` proposals.
+pub(crate) fn lengths_for(words: &[u32], count: usize, locations: usize, values: usize) -> bool
+    ensures { λ r. ⌜ r ≡ listsFit (now (words .entry)) count locations values ⌝ }
+{
+    let automata = outline::word(words, outline::count_at(words));
+    let variables = outline::word(words, 2);
+    times(locations, automata, count) & times(values, variables, count)
 }
 
 // The automaton at `at` has the location that the list gives automaton k.

@@ -5,7 +5,7 @@ ghost use mathlib.Core.Path.{_≡_};
 ghost use Rattle.judge.specs.Taken.{automataShown, treePlace, takenIn, takenAt, markAt};
 
 // N, as far as a state has locations.
-fn automata(words: &[u32]) -> usize
+pub(crate) fn automata(words: &[u32]) -> usize
     ensures { λ r. ⌜ r ≡ automataShown (now (words .entry)) ⌝ }
 {
     let n = outline::word(words, outline::count_at(words));

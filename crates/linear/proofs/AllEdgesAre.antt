@@ -29,15 +29,15 @@ use Rattle.moves.proofs.Plans.{Told}
 use Rattle.moves.proofs.Whole.{plan-is, pick-is, pick-there}
 use Rattle.outline.specs.Outline.{reach, afterPredicate, edgesAt, afterAutomaton, automatonAt, treeAt}
 use Rattle.outline.proofs.OutlineLaws.{read, reached, wordsOf, edgeWords, automatonWords, words-append, after-predicate, edges-at, first-edge, after-automaton}
-use Rattle.linear.specs.Append.{narrow}
-use Rattle.linear.specs.NodeWords.{most, capped}
-use Rattle.linear.specs.Head.{automataOf}
-use Rattle.linear.specs.MergedEdge.{isUnder, atMost, edgeWordsAt}
-use Rattle.linear.specs.MergedEdges.{oneMore, underFrom, underAt, countsFrom, countsOf, rootOf, cellsOf, moveTotal, picksOf, edgesFrom, edgesUnder, edgesOf}
-use Rattle.linear.specs.Sync.{ownSets}
-use Rattle.linear.proofs.NodeLaws.{capped-is}
-use Rattle.linear.proofs.EdgeLaws.{at-most-is}
-use Rattle.linear.proofs.AllEdgesLaws.{more-here, more-not}
+use Rattle.merging.specs.Append.{narrow}
+use Rattle.merging.specs.NodeWords.{most, capped}
+use Rattle.merging.specs.Head.{automataOf}
+use Rattle.merging.specs.MergedEdge.{isUnder, atMost, edgeWordsAt}
+use Rattle.merging.specs.MergedEdges.{oneMore, underFrom, underAt, countsFrom, countsOf, rootOf, cellsOf, moveTotal, picksOf, edgesFrom, edgesUnder, edgesOf}
+use Rattle.merging.specs.Sync.{ownSets}
+use Rattle.merging.proofs.NodeLaws.{capped-is}
+use Rattle.merging.proofs.EdgeLaws.{at-most-is}
+use Rattle.merging.proofs.AllEdgesLaws.{more-here, more-not}
 use Rattle.linear.proofs.Standing.{narrow-is, automata-cons}
 use Rattle.linear.proofs.HeadIs.{automata-are, automata-stand}
 use Rattle.linear.proofs.ClausesAre.{capped-most, capped-add}

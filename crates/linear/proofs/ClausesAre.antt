@@ -21,12 +21,12 @@ use Rattle.model.proofs.LinearLimits.{preds-count, locations-length, automata-l
 use Rattle.outline.specs.Outline.{reach, afterPredicate, afterAutomaton, automatonAt}
 use Rattle.outline.proofs.OutlineLaws as O
 use Rattle.outline.proofs.OutlineLaws.{read, locationWords, automatonWords, locations-count, first-location, after-automaton, after-predicate}
-use Rattle.linear.specs.Append.{narrow}
-use Rattle.linear.specs.Runs.{nodesAt}
-use Rattle.linear.specs.NodeWords.{upward, allNode, numberNode, oldNode, pointerOf, most, capped}
-use Rattle.linear.specs.Head.{variablesOf, automataOf}
-use Rattle.linear.specs.Clauses.{partAt, clauseWords, locationClauses, automatonClauses, automataClauses, locationNodes, automataNodes, locationTotal, mergedNodes, mergedWords}
-use Rattle.linear.proofs.NodeLaws.{capped-over, capped-is}
+use Rattle.merging.specs.Append.{narrow}
+use Rattle.merging.specs.Runs.{nodesAt}
+use Rattle.merging.specs.NodeWords.{upward, allNode, numberNode, oldNode, pointerOf, most, capped}
+use Rattle.merging.specs.Head.{variablesOf, automataOf}
+use Rattle.merging.specs.Clauses.{partAt, clauseWords, locationClauses, automatonClauses, automataClauses, locationNodes, automataNodes, locationTotal, mergedNodes, mergedWords}
+use Rattle.merging.proofs.NodeLaws.{capped-over, capped-is}
 use Rattle.linear.proofs.Standing.{narrow-is, run-length, count-stands, nodes-stand, automata-cons}
 use Rattle.linear.proofs.HeadIs.{pointer-sum, upward-small, variables-are, automata-are, automata-stand, few-locations}
 

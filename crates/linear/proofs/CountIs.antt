@@ -21,11 +21,11 @@ use Rattle.moves.specs.declared.planning.Planned.{Planned}
 use Rattle.moves.specs.Capping as M
 use Rattle.moves.proofs.CappingLaws.{cap-small, cap-large}
 use Rattle.moves.proofs.Whole.{plan-is}
-use Rattle.linear.specs.NodeWords.{pointerOf, most, capped}
-use Rattle.linear.specs.Head.{variablesOf, automataOf}
-use Rattle.linear.specs.MergedEdges.{countsOf, rootOf, moveTotal, movesOf}
-use Rattle.linear.specs.Sync.{ownSets}
-use Rattle.linear.proofs.NodeLaws.{capped-over, capped-is}
+use Rattle.merging.specs.NodeWords.{pointerOf, most, capped}
+use Rattle.merging.specs.Head.{variablesOf, automataOf}
+use Rattle.merging.specs.MergedEdges.{countsOf, rootOf, moveTotal, movesOf}
+use Rattle.merging.specs.Sync.{ownSets}
+use Rattle.merging.proofs.NodeLaws.{capped-over, capped-is}
 use Rattle.linear.proofs.HeadIs.{pointer-sum, variables-are, automata-are}
 use Rattle.linear.proofs.SyncIs.{tree-stands}
 use Rattle.linear.proofs.AllEdgesAre.{told}

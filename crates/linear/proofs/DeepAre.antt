@@ -21,10 +21,10 @@ use Rattle.model.specs.Linear.{pointer, atLocations, atAutomata, mergedInit, me
 use Rattle.model.proofs.Tests.{exists-append}
 use Rattle.outline.specs.Outline.{reach, afterPredicate, afterAutomaton, automatonAt}
 use Rattle.outline.proofs.OutlineLaws.{read, locationWords, automatonWords, locations-count, first-location, after-automaton}
-use Rattle.linear.specs.Head.{automataOf}
-use Rattle.linear.specs.Clauses.{partAt}
-use Rattle.linear.specs.MergedEdge.{takers}
-use Rattle.linear.specs.Depths.{isDeeper, locationsDeeper, automataDeeper, mergedDeep, updatesDeep}
+use Rattle.merging.specs.Head.{automataOf}
+use Rattle.merging.specs.Clauses.{partAt}
+use Rattle.merging.specs.MergedEdge.{takers}
+use Rattle.merging.specs.Depths.{isDeeper, locationsDeeper, automataDeeper, mergedDeep, updatesDeep}
 use Rattle.linear.proofs.Standing.{automata-cons}
 use Rattle.linear.proofs.HeadIs.{automata-are, automata-stand}
 use Rattle.linear.proofs.ClausesAre.{Part, init-part, inv-part, location-cons, past-location}

@@ -14,10 +14,10 @@ use Rattle.model.specs.Predicate.{Pred, Preds, Expr, all, any, negate, imp, eq,
 use Rattle.model.specs.Table.{code, biased, predWords}
 use Rattle.outline.specs.Outline.{reach}
 use Rattle.outline.proofs.OutlineLaws.{read, reached}
-use Rattle.linear.specs.declared.depth.Depth.{Depth}
-use Rattle.linear.specs.NodeWords.{most, capped}
-use Rattle.linear.specs.Depths.{operandsBy, operandsOf, depthTo, greater, deepest, depthAt, isDeeper}
-use Rattle.linear.proofs.NodeLaws.{capped-is}
+use Rattle.merging.specs.declared.depth.Depth.{Depth}
+use Rattle.merging.specs.NodeWords.{most, capped}
+use Rattle.merging.specs.Depths.{operandsBy, operandsOf, depthTo, greater, deepest, depthAt, isDeeper}
+use Rattle.merging.proofs.NodeLaws.{capped-is}
 
 -- the operands of a word
 pub arity : Word → ℕ

@@ -26,13 +26,13 @@ use Rattle.model.proofs.Lists.{keep-out}
 use Rattle.model.proofs.LinearLimits.{preds-count, pointers-length}
 use Rattle.outline.specs.Outline.{reach, afterPredicate, edgesAt, afterAutomaton, automatonAt}
 use Rattle.outline.proofs.OutlineLaws.{read, reached, wordsOf as linesOf, edgeWords, automatonWords, after-predicate, sheet-parts, edges-at, first-edge, after-automaton}
-use Rattle.linear.specs.Runs.{nodesAt}
-use Rattle.linear.specs.NodeWords.{allNode, numberNode, oldNode, newNode, pointerOf, most, capped}
-use Rattle.linear.specs.Head.{variablesOf, automataOf}
-use Rattle.linear.specs.Depths.{updateDeep, updatesDeep}
-use Rattle.linear.specs.MergedEdge.{isUnder, still, edgeUnder, takenAt, takenFrom, atMost, takers, updateAt, moveAt, updatesAt, movesAt, takerNodes, takersNodes, takerOperands, takersOperands, edgeBy, edgeWordsAt}
-use Rattle.linear.proofs.NodeLaws.{capped-is}
-use Rattle.linear.proofs.EdgeLaws.{at-most-is}
+use Rattle.merging.specs.Runs.{nodesAt}
+use Rattle.merging.specs.NodeWords.{allNode, numberNode, oldNode, newNode, pointerOf, most, capped}
+use Rattle.merging.specs.Head.{variablesOf, automataOf}
+use Rattle.merging.specs.Depths.{updateDeep, updatesDeep}
+use Rattle.merging.specs.MergedEdge.{isUnder, still, edgeUnder, takenAt, takenFrom, atMost, takers, updateAt, moveAt, updatesAt, movesAt, takerNodes, takersNodes, takerOperands, takersOperands, edgeBy, edgeWordsAt}
+use Rattle.merging.proofs.NodeLaws.{capped-is}
+use Rattle.merging.proofs.EdgeLaws.{at-most-is}
 use Rattle.linear.proofs.Standing.{narrow-is, run-length, nodes-stand, automata-cons}
 use Rattle.linear.proofs.HeadIs.{pointer-sum, variables-are, automata-are, automata-stand}
 use Rattle.linear.proofs.ClausesAre.{capped-most, capped-add, codes, codes-append, codes-cons, number-code, old-code, all-code}

@@ -15,10 +15,10 @@ use Rattle.model.specs.Table.{biased, lineWords, sheetWords}
 use Rattle.model.specs.Linear.{pointerRange, linear}
 use Rattle.outline.specs.Outline.{reach, afterAutomaton, countAt, automatonAt}
 use Rattle.outline.proofs.OutlineLaws.{read, reached, wordsOf, automatonWords, words-append, locations-count, after-automaton, ranges-length, sheet-parts, count-at, automaton-at}
-use Rattle.linear.specs.Append.{narrow}
-use Rattle.linear.specs.Runs.{run}
-use Rattle.linear.specs.NodeWords.{upward, pointerOf}
-use Rattle.linear.specs.Head.{variablesOf, automataOf, lastLocationAt, pointerRanges, headWords}
+use Rattle.merging.specs.Append.{narrow}
+use Rattle.merging.specs.Runs.{run}
+use Rattle.merging.specs.NodeWords.{upward, pointerOf}
+use Rattle.merging.specs.Head.{variablesOf, automataOf, lastLocationAt, pointerRanges, headWords}
 use Rattle.linear.proofs.Standing.{narrow-is, run-is, automata-cons}
 
 -- sums of small numbers

@@ -1,10 +1,3 @@
-pub mod AppendLaws
-pub mod NodeLaws
-pub mod HeadLaws
-pub mod ClauseLaws
-pub mod EdgeLaws
-pub mod SyncLaws
-pub mod DepthLaws
 pub mod Standing
 pub mod HeadIs
 pub mod ClausesAre
@@ -12,14 +5,10 @@ pub mod DepthsAre
 pub mod EdgesAre
 pub mod DeepAre
 pub mod SyncIs
-pub mod AllEdgesLaws
 pub mod AllEdgesAre
-pub mod SurveyLaws
 pub mod SurveyIs
-pub mod SheetLaws
 pub mod SheetIs
 pub mod CountIs
 pub mod WordsFit
 pub mod WholeIs
-pub mod LinearizeLaws
 pub mod LinearizeIs

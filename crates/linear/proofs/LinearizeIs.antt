@@ -19,16 +19,17 @@ use Rattle.outline.proofs.Opened.{sheet-of}
 use Rattle.table.specs.declared.Checked.{Checked}
 use Rattle.table.specs.declared.Checked.the-variants.{Good, Refused}
 use Rattle.table.specs.Check.{answered}
-use Rattle.linear.specs.declared.Linearization.{Linearization}
-use Rattle.linear.specs.Append.{narrow, placed, Appended}
-use Rattle.linear.specs.NodeWords.{pointerOf}
-use Rattle.linear.specs.Head.{variablesOf, automataOf}
-use Rattle.linear.specs.MergedEdge.{atMost}
-use Rattle.linear.specs.MergedEdges.{movesOf}
-use Rattle.linear.specs.MergedSheet.{mergedSheet}
-use Rattle.linear.specs.Sync.{ownSets}
-use Rattle.linear.specs.Survey.{surveyWhole}
-use Rattle.linear.specs.Linearize.{refusedBy, mergedTo, linearModel, linearizationOf, linearization, lastAction, faultBy, sheetTable, linearFor, linearBy}
+use Rattle.merging.specs.declared.Linearization.{Linearization}
+use Rattle.merging.specs.Append.{narrow, placed, Appended}
+use Rattle.merging.specs.NodeWords.{pointerOf}
+use Rattle.merging.specs.Head.{variablesOf, automataOf}
+use Rattle.merging.specs.MergedEdge.{atMost}
+use Rattle.merging.specs.MergedEdges.{movesOf}
+use Rattle.merging.specs.MergedSheet.{mergedSheet}
+use Rattle.merging.specs.Sync.{ownSets}
+use Rattle.merging.specs.Survey.{surveyWhole}
+use Rattle.merging.specs.Linearize.{refusedBy, mergedTo, lastAction, faultBy, sheetTable, linearFor, linearBy}
+use Rattle.linear.specs.Linearization.{linearModel, linearizationOf, linearization}
 use Rattle.linear.proofs.HeadIs.{actions-are}
 use Rattle.linear.proofs.CountIs.{count-row, count-exact, counts-few, variables-row}
 use Rattle.linear.proofs.SurveyIs.{survey-deep, survey-row34}

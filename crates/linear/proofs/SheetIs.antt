@@ -16,12 +16,12 @@ use Rattle.model.specs.Table.{setWords, predWords, nodeWords, lineWords, sheetW
 use Rattle.model.specs.Moves.{moves, moveCount}
 use Rattle.model.specs.Linear.{mergedInit, mergedInv, mergedEdge, mergedEdges, linear}
 use Rattle.outline.proofs.OutlineLaws.{wordsOf, edgeWords, words-append}
-use Rattle.linear.specs.NodeWords.{most}
-use Rattle.linear.specs.Head.{headWords}
-use Rattle.linear.specs.Clauses.{mergedWords}
-use Rattle.linear.specs.Sync.{ownSets, syncBy, syncWords}
-use Rattle.linear.specs.MergedEdges.{edgesOf}
-use Rattle.linear.specs.MergedSheet.{locationWords, automatonWords, mergedSheet}
+use Rattle.merging.specs.NodeWords.{most}
+use Rattle.merging.specs.Head.{headWords}
+use Rattle.merging.specs.Clauses.{mergedWords}
+use Rattle.merging.specs.Sync.{ownSets, syncBy, syncWords}
+use Rattle.merging.specs.MergedEdges.{edgesOf}
+use Rattle.merging.specs.MergedSheet.{locationWords, automatonWords, mergedSheet}
 use Rattle.linear.proofs.HeadIs.{head-words}
 use Rattle.linear.proofs.ClausesAre.{init-words, inv-words}
 use Rattle.linear.proofs.SyncIs.{sync-words}

@@ -11,8 +11,8 @@ use Rattle.model.specs.Lines.{automatonLines}
 use Rattle.model.specs.Table.{code, predWords}
 use Rattle.outline.specs.Outline.{reach}
 use Rattle.outline.proofs.OutlineLaws.{read, reached, wordsOf, automatonWords, words-append}
-use Rattle.linear.specs.Append.{narrow}
-use Rattle.linear.specs.Runs.{run, nodesAt}
+use Rattle.merging.specs.Append.{narrow}
+use Rattle.merging.specs.Runs.{run, nodesAt}
 
 pub narrow-is : (n : ℕ) → n < 4294967296 → narrow n ≡ n
 unfolding narrow

@@ -22,12 +22,12 @@ use Rattle.model.specs.Moves.{moves, moveCount}
 use Rattle.model.specs.Linear.{mergedInit, mergedInv, mergedEdge, mergedEdges, mergedPreds, row33, row34}
 use Rattle.model.proofs.Tests.{exists-append}
 use Rattle.model.proofs.Count.{moves-length}
-use Rattle.linear.specs.declared.survey.Survey.{Survey}
-use Rattle.linear.specs.NodeWords.{most, capped}
-use Rattle.linear.specs.Sync.{ownSets}
-use Rattle.linear.specs.MergedEdges.{cellsOf, placesOf}
-use Rattle.linear.specs.Survey.{surveyed, withEdge, surveyFrom, surveyUnder, surveyOf, surveyStart, surveyWhole}
-use Rattle.linear.proofs.NodeLaws.{capped-is, capped-over}
+use Rattle.merging.specs.declared.survey.Survey.{Survey}
+use Rattle.merging.specs.NodeWords.{most, capped}
+use Rattle.merging.specs.Sync.{ownSets}
+use Rattle.merging.specs.MergedEdges.{cellsOf, placesOf}
+use Rattle.merging.specs.Survey.{surveyed, withEdge, surveyFrom, surveyUnder, surveyOf, surveyStart, surveyWhole}
+use Rattle.merging.proofs.NodeLaws.{capped-is, capped-over}
 use Rattle.linear.proofs.ClausesAre.{capped-most, capped-add, init-nodes, inv-nodes}
 use Rattle.linear.proofs.EdgesAre.{edge-nodes}
 use Rattle.linear.proofs.DeepAre.{init-deep, inv-deep, edge-too-deep}

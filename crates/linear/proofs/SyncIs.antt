@@ -27,10 +27,10 @@ use Rattle.tree.proofs.SetLaws.{set-member}
 use Rattle.tree.proofs.Inside.{list-back, in-set-of}
 use Rattle.outline.specs.Outline.{reach, afterAutomaton, automatonAt, treeAt}
 use Rattle.outline.proofs.OutlineLaws.{read, reached, automatonWords, after-automaton, tree-at}
-use Rattle.linear.specs.Head.{automataOf}
-use Rattle.linear.specs.MergedEdge.{atMost}
-use Rattle.linear.specs.Sync.{setsFrom, ownSets, isShared, shifted, bitsFrom, syncBy, syncWords}
-use Rattle.linear.proofs.EdgeLaws.{at-most-is}
+use Rattle.merging.specs.Head.{automataOf}
+use Rattle.merging.specs.MergedEdge.{atMost}
+use Rattle.merging.specs.Sync.{setsFrom, ownSets, isShared, shifted, bitsFrom, syncBy, syncWords}
+use Rattle.merging.proofs.EdgeLaws.{at-most-is}
 use Rattle.linear.proofs.Standing.{automata-cons}
 use Rattle.linear.proofs.HeadIs.{actions-are, automata-are, automata-stand}
 use Rattle.linear.proofs.EdgesAre.{zeros, drop-zeros}

@@ -22,12 +22,12 @@ use Rattle.model.proofs.Count.{count-is}
 use Rattle.model.proofs.Decode.{unbroken}
 use Rattle.model.proofs.LinearLimits.{linear-lawful}
 use Rattle.model.proofs.Sizes.{words-fit}
-use Rattle.linear.specs.Append.{Appended}
-use Rattle.linear.specs.NodeWords.{most}
-use Rattle.linear.specs.MergedEdges.{movesOf}
-use Rattle.linear.specs.MergedSheet.{mergedSheet}
-use Rattle.linear.specs.Sync.{ownSets}
-use Rattle.linear.proofs.AppendLaws.{appended-is}
+use Rattle.merging.specs.Append.{Appended}
+use Rattle.merging.specs.NodeWords.{most}
+use Rattle.merging.specs.MergedEdges.{movesOf}
+use Rattle.merging.specs.MergedSheet.{mergedSheet}
+use Rattle.merging.specs.Sync.{ownSets}
+use Rattle.merging.proofs.AppendLaws.{appended-is}
 use Rattle.linear.proofs.EdgesAre.{drop-zeros}
 use Rattle.linear.proofs.CountIs.{count-exact, counts-few}
 use Rattle.linear.proofs.SheetIs.{sheet-words}

@@ -24,7 +24,7 @@ use Rattle.model.proofs.Bits.{rises-cons}
 use Rattle.model.proofs.Decode.{unbroken, in-range, unsaid, none-lacks}
 use Rattle.tree.specs.Nodes.{treeWords}
 use Rattle.tree.proofs.Standing.{words-par, words-syn, words-leaf}
-use Rattle.linear.specs.Append.{narrow}
+use Rattle.merging.specs.Append.{narrow}
 use Rattle.linear.proofs.Standing.{narrow-is}
 use Rattle.linear.proofs.SyncIs.{set-fits}
 

@@ -22,8 +22,9 @@ use Rattle.writer.specs.declared.WriteAnswer.{WriteAnswer}
 use Rattle.writer.specs.declared.WriteAnswer.the-variants as W
 use Rattle.writer.specs.Answer.{wordsAnswer, copyAnswer, given, Answered}
 use Rattle.writer.proofs.SheetText.{fitting-text}
-use Rattle.linear.specs.declared.Linearization.{Linearization}
-use Rattle.linear.specs.Linearize.{refusedBy, mergedTo, linearModel, linearizationOf, linearization}
+use Rattle.merging.specs.declared.Linearization.{Linearization}
+use Rattle.merging.specs.Linearize.{refusedBy, mergedTo}
+use Rattle.linear.specs.Linearization.{linearModel, linearizationOf, linearization}
 use Rattle.merge.specs.declared.MergeAnswer.{MergeAnswer}
 use Rattle.merge.specs.declared.MergeAnswer.the-variants as A
 use Rattle.merge.specs.Answers.{mergeOf, reportedOf}

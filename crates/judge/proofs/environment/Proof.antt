@@ -4,43 +4,25 @@ use borrow.Author.Needs.{needs}
 use Rattle.judge.proofs.environment.Statement.{statement}
 use Rattle.judge.proofs.environment.Tie as tie
 
-admitted-requires : tie.Need-admitted-requires
-admitted-requires c κs = search needs
+check-requires : tie.Need-check-requires
+check-requires c κs = search needs
 
-enum-known-admitted : tie.Need-enum-known-admitted
-enum-known-admitted c = search needs
-
-enum-known-admitted-2 : tie.Need-enum-known-admitted-2
-enum-known-admitted-2 c = search needs
-
-of-requires : tie.Need-of-requires
-of-requires c κs = search needs
-
-of-requires-2 : tie.Need-of-requires-2
-of-requires-2 c κs = search needs
-
-settled-requires : tie.Need-settled-requires
-settled-requires c κs = search needs
+enum-known-row : tie.Need-enum-known-row
+enum-known-row c = search needs
 
 returns : tie.Need-returns
 returns c = search (needs, environment-laws)
 
+enum-told : tie.Need-enum-told
+enum-told c = search needs
+
+environment-on-requires : tie.Need-environment-on-requires
+environment-on-requires c κs = search needs
+
 returns-2 : tie.Need-returns-2
 returns-2 c = search (needs, environment-laws)
-
-returns-3 : tie.Need-returns-3
-returns-3 c = search (needs, environment-laws)
 
 pub environment-spec : {M : Type 1} → statement M
 environment-spec =
     tie.close
-    (tie.spec
-    admitted-requires
-    enum-known-admitted
-    enum-known-admitted-2
-    of-requires
-    of-requires-2
-    settled-requires
-    returns
-    returns-2
-    returns-3)
+    (tie.spec check-requires enum-known-row returns enum-told environment-on-requires returns-2)

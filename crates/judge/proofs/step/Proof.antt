@@ -4,63 +4,24 @@ use borrow.Author.Needs.{needs}
 use Rattle.judge.proofs.step.Statement.{statement}
 use Rattle.judge.proofs.step.Tie as tie
 
-admitted-requires : tie.Need-admitted-requires
-admitted-requires c κs = search needs
+check-requires : tie.Need-check-requires
+check-requires c κs = search needs
 
-enum-known-admitted : tie.Need-enum-known-admitted
-enum-known-admitted c = search needs
-
-enum-known-admitted-2 : tie.Need-enum-known-admitted-2
-enum-known-admitted-2 c = search needs
-
-action-known-requires : tie.Need-action-known-requires
-action-known-requires c κs = search needs
+enum-known-row : tie.Need-enum-known-row
+enum-known-row c = search needs
 
 returns : tie.Need-returns
 returns c = search (needs, step-laws)
 
-of-requires : tie.Need-of-requires
-of-requires c κs = search needs
+enum-told : tie.Need-enum-told
+enum-told c = search needs
 
-of-requires-2 : tie.Need-of-requires-2
-of-requires-2 c κs = search needs
-
-settled-requires : tie.Need-settled-requires
-settled-requires c κs = search needs
+step-on-requires : tie.Need-step-on-requires
+step-on-requires c κs = search needs
 
 returns-2 : tie.Need-returns-2
 returns-2 c = search (needs, step-laws)
 
-taken-requires : tie.Need-taken-requires
-taken-requires c κs = search needs
-
-returns-3 : tie.Need-returns-3
-returns-3 c = search (needs, step-laws)
-
-mark-requires : tie.Need-mark-requires
-mark-requires c κs = search needs
-
-returns-4 : tie.Need-returns-4
-returns-4 c = search (needs, step-laws)
-
-returns-5 : tie.Need-returns-5
-returns-5 c = search (needs, step-laws)
-
 pub step-spec : {M : Type 1} → statement M
 step-spec =
-    tie.close
-    (tie.spec
-    admitted-requires
-    enum-known-admitted
-    enum-known-admitted-2
-    action-known-requires
-    returns
-    of-requires
-    of-requires-2
-    settled-requires
-    returns-2
-    taken-requires
-    returns-3
-    mark-requires
-    returns-4
-    returns-5)
+    tie.close (tie.spec check-requires enum-known-row returns enum-told step-on-requires returns-2)

@@ -4,18 +4,6 @@ use borrow.Author.Needs.{needs}
 use Rattle.judge.proofs.call.admitted.Statement.{statement}
 use Rattle.judge.proofs.call.admitted.Tie as tie
 
-check-requires : tie.Need-check-requires
-check-requires c κs = search needs
-
-enum-known-row : tie.Need-enum-known-row
-enum-known-row c = search needs
-
-returns : tie.Need-returns
-returns c = search (needs, admitted-laws)
-
-enum-told : tie.Need-enum-told
-enum-told c = search needs
-
 phase-of-requires : tie.Need-phase-of-requires
 phase-of-requires c κs = search needs
 
@@ -28,11 +16,14 @@ enum-known-read-2 c = search needs
 lists-requires : tie.Need-lists-requires
 lists-requires c κs = search needs
 
-enum-known-row-2 : tie.Need-enum-known-row-2
-enum-known-row-2 c = search needs
+enum-known-row : tie.Need-enum-known-row
+enum-known-row c = search needs
 
-enum-told-2 : tie.Need-enum-told-2
-enum-told-2 c = search needs
+enum-told : tie.Need-enum-told
+enum-told c = search needs
+
+returns : tie.Need-returns
+returns c = search (needs, admitted-laws)
 
 returns-2 : tie.Need-returns-2
 returns-2 c = search (needs, admitted-laws)
@@ -40,23 +31,16 @@ returns-2 c = search (needs, admitted-laws)
 returns-3 : tie.Need-returns-3
 returns-3 c = search (needs, admitted-laws)
 
-returns-4 : tie.Need-returns-4
-returns-4 c = search (needs, admitted-laws)
-
 pub admitted-spec : {M : Type 1} → statement M
 admitted-spec =
     tie.close
     (tie.spec
-    check-requires
-    enum-known-row
-    returns
-    enum-told
     phase-of-requires
     enum-known-read
     enum-known-read-2
     lists-requires
-    enum-known-row-2
-    enum-told-2
+    enum-known-row
+    enum-told
+    returns
     returns-2
-    returns-3
-    returns-4)
+    returns-3)

@@ -1,0 +1,24 @@
+-- `judge::runs::put` meets its contract: its answer and its state are the definition's.
+use Rattle.judge.proofs.RunCodeLaws.{turn-is}
+use borrow.Author.Needs.{needs}
+use Rattle.judge.proofs.runs.put.Statement.{statement}
+use Rattle.judge.proofs.runs.put.Tie as tie
+
+judged-requires : tie.Need-judged-requires
+judged-requires c κs = search needs
+
+number-requires : tie.Need-number-requires
+number-requires c κs = search needs
+
+proposed-requires : tie.Need-proposed-requires
+proposed-requires c κs = search needs
+
+moved-requires : tie.Need-moved-requires
+moved-requires c κs = search needs
+
+returns : tie.Need-returns
+returns c = search (needs, turn-is)
+
+pub put-spec : {M : Type 1} → statement M
+put-spec =
+    tie.close (tie.spec judged-requires number-requires proposed-requires moved-requires returns)

@@ -1,0 +1,96 @@
+-- A run over the words of a table, as the code does it. On a good table it is the definitions': the law run-exact.
+use mathlib.Core.Bool.{Bool, true, false, not, _&&_, _||_}
+use mathlib.Core.List.{List, [], _∷_}
+use Prim.Native.Nat.{ℕ, suc, _+_, _*_, _%_, _^_}
+use lib.IntN.{ℤ}
+use lib.ListN.{length, take, drop, set}
+use lib.Dec.{eqb, ltb, leb}
+use Rattle.model.specs.Runs.{phaseNumber}
+use Rattle.table.specs.declared.Checked.{Checked}
+use Rattle.table.specs.declared.Checked.the-variants as C
+use Rattle.judge.specs.declared.Phase.the-variants.{Running}
+use Rattle.judge.specs.declared.State.{State}
+use Rattle.judge.specs.declared.runs.Turn.{Turn}
+use Rattle.judge.specs.declared.Admitted.{Admitted}
+use Rattle.judge.specs.declared.Answer.{Answer}
+use Rattle.judge.specs.declared.Answer.the-variants.{Yes, Marked, No, Refused}
+use Rattle.judge.specs.Answers.{answerOf, phaseIs, answerNumber}
+use Rattle.judge.specs.States.{stateOf}
+use Rattle.judge.specs.Places.{variablesIn, automataIn}
+use Rattle.judge.specs.RowTests.{phaseRead, lengthsFit, locationsKnown, valuesKnown}
+use Rattle.judge.specs.Settled.{variablesShown}
+use Rattle.judge.specs.Taken.{automataShown}
+use Rattle.judge.specs.Calls.{thenPhase, environmentOn, stepOn}
+use Rattle.judge.specs.RunAnswer.{environmentMark}
+
+-- row 21 of the proposals: so many locations and values for `count` of them
+unfoldable pub listsFit : (words : List ℕ) (count locations values : ℕ) → Bool
+listsFit words count locations values = eqb locations (automataIn words * count) && eqb values (variablesIn words * count)
+
+module _ (words locations : List ℕ) (values : List ℤ) (count newLocations newValues room : ℕ) where
+  -- rows 21 to 23 and 35
+  unfoldable pub runChecked : Checked
+  runChecked =
+      elim (not (lengthsFit words (length locations) (length values)) || not (listsFit words count newLocations newValues)) [
+        | true ↦ C.Refused 21
+        | false ↦
+            elim (locationsKnown words locations) [
+              | false ↦ C.Refused 22
+              | true ↦
+                  elim (valuesKnown words values) [
+                    | false ↦ C.Refused 23
+                    | true ↦ elim (ltb room count) [ true ↦ C.Refused 35 | false ↦ C.Good ]
+                  ]
+            ]
+      ]
+
+  unfoldable pub begunOn : (phase : ℕ) → Admitted
+  begunOn phase = thenPhase (phaseRead phase) runChecked
+
+-- one proposal, from the state that the run is in
+unfoldable pub judgedOn : (words : List ℕ) → State → (action : ℕ) → List ℕ → List ℤ → Answer
+judgedOn words s action newLocations newValues =
+    let phase = phaseNumber (phaseIs (s .phase)) in
+    let locations = take (automataShown words) (s .locations) in
+    let values = take (variablesShown words) (s .values) in
+    elim (eqb action environmentMark) [
+      | true ↦ environmentOn words phase locations values newValues
+      | false ↦ stepOn words phase locations values action newLocations newValues
+    ]
+
+-- the state that is proposed
+unfoldable pub proposedOn : State → (action : ℕ) → List ℕ → List ℤ → State
+proposedOn s action newLocations newValues =
+    elim (eqb action environmentMark) [
+      | true ↦ stateOf Running (s .locations) newValues
+      | false ↦ stateOf Running newLocations newValues
+    ]
+
+-- only a yes moves the run
+unfoldable pub movedTo : Answer → (s t : State) → State
+movedTo Yes s t = t
+movedTo (Marked mark) s t = t
+movedTo No s t = s
+movedTo (Refused row) s t = s
+
+-- the place n items on in a list of so many, or its end
+unfoldable pub onward : (size at n : ℕ) → ℕ
+onward size at n = elim (leb (at + n) size) [ true ↦ at + n | false ↦ size ]
+
+-- where a run is, and what its answers are so far
+pub record Gone : Type 0 where
+  pub state : State
+  pub answers : List ℕ
+
+-- one proposal: its answer's number, and the state after it
+unfoldable pub turnOn : (words : List ℕ) → State → (action : ℕ) → List ℕ → List ℤ → Turn
+turnOn words s action newLocations newValues =
+    let answer = judgedOn words s action newLocations newValues in
+    record { number = answerNumber (answerOf answer) % 2 ^ 32; state = movedTo answer s (proposedOn s action newLocations newValues) }
+
+-- from state s on, with answer k the next one
+unfoldable pub goOn : (words : List ℕ) (n v : ℕ) → State → (answers : List ℕ) (k : ℕ) (actions locations : List ℕ) (values : List ℤ) → Gone
+goOn words n v s answers k [] locations values = record { state = s; answers = answers }
+goOn words n v s answers k (action ∷ actions) locations values =
+    let turn = turnOn words s action (take n locations) (take v values) in
+    goOn words n v (turn .state) (set answers k (turn .number)) (suc k) actions (drop n locations) (drop v values)

@@ -1,0 +1,14 @@
+-- `merging::merged` meets its contract.
+use Rattle.merging.proofs.LinearizeLaws.{merged-is}
+use borrow.Author.Needs.{needs}
+use Rattle.merging.proofs.merged.Statement.{statement}
+use Rattle.merging.proofs.merged.Tie as tie
+
+sheet-requires : tie.Need-sheet-requires
+sheet-requires c κs = search needs
+
+returns : tie.Need-returns
+returns c = search (needs, merged-is)
+
+pub merged-spec : {M : Type 1} → statement M
+merged-spec = tie.close (tie.spec sheet-requires returns)

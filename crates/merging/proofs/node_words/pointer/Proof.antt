@@ -1,0 +1,14 @@
+-- `merging::node_words::pointer` meets its contract.
+use Rattle.merging.proofs.NodeLaws.{node-laws}
+use borrow.Author.Needs.{needs}
+use Rattle.merging.proofs.node_words.pointer.Statement.{statement}
+use Rattle.merging.proofs.node_words.pointer.Tie as tie
+
+add-result : tie.Need-add-result
+add-result c = search needs
+
+returns : tie.Need-returns
+returns c = search (needs, node-laws)
+
+pub pointer-spec : {M : Type 1} → statement M
+pointer-spec = tie.close (tie.spec add-result returns)
