@@ -53,7 +53,7 @@ merge-refuses m buffer row e = rw (e, mergeModel)
 no-merge : (row edges : ℕ) (text : Bytes) → unmerged row ≡ merged text edges → ⊥
 no-merge row edges text h = let z : _≡_ {A = ℕ} 0 1 = cc in omega arith
 
-merged-then : (m : Model) (buffer : ℕ) (text : Bytes) (edges : ℕ) → mergeModel m buffer ≡ merged text edges → (mergeFault m ≡ none) × (text ≡ textOf (linear m))
+pub merged-then : (m : Model) (buffer : ℕ) (text : Bytes) (edges : ℕ) → mergeModel m buffer ≡ merged text edges → (mergeFault m ≡ none) × (text ≡ textOf (linear m))
 unfolding mergeModel row35
 merged-then m buffer text edges h = go (mergeFault m) refl
   where
@@ -87,7 +87,7 @@ unfolding mergeOutput
 program-refuses-merge text m row h e = program-merges text m h ∙ ap mergeOutput (merge-refuses m maxBytes row e)
 
 -- the table that the reader gives
-table-read : (text : Bytes) (lent : List ℕ) (m : Model) → readAnswer text (length lent) ≡ accepted m → tableAfter text lent ≡ tableOf m ++ drop tableWords lent
+pub table-read : (text : Bytes) (lent : List ℕ) (m : Model) → readAnswer text (length lent) ≡ accepted m → tableAfter text lent ≡ tableOf m ++ drop tableWords lent
 unfolding tableAfter
 table-read text lent m h = rw (h, tableAfter)
 

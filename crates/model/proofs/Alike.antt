@@ -32,13 +32,13 @@ merged-size m = simp (length-append, length-map)
 
 module _ (m : Model) (s : State) (g : Shaped m s) where
   -- the rows of the merged automaton: 21 and 22 never, 23 when the composition's
-  merged-21 : row21 (linear m) (beside s) ≡ false
+  pub merged-21 : row21 (linear m) (beside s) ≡ false
   unfolding row21 hasValues linear beside
   merged-21 =
       let e : length (s .values ++ map pos (s .locations)) ≡ length (m .variables ++ map pointerRange (m .automata)) = simp (length-append, length-map) (omega arith) in
       rw (of-eq _ _ e)
 
-  merged-22 : row22 (linear m) (beside s) ≡ false
+  pub merged-22 : row22 (linear m) (beside s) ≡ false
   unfolding row22 linear beside each
   merged-22 = refl
 
@@ -59,7 +59,7 @@ module _ (m : Model) (s : State) (g : Shaped m s) where
       rw (r, pointer-value m (s .values) (s .locations) (g .values-are) k)
       (and-intro (of-le 0 (at s k) (omega arith)) (of-le (at s k) (pred (length (automaton m k .locations))) (omega arith)))
 
-  merged-23 : row23 (linear m) (beside s) ≡ row23 m s
+  pub merged-23 : row23 (linear m) (beside s) ≡ row23 m s
   unfolding row23 pointer
   merged-23 = ap not (
       ap (λ (k : ℕ). each k (inside (linear m) (beside s))) (merged-size m)
@@ -133,7 +133,7 @@ alike-environment true h = both-23
 alike-environment false true = both-yes
 alike-environment false false = both-no
 
-goes-state : (m : Model) (a : Answer) (s t : State) → IsState m s → IsState m t → IsState m (goes a s t)
+pub goes-state : (m : Model) (a : Answer) (s t : State) → IsState m s → IsState m t → IsState m (goes a s t)
 unfolding goes
 goes-state m (marked b) s t g h = h
 goes-state m yes s t g h = h
@@ -154,7 +154,7 @@ record Put (m : Model) (s : State) (p : Proposal) : Type 0 where
   alike : Alike (modelJudge m s p) (put (modelJudge m s p))
   state : IsState m (goes (modelJudge m s p) s (proposed s p))
 
-right-21 : (m : Model) (s : State) (values : List ℤ) → row21 m s ≡ false → hasValues m values ≡ true → row21 m (changed s values) ≡ false
+pub right-21 : (m : Model) (s : State) (values : List ℤ) → row21 m s ≡ false → hasValues m values ≡ true → row21 m (changed s values) ≡ false
 unfolding row21
 right-21 m s values p e =
     let l = and-left (eqb (length (s .locations)) (length (m .automata))) (hasValues m (s .values)) (not-false _ p) in

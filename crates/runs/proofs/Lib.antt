@@ -1,0 +1,6 @@
+pub mod Answers
+pub mod Points
+pub mod Beside
+pub mod Moves
+pub mod Tables
+pub mod Demand3
