@@ -134,7 +134,7 @@ module _ (m : Model) (lawful : Lawful m) (s : State) (g : IsState m s) where
           let l : hasValues m (take count values) ≡ true = of-eq _ _ (length-take-le count values (omega arith)) in
           let w : values ≡ take count values ++ pointersIn m (beside s .values) = sym (take-append-drop count values) ∙ ap (λ (zs : List ℤ). take count values ++ zs) e in (
             take count values,
-            state-of m (changed s (take count values)) (changed-21 m s (take count values) g l) (changed-22 m s (take count values) g)
+            state-of m (changed s (take count values)) (right-21 m s (take count values) (g .no-21) l) (changed-22 m s (take count values) g)
                 (subst (IsState (linear m)) (ap (changed (beside s)) w ∙ onto (take count values)) h),
             same-environments (take count values) l .1 (subst (Environment (linear m) (beside s)) w q),
           )
