@@ -1,1 +1,3 @@
+pub mod LineBound
+pub mod MergeBound
 pub mod NumberLaws

@@ -1,7 +1,8 @@
--- The numbers of answers: one law for each way out, and that no judge's number is too long for 32 bits.
-use Prim.Native.Nat.{ℕ, _+_, _*_, _%_, _^_, _<_}
+-- The numbers of answers: one law for each way out.
+use Prim.Native.Nat.{ℕ, _+_, _*_, _%_, _^_, _≤_, _<_}
 use native.Mathlib.Nat.{mod-eq-of-lt}
-use mathlib.Core.Path.{_≡_, refl, sym, ap, _∙_}
+use native.Mathlib.Omega.{arith}
+use mathlib.Core.Path.{_≡_, refl, sym, ap, _∙_, subst}
 use mathlib.Core.Bool.{Bool, true, false, cond, _||_}
 use mathlib.Core.List.{List}
 use mathlib.Core.Option.{Option, none, some}
@@ -12,115 +13,79 @@ use Rattle.model.specs.Model.{Model, inSet}
 use Rattle.model.specs.Table.{row18, modelOf, Opened, unopened, opened, openTable}
 use Rattle.model.specs.Rules as R
 use Rattle.model.specs.Judge as J
-use Rattle.judge.specs.Answers.{answerOf}
-use Rattle.judge.specs.declared.Answer.{Answer}
-use Rattle.judge.specs.declared.Answer.the-variants.{Yes, Marked, No, Refused}
+use Rattle.judge.specs.declared.Ran.{Ran}
+use Rattle.judge.specs.Answers.{answerNumber}
+use Rattle.judge.specs.RunAnswer.{RunAnswer, notRun, ran, ranOf}
+use Rattle.judge.proofs.NumberLaws.{step-fits, environment-fits, unwrapped}
 use Rattle.format.specs.Bytes.{Bytes}
+use Rattle.model.specs.Bounds.{maxBytes, maxEdges}
+use Rattle.format.specs.Merger as Merger
+use Rattle.format.specs.Merger.{mergeAnswer}
+use Rattle.format.specs.Reader as Reader
+use Rattle.format.specs.Reader.{readAnswer}
 use Rattle.format.specs.Writer.{WriteAnswer, unwritten, written, bufferAfter}
+use Rattle.merge.specs.Answers.{mergeOf}
+use Rattle.merge.specs.declared.MergeAnswer as G
+use Rattle.merge.specs.declared.MergeAnswer.the-variants as MergeAnswer
+use Rattle.text.specs.Read.{readOf}
+use Rattle.text.specs.declared.ReadAnswer as T
+use Rattle.text.specs.declared.ReadAnswer.the-variants as ReadAnswer
 use Rattle.writer.specs.Answer.{given, Answered}
 use Rattle.writer.specs.declared.WriteAnswer as D
 use Rattle.writer.specs.declared.WriteAnswer.the-variants as W
-use Rattle.exports.specs.Numbers.{judgeNumber, writeNumber, writtenNumber}
+use Rattle.exports.specs.Numbers.{runNumber, readNumber, toldNumber, lineOf, mostLine, writeNumber, writtenNumber, mergeNumber, mergedNumber, mergedLength, mergedEdges}
+use Rattle.exports.proofs.LineBound.{line-bound}
+use Rattle.exports.proofs.MergeBound.{textLength, edgeCount, Apart, merge-apart}
 
--- `judge_number`
-module _ (x : Answer) where
-  pub number-no : x ≡ No → 0 ≡ judgeNumber (answerOf x) % 2 ^ 32
-  unfolding judgeNumber answerOf
-  number-no h = rw h
-
-  pub number-yes : x ≡ Yes → 1 ≡ judgeNumber (answerOf x) % 2 ^ 32
-  unfolding judgeNumber answerOf
-  number-yes h = rw h
-
-  module _ (mark : Bool) (h : x ≡ Marked mark) where
-    pub number-marked : mark ≡ true → 2 ≡ judgeNumber (answerOf x) % 2 ^ 32
-    unfolding judgeNumber answerOf
-    number-marked i = rw (h, i)
-
-    pub number-unmarked : mark ≡ false → 1 ≡ judgeNumber (answerOf x) % 2 ^ 32
-    unfolding judgeNumber answerOf
-    number-unmarked i = rw (h, i)
-
-  pub number-refused : (row r : ℕ) → x ≡ Refused row → r ≡ (100 + row) % 2 ^ 32 → r ≡ judgeNumber (answerOf x) % 2 ^ 32
-  unfolding judgeNumber answerOf
-  number-refused row r h e = rw h e
-
-pub ruleset judge-number-laws = (number-no, number-yes, number-marked, number-unmarked, number-refused)
-
--- the number fits 32 bits
-record Fits (a : J.Answer) : Type 0 where
-  pub below : judgeNumber a < 2 ^ 32
-
-fits-cond : (b : Bool) {x y : J.Answer} → Fits x → Fits y → Fits (cond b x y)
-fits-cond true f g = f
-fits-cond false f g = g
-
-fits-marked : (mark : Bool) → Fits (J.marked mark)
-unfolding judgeNumber
-fits-marked true = record { below = lit< tt }
-fits-marked false = record { below = lit< tt }
-
--- a table is refused with 18 or with 19
-open-cases : (t : List ℕ) (P : Opened → Type 0) → P (unopened 18) → P (unopened 19) → ((m : Model) → P (opened m)) → P (openTable t)
-unfolding openTable
-open-cases t P first second good = go (row18 (length t)) refl
-  where
-    go : (b : Bool) → row18 (length t) ≡ b → P (openTable t)
-    go true e = rw (e, openTable) first
-    go false e = rest (modelOf t) refl
-      where
-        rest : (o : Option Model) → modelOf t ≡ o → P (openTable t)
-        rest none f = rw (e, openTable, f, openTable) second
-        rest (some m) f = rw (e, openTable, f, openTable) (good m)
-
-module _ (t : List ℕ) (phase : ℕ) (l : List ℕ) (v : List ℤ) where
-  phase-fits : (judge : R.Phase → J.Answer) (o : Option R.Phase) → ((p : R.Phase) → Fits (judge p)) → Fits (elim o [ none ↦ J.refused 20 | some p ↦ judge p ])
-  unfolding judgeNumber
-  phase-fits judge none f = record { below = lit< tt }
-  phase-fits judge (some p) f = f p
-
-  call-fits : (judge : Model → R.State → J.Answer) → ((m : Model) (s : R.State) → Fits (judge m s)) → Fits (J.judgeAt t phase l v judge)
-  unfolding J.judgeAt judgeNumber
-  call-fits judge f =
-      open-cases t
-      (λ o. Fits (elim o [ unopened row ↦ J.refused row | opened m ↦ elim (J.phaseOf phase) [ none ↦ J.refused 20 | some p ↦ judge m (record { phase = p; locations = l; values = v }) ] ]))
-      (record { below = lit< tt })
-      (record { below = lit< tt })
-      (λ m. phase-fits (λ p. judge m (record { phase = p; locations = l; values = v })) (J.phaseOf phase) (λ p. f m (record { phase = p; locations = l; values = v })))
-
-  environment-fits : (v' : List ℤ) → Fits (J.environmentAnswer t phase l v v')
-  unfolding J.environmentAnswer J.judgeEnvironment judgeNumber
-  environment-fits v' =
-      call-fits (λ m s. J.judgeEnvironment m s v')
-      (λ m s.
-      fits-cond (J.row21 m s || J.row21 m (R.changed s v')) (record { below = lit< tt })
-      (fits-cond (J.row22 m s) (record { below = lit< tt })
-      (fits-cond (J.row23 m s || J.row23 m (R.changed s v')) (record { below = lit< tt })
-      (fits-cond (J.settled m s (R.changed s v')) (record { below = lit< tt }) (record { below = lit< tt })))))
-
-  step-fits : (a : ℕ) (l' : List ℕ) (v' : List ℤ) → Fits (J.stepAnswer t phase l v a l' v')
-  unfolding J.stepAnswer J.judgeTo judgeNumber
-  step-fits a l' v' =
-      call-fits (λ m s. J.judgeStep m s a l' v')
-      (λ m s.
-      fits-cond (J.row21 m s || J.row21 m (R.reached l' v')) (record { below = lit< tt })
-      (fits-cond (J.row22 m s || J.row22 m (R.reached l' v')) (record { below = lit< tt })
-      (fits-cond (J.row23 m s || J.row23 m (R.reached l' v')) (record { below = lit< tt })
-      (fits-cond (J.row24 m a) (record { below = lit< tt })
-      (fits-cond (J.stepHolds m s a (R.reached l' v')) (fits-marked (inSet m a (m .tree))) (record { below = lit< tt }))))))
-
--- so it is the number of the answer itself
-unwrapped : {r : ℕ} {x a : J.Answer} → Fits a → x ≡ a → r ≡ judgeNumber x % 2 ^ 32 → r ≡ judgeNumber a
-unwrapped fits e h = h ∙ ap (λ (y : J.Answer). judgeNumber y % 2 ^ 32) e ∙ mod-eq-of-lt (fits .below)
-
-module _ (t : List ℕ) (phase : ℕ) (l : List ℕ) (v : List ℤ) (x : J.Answer) (r : ℕ) (h : r ≡ judgeNumber x % 2 ^ 32) where
+module _ (t : List ℕ) (phase : ℕ) (l : List ℕ) (v : List ℤ) (x : J.Answer) (r : ℕ) (h : r ≡ answerNumber x % 2 ^ 32) where
   -- `sheet_step`
-  pub step-law : (a : ℕ) (l' : List ℕ) (v' : List ℤ) → x ≡ J.stepAnswer t phase l v a l' v' → r ≡ judgeNumber (J.stepAnswer t phase l v a l' v')
+  pub step-law : (a : ℕ) (l' : List ℕ) (v' : List ℤ) → x ≡ J.stepAnswer t phase l v a l' v' → r ≡ answerNumber (J.stepAnswer t phase l v a l' v')
   step-law a l' v' e = unwrapped (step-fits t phase l v a l' v') e h
 
   -- `sheet_environment`
-  pub environment-law : (v' : List ℤ) → x ≡ J.environmentAnswer t phase l v v' → r ≡ judgeNumber (J.environmentAnswer t phase l v v')
+  pub environment-law : (v' : List ℤ) → x ≡ J.environmentAnswer t phase l v v' → r ≡ answerNumber (J.environmentAnswer t phase l v v')
   environment-law v' e = unwrapped (environment-fits t phase l v v') e h
+
+-- `sheet_run`
+pub run-law : (a : RunAnswer) (x : Ran) → x ≡ ranOf a → x .row ≡ runNumber a
+unfolding runNumber ranOf
+run-law a x e = ap (λ (y : Ran). y .row) e ∙ of a
+  where
+    of : (b : RunAnswer) → ranOf b .row ≡ runNumber b
+    of (notRun row) = refl
+    of (ran r) = refl
+
+-- `read_number`
+module _ (x : T.ReadAnswer) where
+  pub number-accepted : x ≡ ReadAnswer.Accepted → 0 ≡ toldNumber x
+  unfolding toldNumber
+  number-accepted h = rw h
+
+  module _ (row line : ℕ) (h : x ≡ ReadAnswer.Refused row line) where
+    pub number-stopped : row * 2 ^ 32 + line ≡ toldNumber x
+    unfolding toldNumber
+    number-stopped = rw h
+
+    pub line-fits : lineOf x ≤ mostLine → row < 2 ^ 32 → row * 2 ^ 32 + line < 2 ^ 64
+    unfolding lineOf
+    line-fits small f = let small' : line ≤ 65537 = subst (λ (y : T.ReadAnswer). lineOf y ≤ mostLine) h small in omega arith
+
+pub ruleset read-number-laws = (number-accepted, number-stopped, line-fits)
+
+-- `sheet_read`
+told-number : (a : Reader.ReadAnswer) → toldNumber (readOf a) ≡ readNumber a
+unfolding toldNumber readNumber readOf
+told-number (Reader.refused row line) = refl
+told-number (Reader.accepted m) = refl
+
+module _ (text : Bytes) (table : ℕ) (x : T.ReadAnswer) (h : x ≡ readOf (readAnswer text table)) where
+  pub read-line : lineOf x ≤ mostLine
+  read-line = subst (λ (y : T.ReadAnswer). lineOf y ≤ mostLine) (sym h) (line-bound text table)
+
+  pub read-number : (r : ℕ) → r ≡ toldNumber x → r ≡ readNumber (readAnswer text table)
+  read-number r e = e ∙ ap toldNumber h ∙ told-number (readAnswer text table)
+
+pub ruleset read-laws = (read-line, read-number)
 
 -- `write_number`
 module _ (x : D.WriteAnswer) where
@@ -148,3 +113,59 @@ module _ (a : WriteAnswer) (old new : Bytes) (x : D.WriteAnswer) (h : Answered a
   write-memory = h .memory
 
 pub ruleset write-laws = (write-length, write-memory)
+
+-- `merge_number`
+module _ (x : G.MergeAnswer) where
+  module _ (n edges : ℕ) (h : x ≡ MergeAnswer.Merged n edges) where
+    pub number-merged : edges * 2 ^ 17 + n ≡ mergedNumber x
+    unfolding mergedNumber
+    number-merged = rw h
+
+    module _ (few : mergedEdges x ≤ maxEdges) where
+      few-edges : edges ≤ 512
+      unfolding mergedEdges
+      few-edges = subst (λ (y : G.MergeAnswer). mergedEdges y ≤ maxEdges) h few
+
+      pub edges-fit : edges * 2 ^ 17 < 2 ^ 64
+      edges-fit = let few' = few-edges in omega arith
+
+      pub parts-fit : mergedLength x ≤ maxBytes → edges * 2 ^ 17 + n < 2 ^ 64
+      unfolding mergedLength
+      parts-fit short =
+          let few' = few-edges in
+          let short' : n ≤ 65536 = subst (λ (y : G.MergeAnswer). mergedLength y ≤ maxBytes) h short in
+          omega arith
+
+  pub number-unmerged : (row : ℕ) → x ≡ MergeAnswer.Refused row → row * 2 ^ 32 ≡ mergedNumber x
+  unfolding mergedNumber
+  number-unmerged row h = rw h
+
+pub ruleset merge-number-laws = (number-merged, edges-fit, parts-fit, number-unmerged)
+
+-- `sheet_merge`
+merged-number : (a : Merger.MergeAnswer) → mergedNumber (mergeOf a) ≡ mergeNumber a
+unfolding mergedNumber mergeNumber mergeOf
+merged-number (Merger.unmerged row) = refl
+merged-number (Merger.merged text edges) = refl
+
+merged-short : (a : Merger.MergeAnswer) → Apart a → mergedLength (mergeOf a) ≤ maxBytes
+unfolding mergedLength mergeOf textLength
+merged-short (Merger.unmerged row) f = omega arith
+merged-short (Merger.merged text edges) f = f .short
+
+merged-few : (a : Merger.MergeAnswer) → Apart a → mergedEdges (mergeOf a) ≤ maxEdges
+unfolding mergedEdges mergeOf edgeCount
+merged-few (Merger.unmerged row) f = omega arith
+merged-few (Merger.merged text edges) f = f .few
+
+module _ (t : List ℕ) (buffer : ℕ) (x : G.MergeAnswer) (h : x ≡ mergeOf (mergeAnswer t buffer)) where
+  pub merge-short : mergedLength x ≤ maxBytes
+  merge-short = subst (λ (y : G.MergeAnswer). mergedLength y ≤ maxBytes) (sym h) (merged-short (mergeAnswer t buffer) (merge-apart t buffer))
+
+  pub merge-few : mergedEdges x ≤ maxEdges
+  merge-few = subst (λ (y : G.MergeAnswer). mergedEdges y ≤ maxEdges) (sym h) (merged-few (mergeAnswer t buffer) (merge-apart t buffer))
+
+  pub merge-number : (r : ℕ) → r ≡ mergedNumber x → r ≡ mergeNumber (mergeAnswer t buffer)
+  merge-number r e = e ∙ ap mergedNumber h ∙ merged-number (mergeAnswer t buffer)
+
+pub ruleset merge-laws = (merge-short, merge-few, merge-number)

@@ -1,8 +1,13 @@
 //! The five calls, as the library has them and as the reference answers them.
 use crate::reference::{self, judge::Proposal};
+use hemdoqur::numbers;
 
 /// A way to answer the calls. Numbers and slices only, as in C.
 pub trait Sheets {
+    /// Whether `merge` is its own.
+    fn merges(&self) -> bool {
+        true
+    }
     /// row * 2^32 + line; 0: accepted, and the table is written
     fn read(&self, text: &[u8], table: &mut [u32]) -> u64;
     /// row * 2^32 + length
@@ -86,103 +91,44 @@ fn deliver(text: &[u8], edges: usize, out: &mut [u8]) -> u64 {
     edges as u64 * EDGE + text.len() as u64
 }
 
-/// What is tried: the library, or without one the reference.
-#[cfg(library)]
-pub fn tried() -> (&'static str, Box<dyn Sheets>) {
-    ("the library", Box::new(Library))
-}
-
-/// What is tried: the library, or without one the reference.
-#[cfg(not(library))]
-pub fn tried() -> (&'static str, Box<dyn Sheets>) {
-    ("the reference (no library was linked)", Box::new(Reference))
-}
-
-/// The proved library.
-#[cfg(library)]
+/// The proved library. Where its archive has no merger, the reference merges for it, so that runs go over merged tables too.
 pub struct Library;
 
-#[cfg(library)]
-mod linked {
-    extern "C" {
-        pub fn sheet_read(text: *const u8, text_length: usize, table: *mut u32, table_length: usize) -> u64;
-        pub fn sheet_write(table: *const u32, table_length: usize, out: *mut u8, out_length: usize) -> u64;
-        pub fn sheet_merge(table: *const u32, table_length: usize, out: *mut u8, out_length: usize) -> u64;
-        pub fn sheet_step(
-            table: *const u32,
-            table_length: usize,
-            phase: u32,
-            locations: *const u32,
-            locations_length: usize,
-            values: *const i32,
-            values_length: usize,
-            action: u32,
-            new_locations: *const u32,
-            new_locations_length: usize,
-            new_values: *const i32,
-            new_values_length: usize,
-        ) -> u32;
-        pub fn sheet_environment(
-            table: *const u32,
-            table_length: usize,
-            phase: u32,
-            locations: *const u32,
-            locations_length: usize,
-            values: *const i32,
-            values_length: usize,
-            new_values: *const i32,
-            new_values_length: usize,
-        ) -> u32;
-    }
-}
-
-// Sound because each pointer and length come from one Rust slice, which is borrowed until the call is over.
-#[cfg(library)]
 impl Sheets for Library {
+    fn merges(&self) -> bool {
+        hemdoqur::MERGES
+    }
+
     fn read(&self, text: &[u8], table: &mut [u32]) -> u64 {
-        unsafe { linked::sheet_read(text.as_ptr(), text.len(), table.as_mut_ptr(), table.len()) }
+        numbers::read(text, table)
     }
 
     fn write(&self, table: &[u32], out: &mut [u8]) -> u64 {
-        unsafe { linked::sheet_write(table.as_ptr(), table.len(), out.as_mut_ptr(), out.len()) }
+        numbers::write(table, out)
     }
 
     fn merge(&self, table: &[u32], out: &mut [u8]) -> u64 {
-        unsafe { linked::sheet_merge(table.as_ptr(), table.len(), out.as_mut_ptr(), out.len()) }
-    }
-
-    fn step(&self, table: &[u32], proposal: &Proposal, action: u32) -> u32 {
-        unsafe {
-            linked::sheet_step(
-                table.as_ptr(),
-                table.len(),
-                proposal.phase,
-                proposal.locations.as_ptr(),
-                proposal.locations.len(),
-                proposal.values.as_ptr(),
-                proposal.values.len(),
-                action,
-                proposal.new_locations.as_ptr(),
-                proposal.new_locations.len(),
-                proposal.new_values.as_ptr(),
-                proposal.new_values.len(),
-            )
+        if self.merges() {
+            numbers::merge(table, out)
+        } else {
+            Reference.merge(table, out)
         }
     }
 
-    fn environment(&self, table: &[u32], proposal: &Proposal) -> u32 {
-        unsafe {
-            linked::sheet_environment(
-                table.as_ptr(),
-                table.len(),
-                proposal.phase,
-                proposal.locations.as_ptr(),
-                proposal.locations.len(),
-                proposal.values.as_ptr(),
-                proposal.values.len(),
-                proposal.new_values.as_ptr(),
-                proposal.new_values.len(),
-            )
-        }
+    fn step(&self, table: &[u32], from: &Proposal, action: u32) -> u32 {
+        numbers::step(table, from.phase, from.locations, from.values, action, from.new_locations, from.new_values)
+    }
+
+    fn environment(&self, table: &[u32], from: &Proposal) -> u32 {
+        numbers::environment(table, from.phase, from.locations, from.values, from.new_values)
+    }
+}
+
+/// A line for the head of a program's output.
+pub fn left_out(sheets: &dyn Sheets) -> &'static str {
+    if sheets.merges() {
+        ""
+    } else {
+        " (LEFT OUT: merging, since the archive has no sheet_merge)"
     }
 }

@@ -7,11 +7,11 @@ use Rattle.exports.proofs.sheet_environment.Tie as tie
 environment-requires : tie.Need-environment-requires
 environment-requires c κs = search needs
 
-judge-number-requires : tie.Need-judge-number-requires
-judge-number-requires c κs = search needs
+number-requires : tie.Need-number-requires
+number-requires c κs = search needs
 
 returns : tie.Need-returns
 returns c = search (needs, environment-law)
 
 pub sheet-environment-spec : {M : Type 1} → statement M
-sheet-environment-spec = tie.close (tie.spec environment-requires judge-number-requires returns)
+sheet-environment-spec = tie.close (tie.spec environment-requires number-requires returns)

@@ -1,5 +1,6 @@
-//! Times of the five calls beside the reference, in one run, as Markdown tables.
-use differential::calls::{self, Reference, Sheets};
+//! Times of the five calls beside the reference, in one run, as Markdown tables. Tables and buffers are not cleared between calls;
+//! a ratio is the library's time over the reference's.
+use differential::calls::{self, Library, Reference, Sheets};
 use differential::reference::judge::Proposal;
 use differential::reference::model::{TABLE_WORDS, TEXT_BYTES};
 use differential::rounds::OVEN;
@@ -8,8 +9,8 @@ use std::hint::black_box;
 use std::time::{Duration, Instant};
 
 /// How long one measurement lasts, and how many there are. The best is taken, for others use the machine too.
-const LASTS: Duration = Duration::from_millis(12);
-const MEASUREMENTS: usize = 12;
+const LASTS: Duration = Duration::from_millis(4);
+const MEASUREMENTS: usize = 100;
 
 /// Nanoseconds of one call, in one measurement.
 fn time(mut call: impl FnMut()) -> f64 {
@@ -25,12 +26,14 @@ fn time(mut call: impl FnMut()) -> f64 {
 /// A call on a subject: the nanoseconds of one measurement.
 type Measure = fn(&Subject, &dyn Sheets) -> f64;
 
-/// The best time of each of some, measured in turn so that a busy moment of the machine meets them all.
-fn best<const N: usize>(subject: &Subject, measure: Measure, of: [&dyn Sheets; N]) -> [f64; N] {
-    let mut best = [f64::INFINITY; N];
+/// For each sheet the best time of the library and of the reference, measured in turn, so that a busy moment of the machine meets
+/// them all.
+fn best(subjects: &[Subject], measure: Measure) -> Vec<[f64; 2]> {
+    let mut best = vec![[f64::INFINITY; 2]; subjects.len()];
     for _ in 0..MEASUREMENTS {
-        for (best, sheets) in best.iter_mut().zip(of) {
-            *best = best.min(measure(subject, sheets));
+        for (subject, [library, reference]) in subjects.iter().zip(&mut best) {
+            *library = library.min(measure(subject, &Library));
+            *reference = reference.min(measure(subject, &Reference));
         }
     }
     best
@@ -191,50 +194,70 @@ const CALLS: [(&str, Measure); 5] = [
     ("environment", Subject::environment),
 ];
 
-fn shown(call: &str, bytes: usize, nanoseconds: f64) -> String {
-    if call == "read" {
-        format!("{:.2} MB/s", bytes as f64 * 1e3 / nanoseconds)
-    } else {
-        format!("{nanoseconds:.0} ns")
+/// The calls that the library has, by number.
+fn tried() -> impl Iterator<Item = usize> {
+    (0..CALLS.len()).filter(|call| CALLS[*call].0 != "merge" || Library.merges())
+}
+
+/// MB/s of the text, for reading and writing.
+fn speed(subject: &Subject, call: usize, nanoseconds: f64) -> String {
+    match CALLS[call].0 {
+        "read" | "write" => format!("{:.1}", subject.text.len() as f64 * 1e3 / nanoseconds),
+        _ => String::new(),
     }
 }
 
-fn main() {
-    let (name, sheets) = calls::tried();
-    println!("# Times\n\nTried: {name}. A ratio above 1 says that the reference takes longer.\n");
-    println!("| sheet | call | of | tried | reference | ratio |\n|---|---|---|---|---|---|");
-    for subject in subjects() {
-        let answers = subject.answers();
-        for ((call, measure), answer) in CALLS.iter().zip(&answers) {
-            let [tried, reference] = best(&subject, *measure, [sheets.as_ref(), &Reference]);
-            let bytes = subject.text.len();
+fn calls_table(subjects: &[Subject]) {
+    println!("| call | sheet | what | library, ns | reference, ns | ratio | library, MB/s | reference, MB/s |");
+    println!("|---|---|---|---:|---:|---:|---:|---:|");
+    for call in tried() {
+        let (name, measure) = CALLS[call];
+        for (subject, [library, reference]) in subjects.iter().zip(best(subjects, measure)) {
             println!(
-                "| {} | {call} | {answer} | {} | {} | {:.2} |",
+                "| {name} | {} | {} | {library:.0} | {reference:.0} | {:.2} | {} | {} |",
                 subject.name,
-                shown(call, bytes, tried),
-                shown(call, bytes, reference),
-                reference / tried
+                subject.answers()[call],
+                library / reference,
+                speed(subject, call, library),
+                speed(subject, call, reference)
             );
         }
     }
-    growth("Text size", sizes(), sheets.as_ref());
-    growth("Automata", automata(), sheets.as_ref());
 }
 
-/// The same automaton with more and more edges.
+/// Times of each call on sheets that grow; a factor is the time over that of the first sheet.
+fn growth(title: &str, subjects: &[Subject]) {
+    println!("\n## {title}\n");
+    println!("| call | sheet | what | library, ns | factor | reference, ns | factor | ratio |");
+    println!("|---|---|---|---:|---:|---:|---:|---:|");
+    for call in tried() {
+        let (name, measure) = CALLS[call];
+        let times = best(subjects, measure);
+        for (subject, [library, reference]) in subjects.iter().zip(&times) {
+            println!(
+                "| {name} | {} | {} | {library:.0} | {:.1} | {reference:.0} | {:.1} | {:.2} |",
+                subject.name,
+                subject.answers()[call],
+                library / times[0][0],
+                reference / times[0][1],
+                library / reference
+            );
+        }
+    }
+}
+
+/// The same two automata with more and more locations and edges.
 fn sizes() -> Vec<Subject> {
-    [1, 2, 4, 8].iter().map(|times| Subject::new(&format!("times {times}"), chain(2, 4, 24 * times, 6, 2))).collect()
+    [1, 2, 4, 8].map(|times| Subject::new(&format!("size {times}"), chain(2, 4 * times, 32 * times, 6, 2))).into()
 }
 
 fn automata() -> Vec<Subject> {
-    [1, 2, 4, 8, 16].iter().map(|count| Subject::new(&format!("{count} automata"), chain(*count, 4, 12, 6, 2))).collect()
+    [1, 2, 4, 8, 16].map(|count| Subject::new(&format!("automata: {count}"), chain(count, 4, 12, 6, 2))).into()
 }
 
-fn growth(title: &str, subjects: Vec<Subject>, sheets: &dyn Sheets) {
-    println!("\n## {title}: how the tried calls grow\n\n| sheet | bytes | read | write | merge | step | environment | merged |\n|---|---|---|---|---|---|---|---|");
-    for subject in subjects {
-        let times: Vec<String> =
-            CALLS.iter().map(|(_, measure)| format!("{:.0} ns", best(&subject, *measure, [sheets])[0])).collect();
-        println!("| {} | {} | {} | {} |", subject.name, subject.text.len(), times.join(" | "), subject.answers()[2]);
-    }
+fn main() {
+    println!("## Calls{}\n", calls::left_out(&Library));
+    calls_table(&subjects());
+    growth("Growth with the text", &sizes());
+    growth("Growth with the automata", &automata());
 }

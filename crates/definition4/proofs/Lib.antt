@@ -1,0 +1,3 @@
+pub mod Table3Is
+pub mod Definition4Is
+pub mod Unique

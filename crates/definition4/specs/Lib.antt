@@ -1,0 +1,2 @@
+pub mod Table3
+pub mod Definition4

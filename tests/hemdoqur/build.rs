@@ -1,0 +1,29 @@
+// Links the archive that `rt staticlib exports` makes.
+use std::env;
+use std::fs;
+use std::path::{Path, PathBuf};
+
+// The folder of the archive: HEMDOQUR_LIB, else the repository's target/staticlib.
+fn folder() -> PathBuf {
+    match env::var_os("HEMDOQUR_LIB") {
+        Some(path) => PathBuf::from(path),
+        None => Path::new(&env::var_os("CARGO_MANIFEST_DIR").expect("set by cargo")).join("../../target/staticlib"),
+    }
+}
+
+fn main() {
+    let folder = folder();
+    let archive = folder.join("libexports.a");
+    println!("cargo:rustc-check-cfg=cfg(merges)");
+    println!("cargo:rerun-if-env-changed=HEMDOQUR_LIB");
+    println!("cargo:rerun-if-changed={}", archive.display());
+    let bytes =
+        fs::read(&archive).unwrap_or_else(|error| panic!("{}: {error}; `rt staticlib exports` makes it", archive.display()));
+    // Until the merger is exported, everything but merging is tried.
+    let name = b"sheet_merge";
+    if bytes.windows(name.len()).any(|part| part == name) {
+        println!("cargo:rustc-cfg=merges");
+    }
+    println!("cargo:rustc-link-search=native={}", folder.display());
+    println!("cargo:rustc-link-lib=static=exports");
+}
