@@ -14,9 +14,9 @@ use Rattle.model.specs.Table.{row18, modelOf, Opened, unopened, opened, openTab
 use Rattle.model.specs.Rules as R
 use Rattle.model.specs.Judge as J
 use Rattle.judge.specs.declared.Ran.{Ran}
-use Rattle.judge.specs.Answers.{answerNumber}
+use Rattle.judging.specs.Answers.{answerNumber}
 use Rattle.judge.specs.RunAnswer.{RunAnswer, notRun, ran, ranOf}
-use Rattle.judge.proofs.NumberLaws.{step-fits, environment-fits, unwrapped}
+use Rattle.judging.proofs.NumberLaws.{step-fits, environment-fits, unwrapped}
 use Rattle.format.specs.Bytes.{Bytes}
 use Rattle.model.specs.Bounds.{maxBytes, maxEdges}
 use Rattle.format.specs.Merger as Merger

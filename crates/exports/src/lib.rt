@@ -12,7 +12,7 @@ ghost use Rattle.model.specs.Bounds.{maxBytes, maxEdges};
 ghost use Rattle.format.specs.Merger.{mergeAnswer, mergeAfter};
 ghost use Rattle.format.specs.Reader.{readAnswer, tableAfter};
 ghost use Rattle.format.specs.Writer.{writeAnswer, bufferAfter};
-ghost use Rattle.judge.specs.Answers.{answerNumber};
+ghost use Rattle.judging.specs.Answers.{answerNumber};
 ghost use Rattle.judge.specs.RunAnswer.{runAnswer, answersAfter};
 ghost use Rattle.exports.specs.Numbers.{mostLine, lineOf, readNumber, toldNumber, writeNumber, writtenNumber, runNumber, mergeNumber, mergedNumber, mergedLength, mergedEdges};
 

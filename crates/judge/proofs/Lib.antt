@@ -1,12 +1,2 @@
-pub mod Filled
-pub mod WalkLaws
-pub mod CodeLaws
-pub mod Items
-pub mod RowLaws
-pub mod SettledLaws
-pub mod CallLaws
-pub mod TakenLaws
-pub mod StepLaws
 pub mod RunCodeLaws
-pub mod NumberLaws
 pub mod RunLaws

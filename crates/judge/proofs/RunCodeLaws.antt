@@ -16,21 +16,21 @@ use Rattle.model.proofs.Tests.{not-true, not-false, eq-of, of-eq, not-eq}
 use Rattle.outline.specs.Outline.{countAt}
 use Rattle.table.specs.declared.Checked.{Checked}
 use Rattle.table.specs.declared.Checked.the-variants as C
-use Rattle.judge.specs.declared.Phase.{Phase}
-use Rattle.judge.specs.declared.Phase.the-variants.{Start, Running}
-use Rattle.judge.specs.declared.State.{State}
+use Rattle.judging.specs.declared.Phase.{Phase}
+use Rattle.judging.specs.declared.Phase.the-variants.{Start, Running}
+use Rattle.judging.specs.declared.State.{State}
 use Rattle.judge.specs.declared.Ran.{Ran}
 use Rattle.judge.specs.declared.runs.Turn.{Turn}
-use Rattle.judge.specs.declared.Admitted.{Admitted}
-use Rattle.judge.specs.declared.Admitted.the-variants.{In, Out}
-use Rattle.judge.specs.declared.Answer.{Answer}
-use Rattle.judge.specs.declared.Answer.the-variants.{Yes, Marked, No, Refused}
-use Rattle.judge.specs.Answers.{answerOf, phaseIs, answerNumber}
-use Rattle.judge.specs.States.{filled, stateOf}
-use Rattle.judge.specs.RowTests.{phaseRead, lengthsFit, locationsKnown, valuesKnown}
-use Rattle.judge.specs.Settled.{variablesShown}
-use Rattle.judge.specs.Taken.{automataShown}
-use Rattle.judge.specs.Calls.{thenLists, thenPhase, environmentOn, stepOn}
+use Rattle.judging.specs.declared.Admitted.{Admitted}
+use Rattle.judging.specs.declared.Admitted.the-variants.{In, Out}
+use Rattle.judging.specs.declared.Answer.{Answer}
+use Rattle.judging.specs.declared.Answer.the-variants.{Yes, Marked, No, Refused}
+use Rattle.judging.specs.Answers.{answerOf, phaseIs, answerNumber}
+use Rattle.judging.specs.States.{filled, stateOf}
+use Rattle.judging.specs.RowTests.{phaseRead, lengthsFit, locationsKnown, valuesKnown}
+use Rattle.judging.specs.Settled.{variablesShown}
+use Rattle.judging.specs.Taken.{automataShown}
+use Rattle.judging.specs.Calls.{thenLists, thenPhase, environmentOn, stepOn}
 use Rattle.judge.specs.RunAnswer.{environmentMark, notRun, ranOf}
 use Rattle.judge.specs.RunWords.{listsFit, runChecked, begunOn, judgedOn, proposedOn, movedTo, onward, Gone, turnOn, goOn}
 

@@ -20,29 +20,29 @@ use Rattle.table.specs.Check.{answered}
 use Rattle.table.specs.declared.Checked.{Checked}
 use Rattle.table.specs.declared.Checked.the-variants as C
 use Rattle.outline.proofs.Opened.{Sheet, sheet-of}
-use Rattle.judge.specs.declared.Phase.{Phase}
-use Rattle.judge.specs.declared.Phase.the-variants.{Start, Running}
-use Rattle.judge.specs.declared.State.{State}
+use Rattle.judging.specs.declared.Phase.{Phase}
+use Rattle.judging.specs.declared.Phase.the-variants.{Start, Running}
+use Rattle.judging.specs.declared.State.{State}
 use Rattle.judge.specs.declared.Ran.{Ran}
-use Rattle.judge.specs.declared.Admitted.{Admitted}
-use Rattle.judge.specs.declared.Admitted.the-variants.{In, Out}
-use Rattle.judge.specs.declared.Answer.{Answer}
-use Rattle.judge.specs.declared.Answer.the-variants.{Yes, Marked, No, Refused}
-use Rattle.judge.specs.Answers.{answerOf, phaseIs, phaseFor, answerNumber}
-use Rattle.judge.specs.States.{filled, stateOf, held}
-use Rattle.judge.specs.RowTests.{lengthsFit, locationsKnown, valuesKnown}
-use Rattle.judge.specs.Settled.{variablesShown}
-use Rattle.judge.specs.Taken.{automataShown}
-use Rattle.judge.specs.Calls.{thenLists, thenPhase}
+use Rattle.judging.specs.declared.Admitted.{Admitted}
+use Rattle.judging.specs.declared.Admitted.the-variants.{In, Out}
+use Rattle.judging.specs.declared.Answer.{Answer}
+use Rattle.judging.specs.declared.Answer.the-variants.{Yes, Marked, No, Refused}
+use Rattle.judging.specs.Answers.{answerOf, phaseIs, phaseFor, answerNumber}
+use Rattle.judging.specs.States.{filled, stateOf, held}
+use Rattle.judging.specs.RowTests.{lengthsFit, locationsKnown, valuesKnown}
+use Rattle.judging.specs.Settled.{variablesShown}
+use Rattle.judging.specs.Taken.{automataShown}
+use Rattle.judging.specs.Calls.{thenLists, thenPhase}
 use Rattle.judge.specs.RunAnswer.{environmentMark, proposalOf, proposalsOf, RunAnswer, notRun, ran, listsMiss, runFrom, runAnswer, ranOf, answersAfter}
 use Rattle.judge.specs.RunWords.{listsFit, runChecked, begunOn, judgedOn, proposedOn, movedTo, Gone, turnOn, goOn}
-use Rattle.judge.proofs.Filled.{filled-front, filled-twice}
-use Rattle.judge.proofs.RowLaws.{automata-in, variables-in, lengths-row, locations-row, values-row}
-use Rattle.judge.proofs.SettledLaws.{shown-is}
-use Rattle.judge.proofs.CallLaws.{stands, one-each, one-value, phase-read, environment-good}
-use Rattle.judge.proofs.TakenLaws.{automata-is, in-front}
-use Rattle.judge.proofs.StepLaws.{step-good}
-use Rattle.judge.proofs.NumberLaws.{unwrapped, judge-fits}
+use Rattle.judging.proofs.Filled.{filled-front, filled-twice}
+use Rattle.judging.proofs.RowLaws.{automata-in, variables-in, lengths-row, locations-row, values-row}
+use Rattle.judging.proofs.SettledLaws.{shown-is}
+use Rattle.judging.proofs.CallLaws.{stands, one-each, one-value, phase-read, environment-good}
+use Rattle.judging.proofs.TakenLaws.{automata-is, in-front}
+use Rattle.judging.proofs.StepLaws.{step-good}
+use Rattle.judging.proofs.NumberLaws.{unwrapped, judge-fits}
 
 phase-back : (p : R.Phase) → phaseIs (phaseFor p) ≡ p
 unfolding phaseIs phaseFor

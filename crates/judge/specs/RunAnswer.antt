@@ -11,10 +11,10 @@ use Rattle.model.specs.Table.{unopened, opened, openTable}
 use Rattle.model.specs.Rules.{State}
 use Rattle.model.specs.Judge.{Answer, phaseOf, row21, row22, row23}
 use Rattle.model.specs.Runs.{Proposal, toStep, toEnvironment, tableJudge, Run, run}
-use Rattle.judge.specs.declared.Phase.the-variants.{Start}
+use Rattle.judging.specs.declared.Phase.the-variants.{Start}
 use Rattle.judge.specs.declared.Ran.{Ran}
-use Rattle.judge.specs.Answers.{answerNumber}
-use Rattle.judge.specs.States.{stateOf, held}
+use Rattle.judging.specs.Answers.{answerNumber}
+use Rattle.judging.specs.States.{stateOf, held}
 
 -- Each proposal has an action, N locations and V values. In place of an action, this number is for the environment judge, which does
 -- not read the locations.

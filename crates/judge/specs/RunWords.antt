@@ -8,19 +8,19 @@ use lib.Dec.{eqb, ltb, leb}
 use Rattle.model.specs.Runs.{phaseNumber}
 use Rattle.table.specs.declared.Checked.{Checked}
 use Rattle.table.specs.declared.Checked.the-variants as C
-use Rattle.judge.specs.declared.Phase.the-variants.{Running}
-use Rattle.judge.specs.declared.State.{State}
+use Rattle.judging.specs.declared.Phase.the-variants.{Running}
+use Rattle.judging.specs.declared.State.{State}
 use Rattle.judge.specs.declared.runs.Turn.{Turn}
-use Rattle.judge.specs.declared.Admitted.{Admitted}
-use Rattle.judge.specs.declared.Answer.{Answer}
-use Rattle.judge.specs.declared.Answer.the-variants.{Yes, Marked, No, Refused}
-use Rattle.judge.specs.Answers.{answerOf, phaseIs, answerNumber}
-use Rattle.judge.specs.States.{stateOf}
-use Rattle.judge.specs.Places.{variablesIn, automataIn}
-use Rattle.judge.specs.RowTests.{phaseRead, lengthsFit, locationsKnown, valuesKnown}
-use Rattle.judge.specs.Settled.{variablesShown}
-use Rattle.judge.specs.Taken.{automataShown}
-use Rattle.judge.specs.Calls.{thenPhase, environmentOn, stepOn}
+use Rattle.judging.specs.declared.Admitted.{Admitted}
+use Rattle.judging.specs.declared.Answer.{Answer}
+use Rattle.judging.specs.declared.Answer.the-variants.{Yes, Marked, No, Refused}
+use Rattle.judging.specs.Answers.{answerOf, phaseIs, answerNumber}
+use Rattle.judging.specs.States.{stateOf}
+use Rattle.judging.specs.Places.{variablesIn, automataIn}
+use Rattle.judging.specs.RowTests.{phaseRead, lengthsFit, locationsKnown, valuesKnown}
+use Rattle.judging.specs.Settled.{variablesShown}
+use Rattle.judging.specs.Taken.{automataShown}
+use Rattle.judging.specs.Calls.{thenPhase, environmentOn, stepOn}
 use Rattle.judge.specs.RunAnswer.{environmentMark}
 
 -- row 21 of the proposals: so many locations and values for `count` of them

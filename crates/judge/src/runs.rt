@@ -1,23 +1,39 @@
 // A list of proposals over a table that is known to be good: what `run` does once it has checked the table.
-use crate::Admitted;
-use crate::Answer;
-use crate::Phase;
 use crate::Ran;
-use crate::State;
-use crate::rows::{self};
-use crate::settled::{self};
-use crate::taken::{self};
+use judging::Admitted;
+use judging::Answer;
+use judging::Phase;
+use judging::State;
 use table::Checked;
 ghost use mathlib.Core.Path.{_≡_};
-ghost use Prim.Native.Nat.{_≤_};
+ghost use Prim.Native.Nat.{_*_, _≤_};
 ghost use lib.ListN.{length};
 ghost use lib.Dec.{eqb};
 ghost use Rattle.model.specs.Runs.{phaseNumber};
-ghost use Rattle.judge.specs.Answers.{phaseIs};
-ghost use Rattle.judge.specs.Settled.{variablesShown};
-ghost use Rattle.judge.specs.Taken.{automataShown};
+ghost use Rattle.judging.specs.Answers.{phaseIs};
+ghost use Rattle.judging.specs.Settled.{variablesShown};
+ghost use Rattle.judging.specs.Taken.{automataShown};
 ghost use Rattle.judge.specs.RunAnswer.{environmentMark, notRun, ranOf};
-ghost use Rattle.judge.specs.RunWords.{runChecked, begunOn, judgedOn, proposedOn, movedTo, onward, turnOn, goOn};
+ghost use Rattle.judge.specs.RunWords.{listsFit, runChecked, begunOn, judgedOn, proposedOn, movedTo, onward, turnOn, goOn};
+
+// Is the total n times the count? The product is not made: it might not fit.
+fn times(total: usize, n: usize, count: usize) -> bool
+    ensures { λ r. ⌜ r ≡ eqb total (n * count) ⌝ }
+{
+    if n == 0 {
+        return total == 0;
+    }
+    (total / n == count) & (total % n == 0)
+}
+
+// Row 21 of a run: so many locations and values are those of `count` proposals.
+fn lengths_for(words: &[u32], count: usize, locations: usize, values: usize) -> bool
+    ensures { λ r. ⌜ r ≡ listsFit (now (words .entry)) count locations values ⌝ }
+{
+    let automata = outline::word(words, outline::count_at(words));
+    let variables = outline::word(words, 2);
+    times(locations, automata, count) & times(values, variables, count)
+}
 
 // Rows 21 to 23 of the state that a run starts from, 21 of the lists of `count` proposals, and 35.
 fn lists(
@@ -31,15 +47,15 @@ fn lists(
 ) -> Checked
     ensures { λ r. ⌜ r ≡ runChecked (now (words .entry)) (now (locations .entry)) (now (values .entry)) count «new_locations» «new_values» room ⌝ }
 {
-    if !rows::lengths(words, locations.len(), values.len())
-        | !rows::lengths_for(words, count, new_locations, new_values)
+    if !judging::lengths(words, locations.len(), values.len())
+        | !lengths_for(words, count, new_locations, new_values)
     {
         return Checked::Refused(21);
     }
-    if !rows::locations_known(words, locations) {
+    if !judging::locations_known(words, locations) {
         return Checked::Refused(22);
     }
-    if !rows::values_known(words, values) {
+    if !judging::values_known(words, values) {
         return Checked::Refused(23);
     }
     if room < count {
@@ -61,7 +77,7 @@ pub(crate) fn begun(
 ) -> Admitted
     ensures { λ r. ⌜ r ≡ begunOn (now (words .entry)) (now (locations .entry)) (now (values .entry)) count «new_locations» «new_values» room phase ⌝ }
 {
-    let read = rows::phase_of(phase);
+    let read = judging::phase_of(phase);
     match read {
         Admitted::Out(row) => Admitted::Out(row),
         Admitted::In(p) => {
@@ -114,16 +130,16 @@ fn phase_number(phase: Phase) -> u32
 fn judged(words: &[u32], s: State, action: u32, new_locations: &[u32], new_values: &[i32]) -> Answer
     ensures { λ r. ⌜ r ≡ judgedOn (now (words .entry)) s action (now («new_locations» .entry)) (now («new_values» .entry)) ⌝ }
 {
-    let n = taken::automata(words);
-    let v = settled::shown(words);
+    let n = judging::automata(words);
+    let v = judging::shown(words);
     let p = s.phase;
     let phase = phase_number(p);
     let locations = s.locations;
     let values = s.values;
     if for_environment(action) {
-        return crate::environment_on(words, phase, &locations[..n], &values[..v], new_values);
+        return judging::environment_on(words, phase, &locations[..n], &values[..v], new_values);
     }
-    crate::step_on(
+    judging::step_on(
         words,
         phase,
         &locations[..n],
@@ -167,7 +183,7 @@ fn put(words: &[u32], s: State, action: u32, new_locations: &[u32], new_values: 
     ensures { λ r. ⌜ r ≡ turnOn (now (words .entry)) s action (now («new_locations» .entry)) (now («new_values» .entry)) ⌝ }
 {
     let answer = judged(words, s, action, new_locations, new_values);
-    let number = crate::number(answer);
+    let number = judging::number(answer);
     let state = moved(answer, s, proposed(s, action, new_locations, new_values));
     Turn { number, state }
 }
@@ -198,8 +214,8 @@ pub(crate) fn all(
     ensures { λ r. ⌜ r ≡ goOn (now (words .entry)) (automataShown (now (words .entry))) (variablesShown (now (words .entry))) start (now (answers .entry)) 0 (now (actions .entry)) (now («new_locations» .entry)) (now («new_values» .entry)) .state ⌝ }
     ensures { λ _. ⌜ now (answers .exit) ≡ goOn (now (words .entry)) (automataShown (now (words .entry))) (variablesShown (now (words .entry))) start (now (answers .entry)) 0 (now (actions .entry)) (now («new_locations» .entry)) (now («new_values» .entry)) .answers ⌝ }
 {
-    let n = taken::automata(words);
-    let v = settled::shown(words);
+    let n = judging::automata(words);
+    let v = judging::shown(words);
     let mut s = start;
     let mut at = 0;
     let mut from = 0;

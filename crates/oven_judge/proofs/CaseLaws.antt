@@ -11,7 +11,7 @@ use lib.Dec.{leb, leb→le}
 use Rattle.scan.specs.declared.answer.Written.{Written}
 use Rattle.scan.specs.declared.answer.Written.the-variants.{To, Full}
 use Rattle.scan.specs.Write.{fits, writtenTo, Wrote}
-use Rattle.judge.proofs.Filled.{Filling}
+use Rattle.judging.proofs.Filled.{Filling}
 
 pub padded-long : (words all : List ℕ) (i : ℕ) → Filling 8192 0 words all i → 8192 ≡ length all
 padded-long words all i f = sym (f .size)

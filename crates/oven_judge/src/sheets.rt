@@ -1,7 +1,7 @@
 // The sheets of the cases, as tables: the first words here, by docs/TABLE.md, and zeros behind them.
 ghost use mathlib.Core.Path.{_≡_};
 ghost use lib.ListN.{length, getD};
-ghost use Rattle.judge.specs.States.{filled};
+ghost use Rattle.judging.specs.States.{filled};
 
 // sheets/oven.txt: door, steam, and v0 the valve. Both share action 1.
 const OVEN: [u32; 51] = [

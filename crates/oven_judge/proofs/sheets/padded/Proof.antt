@@ -1,6 +1,6 @@
 -- `oven_judge::sheets::padded` meets its contract: the first i words are in place. The measure is the words left.
 use Prim.Native.Nat.{_-_}
-use Rattle.judge.proofs.Filled.{Filling, fill-laws}
+use Rattle.judging.proofs.Filled.{Filling, fill-laws}
 use Rattle.oven_judge.proofs.CaseLaws.{padded-long}
 use borrow.Author.Needs.{needs}
 use Rattle.oven_judge.proofs.sheets.padded.Statement.{statement}

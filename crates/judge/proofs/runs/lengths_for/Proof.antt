@@ -1,0 +1,34 @@
+-- `judge::runs::lengths_for` meets its contract: each way out is a law of RunCodeLaws.
+use Rattle.judge.proofs.RunCodeLaws.{lengths-for-is}
+use borrow.Author.Needs.{needs}
+use Rattle.judge.proofs.runs.lengths_for.Statement.{statement}
+use Rattle.judge.proofs.runs.lengths_for.Tie as tie
+
+count-at-requires : tie.Need-count-at-requires
+count-at-requires c κs = search needs
+
+word-requires : tie.Need-word-requires
+word-requires c κs = search needs
+
+word-requires-2 : tie.Need-word-requires-2
+word-requires-2 c κs = search needs
+
+times-requires : tie.Need-times-requires
+times-requires c κs = search needs
+
+times-requires-2 : tie.Need-times-requires-2
+times-requires-2 c κs = search needs
+
+returns : tie.Need-returns
+returns c = search (needs, lengths-for-is)
+
+pub lengths-for-spec : {M : Type 1} → statement M
+lengths-for-spec =
+    tie.close
+    (tie.spec
+    count-at-requires
+    word-requires
+    word-requires-2
+    times-requires
+    times-requires-2
+    returns)

@@ -1,0 +1,98 @@
+// Rows 20 to 24, over the words of a table. Each test is true where its row lets a call pass.
+use crate::Admitted;
+use crate::Phase;
+ghost use mathlib.Core.Path.{_≡_};
+ghost use lib.ListN.{getD};
+ghost use Rattle.model.specs.Basic.{between};
+ghost use Rattle.judging.specs.RowTests.{phaseRead, lengthsFit, locationKnown, locationsKnown, rangeHas, valuesKnown, actionKnown};
+
+// Row 20: which phase has this number?
+pub fn phase_of(phase: u32) -> Admitted
+    ensures { λ r. ⌜ r ≡ phaseRead phase ⌝ }
+{
+    match phase {
+        0 => Admitted::In(Phase::Start),
+        1 => Admitted::In(Phase::Running),
+        _ => Admitted::Out(20),
+    }
+}
+
+// Row 21: a list of so many locations and one of so many values have one for each automaton and each variable.
+pub fn lengths(words: &[u32], locations: usize, values: usize) -> bool
+    ensures { λ r. ⌜ r ≡ lengthsFit (now (words .entry)) locations values ⌝ }
+{
+    let automata = outline::word(words, outline::count_at(words));
+    let variables = outline::word(words, 2);
+    (locations == automata) & (values == variables)
+}
+
+// The automaton at `at` has the location that the list gives automaton k.
+fn location_known(words: &[u32], at: usize, locations: &[u32], k: usize) -> bool
+    ensures { λ r. ⌜ r ≡ locationKnown (now (words .entry)) (now (locations .entry)) at k ⌝ }
+{
+    outline::word(locations, k) < outline::word(words, outline::step(words, at, 2))
+}
+
+// Row 22: each automaton has its location.
+pub fn locations_known(words: &[u32], locations: &[u32]) -> bool
+    ensures { λ r. ⌜ r ≡ locationsKnown (now (words .entry)) (now (locations .entry)) ⌝ }
+{
+    let count = outline::count_at(words);
+    let n = outline::word(words, count);
+    let mut at = outline::step(words, count, 1);
+    let mut k = 0;
+    while k < n {
+        if !location_known(words, at, locations, k) {
+            return false;
+        }
+        at = outline::after_automaton(words, at);
+        k += 1;
+    }
+    true
+}
+
+// The word at a place, 0 past the end.
+pub(crate) fn word(words: &[u32], at: usize) -> u32
+    ensures { λ r. ⌜ r ≡ getD (now (words .entry)) at 0 ⌝ }
+{
+    if at < words.len() { words[at] } else { 0 }
+}
+
+fn within(low: i64, high: i64, value: i64) -> bool
+    ensures { λ r. ⌜ r ≡ between low high value ⌝ }
+{
+    (low <= value) & (value <= high)
+}
+
+// The range at `at`, LO and HI, has the value that the list gives variable k.
+fn value_known(words: &[u32], at: usize, values: &[i32], k: usize) -> bool
+    ensures { λ r. ⌜ r ≡ rangeHas (now (words .entry)) (now (values .entry)) at k ⌝ }
+{
+    let low = arithmetic::unbias(word(words, at));
+    let high = arithmetic::unbias(word(words, outline::step(words, at, 1)));
+    within(low, high, arithmetic::wide(arithmetic::variable(values, k)))
+}
+
+// Row 23: each variable's value is in its range.
+pub fn values_known(words: &[u32], values: &[i32]) -> bool
+    ensures { λ r. ⌜ r ≡ valuesKnown (now (words .entry)) (now (values .entry)) ⌝ }
+{
+    let n = outline::word(words, 2);
+    let mut at = outline::step(words, 0, 3);
+    let mut k = 0;
+    while k < n {
+        if !value_known(words, at, values, k) {
+            return false;
+        }
+        at = outline::step(words, at, 2);
+        k += 1;
+    }
+    true
+}
+
+// Row 24: the model has the action.
+pub(crate) fn action_known(words: &[u32], action: u32) -> bool
+    ensures { λ r. ⌜ r ≡ actionKnown (now (words .entry)) action ⌝ }
+{
+    arithmetic::index(action) <= outline::word(words, 1)
+}

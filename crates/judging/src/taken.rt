@@ -1,0 +1,89 @@
+// Can some automata take the action so that the step is theirs? And is the action marked?
+use crate::State;
+use crate::settled::{self};
+ghost use mathlib.Core.Path.{_≡_};
+ghost use Rattle.judging.specs.Taken.{automataShown, treePlace, takenIn, takenAt, markAt};
+
+// N, as far as a state has locations.
+pub fn automata(words: &[u32]) -> usize
+    ensures { λ r. ⌜ r ≡ automataShown (now (words .entry)) ⌝ }
+{
+    let n = outline::word(words, outline::count_at(words));
+    if n <= model::Model::AUTOMATA {
+        n
+    } else {
+        model::Model::AUTOMATA
+    }
+}
+
+// Where the tree's nodes stand: after their count.
+fn tree_place(words: &[u32]) -> usize
+    ensures { λ r. ⌜ r ≡ treePlace (now (words .entry)) ⌝ }
+{
+    outline::step(words, outline::tree_at(words), 1)
+}
+
+// From the locations `old` and the values `before` to `new` and `after`.
+fn found(
+    words: &[u32],
+    old: &[u32],
+    new: &[u32],
+    before: &[i32],
+    after: &[i32],
+    action: u32,
+) -> bool
+    ensures { λ r. ⌜ r ≡ takenIn (now (words .entry)) (now (old .entry)) (now (new .entry)) (now (before .entry)) (now (after .entry)) action ⌝ }
+{
+    let mut masks = [0u64; 512];
+    let mut first = [0usize; 17];
+    candidates::gather(
+        words,
+        old,
+        new,
+        before,
+        after,
+        action,
+        &mut masks,
+        &mut first,
+    );
+    let sets = candidates::own_sets(words);
+    let still = candidates::still(old, new);
+    let changed = candidates::changed(before, after);
+    search::found(
+        words,
+        tree_place(words),
+        &sets,
+        action,
+        &masks,
+        &first,
+        still,
+        changed,
+    )
+}
+
+pub(crate) fn taken(words: &[u32], s: State, action: u32, t: State) -> bool
+    ensures { λ r. ⌜ r ≡ takenAt (now (words .entry)) action s t ⌝ }
+{
+    let n = automata(words);
+    let v = settled::shown(words);
+    let old = s.locations;
+    let new = t.locations;
+    let before = s.values;
+    let after = t.values;
+    found(
+        words,
+        &old[..n],
+        &new[..n],
+        &before[..v],
+        &after[..v],
+        action,
+    )
+}
+
+// The mark: is the action in the whole's set?
+pub(crate) fn mark(words: &[u32], action: u32) -> bool
+    ensures { λ r. ⌜ r ≡ markAt (now (words .entry)) action ⌝ }
+{
+    let sets = candidates::own_sets(words);
+    tree::in_set(words, tree_place(words), &sets, action)
+}
