@@ -32,6 +32,9 @@
 #define SHEET_YES_MARKED 2u
 #define SHEET_REFUSED 100u
 
+/* In the place of an action in a list of proposals: this one is for the environment judge. */
+#define SHEET_ENVIRONMENT 4294967295u
+
 #ifdef __cplusplus
 extern "C" {
 #endif
@@ -60,6 +63,22 @@ uint32_t sheet_step(const uint32_t *table, size_t table_length, uint32_t phase, 
 uint32_t sheet_environment(const uint32_t *table, size_t table_length, uint32_t phase, const uint32_t *locations,
                            size_t locations_length, const int32_t *values, size_t values_length,
                            const int32_t *new_values, size_t new_values_length);
+
+/* Puts a list of proposals to the judges, over one check of the table. It begins at the given phase, locations and values; each yes goes
+ * on to the proposed locations and values, in phase 1, and any other answer leaves them.
+ *
+ * Each proposal has an action in `actions`, one location for each automaton in `new_locations` and one value for each variable in
+ * `new_values`: those of the first proposal, then those of the second, and so on. In place of an action, SHEET_ENVIRONMENT (2^32 - 1,
+ * 4294967295) is for the environment judge, which does not read the proposal's locations; they have their places all the same.
+ *
+ * 0: the answer to each proposal is in `answers`, as many as there are actions, numbered as sheet_step and sheet_environment number
+ * them; what is behind them stays as it was. A proposal that is refused is one of these answers, and the run goes on. Else the row that
+ * refuses the whole list: 18 or 19 for the table, 20 for the phase, 21 for a length of `locations`, `values`, `new_locations` or
+ * `new_values`, 22 or 23 for a location or value of the beginning, 35 for fewer answers than actions. */
+uint32_t sheet_run(const uint32_t *table, size_t table_length, uint32_t phase, const uint32_t *locations,
+                   size_t locations_length, const int32_t *values, size_t values_length, const uint32_t *actions,
+                   size_t actions_length, const uint32_t *new_locations, size_t new_locations_length,
+                   const int32_t *new_values, size_t new_values_length, uint32_t *answers, size_t answers_length);
 
 #ifdef __cplusplus
 }

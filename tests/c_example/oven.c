@@ -26,6 +26,24 @@ static void judge(void)
     show("valve off", sheet_environment(table, SHEET_TABLE_WORDS, 1, open, 2, off, 1, off, 1));
 }
 
+/* Steam, then the door; then the environment turns the valve on, which the open door forbids, and leaves it off, which is allowed. The
+ * environment judge does not read its locations. */
+static void run(void)
+{
+    const uint32_t shut[2] = {0, 0};
+    const int32_t off[1] = {0};
+    const uint32_t actions[4] = {2, 1, SHEET_ENVIRONMENT, SHEET_ENVIRONMENT};
+    const uint32_t new_locations[8] = {0, 0, 1, 0};
+    const int32_t new_values[4] = {1, 0, 1, 0};
+    uint32_t answers[4], row;
+    size_t i;
+    row = sheet_run(table, SHEET_TABLE_WORDS, 0, shut, 2, off, 1, actions, 4, new_locations, 8, new_values, 4, answers, 4);
+    for (i = 0; row == 0 && i < 4; i++)
+        show("run", answers[i]);
+    row = sheet_run(table, SHEET_TABLE_WORDS, 0, shut, 2, off, 1, actions, 4, new_locations, 8, new_values, 4, answers, 3);
+    printf("run without room: row %u\n", (unsigned)row);
+}
+
 static void show_text(const char *what, uint64_t answer)
 {
     if (SHEET_ROW(answer) != 0)
@@ -43,11 +61,10 @@ int main(void)
         return 0;
     }
     judge();
+    run();
     answer = sheet_write(table, SHEET_TABLE_WORDS, out, sizeof out);
     printf("written: %lu bytes\n", (unsigned long)SHEET_LENGTH(answer));
     show_text("too short", sheet_write(table, SHEET_TABLE_WORDS, out, 1));
-#ifdef MERGES
     show_text("merged", sheet_merge(table, SHEET_TABLE_WORDS, out, sizeof out));
-#endif
     return 0;
 }

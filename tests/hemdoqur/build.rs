@@ -1,6 +1,5 @@
 // Links the archive that `rt staticlib exports` makes.
 use std::env;
-use std::fs;
 use std::path::{Path, PathBuf};
 
 // The folder of the archive: HEMDOQUR_LIB, else the repository's target/staticlib.
@@ -14,16 +13,9 @@ fn folder() -> PathBuf {
 fn main() {
     let folder = folder();
     let archive = folder.join("libexports.a");
-    println!("cargo:rustc-check-cfg=cfg(merges)");
     println!("cargo:rerun-if-env-changed=HEMDOQUR_LIB");
     println!("cargo:rerun-if-changed={}", archive.display());
-    let bytes =
-        fs::read(&archive).unwrap_or_else(|error| panic!("{}: {error}; `rt staticlib exports` makes it", archive.display()));
-    // Until the merger is exported, everything but merging is tried.
-    let name = b"sheet_merge";
-    if bytes.windows(name.len()).any(|part| part == name) {
-        println!("cargo:rustc-cfg=merges");
-    }
+    assert!(archive.is_file(), "{} is missing; `rt staticlib exports` makes it", archive.display());
     println!("cargo:rustc-link-search=native={}", folder.display());
     println!("cargo:rustc-link-lib=static=exports");
 }

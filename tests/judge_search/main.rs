@@ -113,7 +113,7 @@ fn main() {
     println!("exports on the oven: {} {} {} {} {} {}", step(&oven, 0, &[0, 0], &[1], 1, &[1, 0], &[0]), step(&oven, 0, &[0, 0], &[0], 2, &[0, 0], &[1]),
         step(&oven, 1, &[1, 0], &[0], 2, &[1, 0], &[1]), environment(&oven, 1, &[1, 0], &[0], &[0]), step(&oven, 0, &[0, 0], &[0], 3, &[0, 0], &[1]), environment(&oven[..8191], 1, &[1, 0], &[0], &[0]));
     let (row, len, text) = write(&oven);
-    println!("write: row {row}, length {len}, same as sheets/oven.txt: {}", std::fs::read("../sheets/oven.txt").map(|t| t == text).unwrap_or(false));
+    println!("write: row {row}, length {len}, same as sheets/oven.txt: {}", std::fs::read("sheets/oven.txt").map(|t| t == text).unwrap_or(false));
     let short = unsafe { sheet_write(oven.as_ptr(), oven.len(), [0u8; 4].as_mut_ptr(), 4) };
     println!("write into 4 bytes: row {}, length {}", short >> 32, short & 0xffff_ffff);
 

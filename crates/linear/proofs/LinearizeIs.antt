@@ -9,7 +9,7 @@ use lib.ListN.{length, replicate, length-replicate}
 use lib.Seq.{sets, length-sets}
 use lib.Dec.{eqb, ltb}
 use borrow.Author.Tests.{le-leb, eq-eqb, ne-eqb}
-use Rattle.model.specs.Bounds.{maxVariables, maxEdges, maxNodes, tableWords}
+use Rattle.model.specs.Bounds.{maxEdges, maxNodes, tableWords}
 use Rattle.model.specs.Model.{Model}
 use Rattle.model.specs.Lawful.{Lawful}
 use Rattle.model.specs.Limits.{broken}
@@ -21,14 +21,12 @@ use Rattle.table.specs.declared.Checked.the-variants.{Good, Refused}
 use Rattle.table.specs.Check.{answered}
 use Rattle.merging.specs.declared.Linearization.{Linearization}
 use Rattle.merging.specs.Append.{narrow, placed, Appended}
-use Rattle.merging.specs.NodeWords.{pointerOf}
-use Rattle.merging.specs.Head.{variablesOf, automataOf}
 use Rattle.merging.specs.MergedEdge.{atMost}
 use Rattle.merging.specs.MergedEdges.{movesOf}
 use Rattle.merging.specs.MergedSheet.{mergedSheet}
 use Rattle.merging.specs.Sync.{ownSets}
 use Rattle.merging.specs.Survey.{surveyWhole}
-use Rattle.merging.specs.Linearize.{refusedBy, mergedTo, lastAction, faultBy, sheetTable, linearFor, linearBy}
+use Rattle.merging.specs.Linearize.{refusedBy, mergedTo, lastAction, isCrowded, faultBy, sheetTable, linearFor, linearBy}
 use Rattle.linear.specs.Linearization.{linearModel, linearizationOf, linearization}
 use Rattle.linear.proofs.HeadIs.{actions-are}
 use Rattle.linear.proofs.CountIs.{count-row, count-exact, counts-few, variables-row}
@@ -72,42 +70,49 @@ module _ (m : Model) (lawful : Lawful m) (t rest : List ℕ) (e : t ≡ sheetWor
       rw (eq-eqb (faultBy t own counted (m .actions)) 0 f, linearFor, g, linearModel) (ap₂ mergedTo count table)
 
   -- the tests over words are the rows
-  test31 : ltb maxVariables (pointerOf (variablesOf t) (automataOf t)) ≡ row31 m
+  test31 : isCrowded t ≡ row31 m
+  unfolding isCrowded
   test31 = variables-row m lawful t rest e
 
   test32 : ltb maxEdges counted ≡ row32 m
   test32 = count-row m lawful t rest e
 
-  module _ (a : row31 m ≡ false) (b : row32 m ≡ false) where
-    test33 : surveyWhole t own (m .actions) .deep ≡ row33 m
-    test33 = survey-deep m lawful t rest e (counts-few m lawful t rest e b)
+  module _ (a : row31 m ≡ false) where
+    module _ (b : row32 m ≡ false) where
+      test33 : surveyWhole t own (m .actions) .deep ≡ row33 m
+      test33 = survey-deep m lawful t rest e (counts-few m lawful t rest e b)
 
-    test34 : ltb maxNodes (surveyWhole t own (m .actions) .nodes) ≡ row34 m
-    test34 = survey-row34 m lawful t rest e (counts-few m lawful t rest e b)
+      test34 : ltb maxNodes (surveyWhole t own (m .actions) .nodes) ≡ row34 m
+      test34 = survey-row34 m lawful t rest e (counts-few m lawful t rest e b)
 
-    in34 : row33 m ≡ false → (d : Bool) → row34 m ≡ d → found ≡ linearModel m
+      in34 : row33 m ≡ false → (d : Bool) → row34 m ≡ d → found ≡ linearModel m
+      unfolding faultBy mergeFault broken
+      in34 c true d = refuses 33 (rw (test32 ∙ b, faultBy, test33 ∙ c, faultBy, test34 ∙ d, faultBy)) (rw (a, broken, b, broken, c, broken, d, broken))
+      in34 c false d = merges (rw (test32 ∙ b, faultBy, test33 ∙ c, faultBy, test34 ∙ d, faultBy)) (rw (a, broken, b, broken, c, broken, d, broken))
+
+      in33 : (c : Bool) → row33 m ≡ c → found ≡ linearModel m
+      unfolding faultBy mergeFault broken
+      in33 true c = refuses 32 (rw (test32 ∙ b, faultBy, test33 ∙ c, faultBy)) (rw (a, broken, b, broken, c, broken))
+      in33 false c = in34 c (row34 m) refl
+
+    in32 : (b : Bool) → row32 m ≡ b → found ≡ linearModel m
     unfolding faultBy mergeFault broken
-    in34 c true d = refuses 33 (rw (test31 ∙ a, faultBy, test32 ∙ b, faultBy, test33 ∙ c, faultBy, test34 ∙ d, faultBy)) (rw (a, broken, b, broken, c, broken, d, broken))
-    in34 c false d = merges (rw (test31 ∙ a, faultBy, test32 ∙ b, faultBy, test33 ∙ c, faultBy, test34 ∙ d, faultBy)) (rw (a, broken, b, broken, c, broken, d, broken))
+    in32 true b = refuses 31 (rw (test32 ∙ b, faultBy)) (rw (a, broken, b, broken))
+    in32 false b = in33 b (row33 m) refl
 
-    in33 : (c : Bool) → row33 m ≡ c → found ≡ linearModel m
-    unfolding faultBy mergeFault broken
-    in33 true c = refuses 32 (rw (test31 ∙ a, faultBy, test32 ∙ b, faultBy, test33 ∙ c, faultBy)) (rw (a, broken, b, broken, c, broken))
-    in33 false c = in34 c (row34 m) refl
-
-  in32 : row31 m ≡ false → (b : Bool) → row32 m ≡ b → found ≡ linearModel m
-  unfolding faultBy mergeFault broken
-  in32 a true b = refuses 31 (rw (test31 ∙ a, faultBy, test32 ∙ b, faultBy)) (rw (a, broken, b, broken))
-  in32 a false b = in33 a b (row33 m) refl
-
-  in31 : (a : Bool) → row31 m ≡ a → found ≡ linearModel m
-  unfolding faultBy mergeFault broken
-  in31 true a = refuses 30 (rw (test31 ∙ a, faultBy)) (rw (a, broken))
-  in31 false a = in32 a (row32 m) refl
+  -- with A as the code reads it
+  found-is : linearFor t own (movesOf t own 0 (lastAction t + 1) 0) (lastAction t) ≡ found
+  found-is = ap (λ (l : ℕ). linearFor t own (movesOf t own 0 (l + 1) 0) l) last-is
 
   pub linear-by-is : linearBy t ≡ linearModel m
-  unfolding linearBy
-  linear-by-is = ap (λ (l : ℕ). linearFor t own (movesOf t own 0 (l + 1) 0) l) last-is ∙ in31 (row31 m) refl
+  unfolding linearBy linearModel mergeFault broken
+  linear-by-is = in31 (row31 m) refl
+    where
+      in31 : (a : Bool) → row31 m ≡ a → linearBy t ≡ linearModel m
+      in31 true a =
+          let g : mergeFault m ≡ some 31 = rw (a, broken) in
+          rw (test31 ∙ a, linearBy, g, linearModel)
+      in31 false a = rw (test31 ∙ a, linearBy) (found-is ∙ in32 a (row32 m) refl)
 
 -- `linearize`
 module _ (t : List ℕ) (c : Checked) (e : c ≡ answered (openTable t)) (r : Linearization) where

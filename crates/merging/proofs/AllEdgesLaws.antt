@@ -1,5 +1,5 @@
 -- Each way out of the code of src/edges.rt.
-use mathlib.Core.Path.{_≡_, refl, sym, ap, ap₂, _∙_}
+use mathlib.Core.Path.{_≡_, refl, sym, ap, ap₂, _∙_, subst}
 use mathlib.Core.Bool.{Bool, true, false, _||_}
 use mathlib.Core.List.{List, [], _∷_, _++_}
 use Prim.Native.Nat.{ℕ, zero, suc, _+_, _-_, _≤_, _<_}
@@ -8,7 +8,7 @@ use native.Mathlib.Numerals.{sub-one, add-one}
 use lib.ListN.{length, getD, set, replicate, length-set}
 use lib.Seq.{sets}
 use Rattle.model.specs.Bounds.{maxAutomata, maxTreeNodes, tableWords}
-use Rattle.outline.specs.Outline.{reach, afterPredicate, edgesAt, afterAutomaton, countAt, automatonAt, treeAt}
+use Rattle.outline.specs.Outline.{reach, afterPredicate, edgesAt, afterAutomaton, countAt, automatonAt}
 use Rattle.moves.specs.declared.planning.Planned.{Planned}
 use Rattle.moves.specs.Plan.{planAt, fillAt, PlansTree}
 use Rattle.moves.specs.Pick.{pickAt}
@@ -16,6 +16,10 @@ use Rattle.merging.specs.Append.{narrow, Appended}
 use Rattle.merging.specs.NodeWords.{capped}
 use Rattle.merging.specs.MergedEdge.{isUnder, atMost, takers, edgeBy, edgeWordsAt}
 use Rattle.merging.specs.MergedEdges.{oneMore, underFrom, underAt, countsFrom, countsOf, rootOf, cellsOf, moveTotal, picksOf, placesOf, edgesFrom, edgesUnder, edgesOf, movesOf, Plans}
+use Rattle.merging.specs.declared.layout.Layout.{Layout}
+use Rattle.merging.specs.Head.{automataOf}
+use Rattle.merging.specs.Layout.{edgeStarts, layoutOf, underIn}
+use Rattle.merging.proofs.Ahead.{Ahead, ahead-begun, ahead-here, ahead-next, layout-root}
 use Rattle.merging.proofs.AppendLaws.{then, Underway, begun, on-by, ended}
 use Rattle.merging.proofs.EdgeLaws.{at-most-few}
 
@@ -48,10 +52,14 @@ module _ (t : List ℕ) (action left place sum whole : ℕ) (i : underFrom t act
 
 pub ruleset under-laws = (under-turn, under-end)
 
--- `under_at`
-pub under-is : (t : List ℕ) (action at p f n r : ℕ) → p ≡ edgesAt t at → f ≡ reach t p 1 → n ≡ getD t p 0 → r ≡ underFrom t action n f 0 → r ≡ underAt t action at
-unfolding underAt
-under-is t action at p f n r ep ef en er = rw (er, ef, en, ep)
+-- `under_in`
+pub under-is : (t : List ℕ) (action edges f n r : ℕ) → f ≡ reach t edges 1 → n ≡ getD t edges 0 → r ≡ underFrom t action n f 0 → r ≡ underIn t action edges
+unfolding underIn
+under-is t action edges f n r ef en er = rw (er, ef, en)
+
+same-under : (t : List ℕ) (action at : ℕ) → underIn t action (edgesAt t at) ≡ underAt t action at
+unfolding underIn underAt
+same-under t action at = refl
 
 -- `counts_of`: the counts so far, and those to come
 pub record Counting (t : List ℕ) (action count i place : ℕ) (under : List ℕ) : Type 0 where
@@ -60,49 +68,70 @@ pub record Counting (t : List ℕ) (action count i place : ℕ) (under : List �
   pub inside : i ≤ count
   pub long : length under ≡ 16
 
-module _ (t : List ℕ) (action : ℕ) where
-  pub counting-begun : (cp n count first : ℕ) → cp ≡ countAt t → n ≡ getD t cp 0 → count ≡ atMost maxAutomata n → first ≡ automatonAt t 0
-      → Counting t action count 0 first (replicate 16 0)
-  unfolding countsOf
-  counting-begun cp n count first ec en e ef =
-      let z : count - 0 ≡ count = omega arith in
-      record { whole = rw (z, e, en, ec, ef); few = at-most-few n count e; inside = omega arith; long = refl }
+pub record CountingBy (t starts : List ℕ) (action count i : ℕ) (under : List ℕ) : Type 0 where
+  pub place : ℕ
+  pub counting : Counting t action count i place under
+  pub ahead : Ahead t starts count i place
+  pub few : count ≤ 16
+  pub inside : i ≤ count
+  pub long : length under ≡ 16
 
-  module _ (count i place : ℕ) (under : List ℕ) (u : Counting t action count i place under) where
-    pub counting-turn : i < count → (w x p : ℕ) → w ≡ underAt t action place → x ≡ narrow w → p ≡ afterAutomaton t place
-        → Counting t action count (i + 1) p (set under i x)
+module _ (t starts : List ℕ) (action : ℕ) where
+  pub counting-begun : (cp n count : ℕ) → starts ≡ edgeStarts t → cp ≡ countAt t → n ≡ getD t cp 0 → count ≡ atMost maxAutomata n → CountingBy t starts action count 0 (replicate 16 0)
+  unfolding countsOf
+  counting-begun cp n count es ec en e =
+      let z : count - 0 ≡ count = omega arith in
+      let few = at-most-few n count e in
+      let whole : count ≡ atMost maxAutomata (automataOf t) = e ∙ ap (atMost maxAutomata) (en ∙ ap (λ k. getD t k 0) ec) in
+      record {
+        place = automatonAt t 0;
+        counting = record { whole = ap (λ (k : ℕ). sets (replicate 16 0) 0 (countsFrom t action k (automatonAt t 0))) (z ∙ whole); few = few; inside = omega arith; long = refl };
+        ahead = ahead-begun t starts count es whole few;
+        few = few;
+        inside = omega arith;
+        long = refl;
+      }
+
+  module _ (count i : ℕ) (under : List ℕ) (b : CountingBy t starts action count i under) where
+    pub counting-turn : i < count → (edges w x : ℕ) → edges ≡ getD starts i 0 → w ≡ underIn t action edges → x ≡ narrow w → CountingBy t starts action count (i + 1) (set under i x)
     unfolding countsFrom
-    counting-turn h w x p ew ex ep =
+    counting-turn h edges w x ee ew ex =
+        let u = b .counting in
+        let place = b .place in
         let n : count - i ≡ suc (count - (i + 1)) = omega arith in
+        let f : x ≡ narrow (underAt t action place) = ex ∙ ap narrow (ew ∙ ap (underIn t action) (ee ∙ ahead-here t starts count i place (b .ahead) h) ∙ same-under t action place) in
+        let l = length-set under i x ∙ b .long in
         record {
-          whole = let e = u .whole in rw (add-one i, ep, ex, ew) (rw (n, add-one i) at e);
-          few = u .few;
+          place = afterAutomaton t place;
+          counting = record { whole = let e = u .whole in rw (add-one i, f) (rw (n, add-one i) at e); few = b .few; inside = omega arith; long = l };
+          ahead = ahead-next t starts count i place (b .ahead) h;
+          few = b .few;
           inside = omega arith;
-          long = length-set under i x ∙ u .long;
+          long = l;
         }
 
     pub counting-end : count ≤ i → under ≡ countsOf t action
     unfolding countsFrom
-    counting-end h = let z : count - i ≡ 0 = omega arith in rw z at (u .whole)
+    counting-end h = let z : count - i ≡ 0 = omega arith in rw z at (b .counting .whole)
 
 pub ruleset counting-laws = (counting-begun, counting-turn, counting-end)
 
 -- `plan`
-pub plan-is : (t own : List ℕ) (action a : ℕ) (under : List ℕ) (p root : ℕ) (before after : List ℕ) (r : Planned) → a ≡ action → under ≡ countsOf t a → p ≡ treeAt t → root ≡ reach t p 1
-    → before ≡ replicate 192 0 → PlansTree t own under action root maxTreeNodes root before after r → Plans t own action after (r .count)
+pub plan-is : (t own : List ℕ) (x : Layout) (action a : ℕ) (under before after : List ℕ) (r : Planned) → x ≡ layoutOf t → a ≡ action → under ≡ countsOf t a
+    → before ≡ replicate 192 0 → PlansTree t own under action (x .root) maxTreeNodes (x .root) before after r → Plans t own action after (r .count)
 unfolding cellsOf moveTotal
-plan-is t own action a under p root before after r ea eu ep er eb h =
+plan-is t own x action a under before after r ex ea eu eb h =
     let u : under ≡ countsOf t action = eu ∙ ap (countsOf t) ea in
-    let s : root ≡ rootOf t = er ∙ ap (λ k. reach t k 1) ep in
-    record { cells-are = h .cells ∙ rw (u, s, eb); count-is = ap (λ (q : Planned). q .count) (h .answer) ∙ rw (u, s) }
+    let s : x .root ≡ rootOf t = layout-root t x ex in
+    let g : PlansTree t own under action (rootOf t) maxTreeNodes (rootOf t) before after r = subst (λ (k : ℕ). PlansTree t own under action k maxTreeNodes k before after r) s h in
+    record { cells-are = g .cells ∙ rw (u, eb); count-is = ap (λ (q : Planned). q .count) (g .answer) ∙ rw u }
 
 -- `places_of`
-pub places-are : (t cells : List ℕ) (action k p root : ℕ) (picks places : List ℕ) → p ≡ treeAt t → root ≡ reach t p 1 → picks ≡ pickAt t cells root maxTreeNodes root k (replicate 16 0)
+pub places-are : (t cells : List ℕ) (x : Layout) (action k : ℕ) (picks places : List ℕ) → x ≡ layoutOf t → picks ≡ pickAt t cells (x .root) maxTreeNodes (x .root) k (replicate 16 0)
     → places ≡ takers t action picks → places ≡ placesOf t cells action k
 unfolding placesOf picksOf
-places-are t cells action k p root picks places ep er ek el =
-    let s : root ≡ rootOf t = er ∙ ap (λ j. reach t j 1) ep in
-    let q : picks ≡ pickAt t cells (rootOf t) maxTreeNodes (rootOf t) k (replicate 16 0) = ek ∙ ap (λ j. pickAt t cells j maxTreeNodes j k (replicate 16 0)) s in
+places-are t cells x action k picks places ex ek el =
+    let q : picks ≡ pickAt t cells (rootOf t) maxTreeNodes (rootOf t) k (replicate 16 0) = ek ∙ ap (λ j. pickAt t cells j maxTreeNodes j k (replicate 16 0)) (layout-root t x ex) in
     el ∙ ap (takers t action) q
 
 -- `edge`

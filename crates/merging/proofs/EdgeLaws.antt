@@ -16,6 +16,8 @@ use Rattle.merging.specs.Runs.{nodesAt}
 use Rattle.merging.specs.NodeWords.{allNode, numberNode, oldNode, newNode, eqNode, pointerOf, capped}
 use Rattle.merging.specs.Head.{variablesOf, automataOf}
 use Rattle.merging.specs.MergedEdge.{isUnder, still, edgeUnder, takenAt, takenFrom, atMost, takers, updateAt, moveAt, updatesAt, movesAt, takerNodes, takersNodes, takerOperands, takersOperands, edgeBy}
+use Rattle.merging.specs.Layout.{edgeStarts, takenIn}
+use Rattle.merging.proofs.Ahead.{Ahead, ahead-begun, ahead-here, ahead-next}
 use Rattle.merging.proofs.AppendLaws.{nothing, then, Underway, begun, on-by, ended}
 
 -- `is_under`
@@ -68,14 +70,14 @@ module _ (t : List ℕ) (action skip left place whole : ℕ) (i : edgeUnder t ac
 pub ruleset find-laws = (find-none, find-here, find-on)
 
 -- `taken`
-module _ (t : List ℕ) (action pick at : ℕ) where
-  pub taken-none : pick ≡ 0 → 0 ≡ takenAt t action pick at
-  unfolding takenAt
-  taken-none z = rw (eq-eqb pick 0 z, takenAt)
+module _ (t : List ℕ) (action pick edges : ℕ) where
+  pub taken-none : pick ≡ 0 → 0 ≡ takenIn t action pick edges
+  unfolding takenIn
+  taken-none z = rw (eq-eqb pick 0 z, takenIn)
 
-  pub taken-is : (pick ≡ 0 → ⊥) → (p f n r : ℕ) → p ≡ edgesAt t at → f ≡ reach t p 1 → n ≡ getD t p 0 → r ≡ edgeUnder t action (pick - 1) n f → r ≡ takenAt t action pick at
-  unfolding takenAt
-  taken-is y p f n r ep ef en er = rw (ne-eqb pick 0 y, takenAt, ← ep, ← ef, ← en) er
+  pub taken-is : (pick ≡ 0 → ⊥) → (f n r : ℕ) → f ≡ reach t edges 1 → n ≡ getD t edges 0 → r ≡ edgeUnder t action (pick - 1) n f → r ≡ takenIn t action pick edges
+  unfolding takenIn
+  taken-is y f n r ef en er = rw (ne-eqb pick 0 y, takenIn, ← ef, ← en) er
 
 pub ruleset taken-laws = (taken-none, taken-is)
 
@@ -106,30 +108,57 @@ pub record Taking (t : List ℕ) (action : ℕ) (picks : List ℕ) (count i plac
   pub inside : i ≤ count
   pub long : length places ≡ 16
 
-module _ (t : List ℕ) (action : ℕ) (picks : List ℕ) where
-  pub taking-begun : (cp n count first : ℕ) → cp ≡ countAt t → n ≡ getD t cp 0 → count ≡ atMost maxAutomata n → first ≡ automatonAt t 0
-      → Taking t action picks count 0 first (replicate 16 0)
-  unfolding takers
-  taking-begun cp n count first ec en e ef =
-      let z : count - 0 ≡ count = omega arith in
-      record { whole = rw (z, e, en, ec, ef); few = at-most-few n count e; inside = omega arith; long = refl }
+-- an automaton's edges, by their start
+same-taken : (t : List ℕ) (action pick at : ℕ) → takenIn t action pick (edgesAt t at) ≡ takenAt t action pick at
+unfolding takenIn takenAt
+same-taken t action pick at = refl
 
-  module _ (count i place : ℕ) (places : List ℕ) (u : Taking t action picks count i place places) where
-    pub taking-turn : i < count → (w x p : ℕ) → w ≡ getD picks i 0 → x ≡ takenAt t action w place → p ≡ afterAutomaton t place
-        → Taking t action picks count (i + 1) p (set places i x)
+-- the automaton that is next stands at a place, which the code does not know
+pub record TakingBy (t starts : List ℕ) (action : ℕ) (picks : List ℕ) (count i : ℕ) (places : List ℕ) : Type 0 where
+  pub place : ℕ
+  pub taking : Taking t action picks count i place places
+  pub ahead : Ahead t starts count i place
+  pub few : count ≤ 16
+  pub inside : i ≤ count
+  pub long : length places ≡ 16
+
+module _ (t starts : List ℕ) (action : ℕ) (picks : List ℕ) where
+  pub taking-begun : (cp n count : ℕ) → starts ≡ edgeStarts t → cp ≡ countAt t → n ≡ getD t cp 0 → count ≡ atMost maxAutomata n → TakingBy t starts action picks count 0 (replicate 16 0)
+  unfolding takers
+  taking-begun cp n count es ec en e =
+      let z : count - 0 ≡ count = omega arith in
+      let few = at-most-few n count e in
+      let whole : count ≡ atMost maxAutomata (automataOf t) = e ∙ ap (atMost maxAutomata) (en ∙ ap (λ k. getD t k 0) ec) in
+      record {
+        place = automatonAt t 0;
+        taking = record { whole = ap (λ (k : ℕ). sets (replicate 16 0) 0 (takenFrom t action picks 0 k (automatonAt t 0))) (z ∙ whole); few = few; inside = omega arith; long = refl };
+        ahead = ahead-begun t starts count es whole few;
+        few = few;
+        inside = omega arith;
+        long = refl;
+      }
+
+  module _ (count i : ℕ) (places : List ℕ) (b : TakingBy t starts action picks count i places) where
+    pub taking-turn : i < count → (w edges x : ℕ) → w ≡ getD picks i 0 → edges ≡ getD starts i 0 → x ≡ takenIn t action w edges → TakingBy t starts action picks count (i + 1) (set places i x)
     unfolding takenFrom
-    taking-turn h w x p ew ex ep =
+    taking-turn h w edges x ew ee ex =
+        let u = b .taking in
+        let place = b .place in
         let n : count - i ≡ suc (count - (i + 1)) = omega arith in
+        let f : x ≡ takenAt t action w place = ex ∙ ap (takenIn t action w) (ee ∙ ahead-here t starts count i place (b .ahead) h) ∙ same-taken t action w place in
+        let l = length-set places i x ∙ b .long in
         record {
-          whole = let e = u .whole in rw (add-one i, ep, ex, ew) (rw (n, add-one i) at e);
-          few = u .few;
+          place = afterAutomaton t place;
+          taking = record { whole = let e = u .whole in rw (add-one i, f, ew) (rw (n, add-one i) at e); few = b .few; inside = omega arith; long = l };
+          ahead = ahead-next t starts count i place (b .ahead) h;
+          few = b .few;
           inside = omega arith;
-          long = length-set places i x ∙ u .long;
+          long = l;
         }
 
     pub taking-end : count ≤ i → places ≡ takers t action picks
     unfolding takenFrom
-    taking-end h = let z : count - i ≡ 0 = omega arith in rw z at (u .whole)
+    taking-end h = let z : count - i ≡ 0 = omega arith in rw z at (b .taking .whole)
 
 pub ruleset taking-laws = (taking-begun, taking-turn, taking-end)
 

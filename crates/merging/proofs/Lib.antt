@@ -2,7 +2,9 @@ pub mod AppendLaws
 pub mod NodeLaws
 pub mod HeadLaws
 pub mod ClauseLaws
+pub mod Ahead
 pub mod EdgeLaws
+pub mod LayoutLaws
 pub mod SyncLaws
 pub mod DepthLaws
 pub mod AllEdgesLaws

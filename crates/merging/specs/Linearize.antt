@@ -1,6 +1,6 @@
 -- The linearization as the code finds it over the words of a table. On the table of a model it is Definition 4's: the law linear-by-is of
 -- crate `linear`.
-use mathlib.Core.Bool.{true, false}
+use mathlib.Core.Bool.{Bool, true, false}
 use mathlib.Core.List.{List, map}
 use Prim.Native.Nat.{ℕ, _+_}
 use lib.ListN.{getD, replicate}
@@ -28,20 +28,20 @@ mergedTo edges table = record { row = 0; edges = edges; table = table }
 unfoldable pub lastAction : (t : List ℕ) → ℕ
 lastAction t = atMost 63 (getD t 1 0)
 
+-- row 31
+unfoldable pub isCrowded : (t : List ℕ) → Bool
+isCrowded t = ltb maxVariables (pointerOf (variablesOf t) (automataOf t))
+
 module _ (t own : List ℕ) (edges last : ℕ) where
-  -- the first of rows 31 to 34 that refuses, or 0
+  -- the first of rows 32 to 34 that refuses, or 0
   unfoldable pub faultBy : ℕ
   faultBy =
-      elim (ltb maxVariables (pointerOf (variablesOf t) (automataOf t))) [
-        | true ↦ 31
+      elim (ltb maxEdges edges) [
+        | true ↦ 32
         | false ↦
-            elim (ltb maxEdges edges) [
-              | true ↦ 32
-              | false ↦
-                  elim (surveyWhole t own last .deep) [
-                    | true ↦ 33
-                    | false ↦ elim (ltb maxNodes (surveyWhole t own last .nodes)) [ true ↦ 34 | false ↦ 0 ]
-                  ]
+            elim (surveyWhole t own last .deep) [
+              | true ↦ 33
+              | false ↦ elim (ltb maxNodes (surveyWhole t own last .nodes)) [ true ↦ 34 | false ↦ 0 ]
             ]
       ]
 
@@ -52,5 +52,10 @@ module _ (t own : List ℕ) (edges last : ℕ) where
   unfoldable pub linearFor : Linearization
   linearFor = elim (eqb faultBy 0) [ true ↦ mergedTo edges sheetTable | false ↦ refusedBy faultBy ]
 
+-- row 31 is asked before the edges are counted
 unfoldable pub linearBy : (t : List ℕ) → Linearization
-linearBy t = linearFor t (ownSets t) (movesOf t (ownSets t) 0 (lastAction t + 1) 0) (lastAction t)
+linearBy t =
+    elim (isCrowded t) [
+      | true ↦ refusedBy 31
+      | false ↦ linearFor t (ownSets t) (movesOf t (ownSets t) 0 (lastAction t + 1) 0) (lastAction t)
+    ]

@@ -1,4 +1,6 @@
 // All merged edges: for each action its moves, one after the other.
+use crate::layout::Layout;
+use crate::layout::{self};
 use crate::merged_edge::{self};
 use crate::node_words::{self};
 use crate::put::{self};
@@ -8,7 +10,8 @@ ghost use lib.ListN.{length, replicate};
 ghost use Rattle.model.specs.Bounds.{tableWords};
 ghost use Rattle.merging.specs.Append.{narrow, Appended};
 ghost use Rattle.merging.specs.MergedEdge.{takers, edgeWordsAt};
-ghost use Rattle.merging.specs.MergedEdges.{oneMore, underFrom, underAt, countsOf, cellsOf, moveTotal, picksOf, placesOf, edgesFrom, edgesUnder, edgesOf, movesOf, Plans};
+ghost use Rattle.merging.specs.Layout.{edgeStarts, layoutOf, underIn};
+ghost use Rattle.merging.specs.MergedEdges.{oneMore, underFrom, countsOf, cellsOf, moveTotal, picksOf, placesOf, edgesFrom, edgesUnder, edgesOf, movesOf, Plans};
 
 // For each automaton, how many edges it has under an action.
 pub struct Counts {
@@ -36,97 +39,110 @@ fn under(t: &[u32], action: usize, count: usize, first: usize) -> usize
     sum
 }
 
-// The same of the automaton at a place.
-fn under_at(t: &[u32], action: usize, at: usize) -> usize
-    ensures { λ r. ⌜ r ≡ underAt (now (t .entry)) action at ⌝ }
+// The same of an automaton, whose count of edges stands at `edges`.
+fn under_in(t: &[u32], action: usize, edges: usize) -> usize
+    ensures { λ r. ⌜ r ≡ underIn (now (t .entry)) action edges ⌝ }
 {
-    let edges = outline::edges_at(t, at);
     let first = outline::step(t, edges, 1);
     under(t, action, outline::word(t, edges), first)
 }
 
-fn counts_of(t: &[u32], action: usize) -> Counts
+fn counts_of(t: &[u32], starts: &[usize; 16], action: usize) -> Counts
+    requires { ⌜ now starts ≡ edgeStarts (now t) ⌝ }
     ensures { λ r. ⌜ r .under ≡ countsOf (now (t .entry)) action ⌝ }
 {
     let count = merged_edge::at_most(outline::word(t, outline::count_at(t)));
-    let mut place = outline::automaton_at(t, 0);
     let mut under = [0u32; 16];
     let mut i = 0;
     while i < count {
-        under[i] = put::narrow(under_at(t, action, place));
-        place = outline::after_automaton(t, place);
+        let edges = starts[i];
+        under[i] = put::narrow(under_in(t, action, edges));
         i += 1;
     }
     Counts { under }
 }
 
 // The plan of an action: fills its cells, and says how many moves there are.
-pub fn plan(t: &[u32], own: &[u64; 16], action: u32, cells: &mut [u32; 192]) -> u32
+pub fn plan(t: &[u32], x: Layout, own: &[u64; 16], action: u32, cells: &mut [u32; 192]) -> u32
+    requires { ⌜ x ≡ layoutOf (now t) ⌝ }
     requires { ⌜ now cells ≡ replicate 192 0 ⌝ }
     ensures { λ r. ⌜ Plans (now (t .entry)) (now (own .entry)) action (now (cells .exit)) r ⌝ }
 {
-    let counts = counts_of(t, arithmetic::index(action));
+    let starts = x.edges;
+    let counts = counts_of(t, &starts, arithmetic::index(action));
     let under = counts.under;
-    let root = outline::step(t, outline::tree_at(t), 1);
-    let p = moves::plan(t, root, own, &under, action, cells);
+    let p = moves::plan(t, x.root, own, &under, action, cells);
     p.count
 }
 
 // Where the edges stand that move k of the planned action takes; 0 for an automaton that takes none.
-pub fn places_of(t: &[u32], action: usize, cells: &[u32; 192], k: u32) -> [usize; 16]
+pub fn places_of(t: &[u32], x: Layout, action: usize, cells: &[u32; 192], k: u32) -> [usize; 16]
+    requires { ⌜ x ≡ layoutOf (now t) ⌝ }
     ensures { λ r. ⌜ r ≡ placesOf (now (t .entry)) (now (cells .entry)) action k ⌝ }
 {
-    let root = outline::step(t, outline::tree_at(t), 1);
-    let picks = moves::pick(t, root, cells, k);
-    let taken = merged_edge::takers_of(t, action, &picks);
+    let picks = moves::pick(t, x.root, cells, k);
+    let starts = x.edges;
+    let taken = merged_edge::takers_of(t, &starts, action, &picks);
     taken.places
 }
 
 // One merged edge: move k of the planned action.
 fn edge(
     t: &[u32],
+    x: Layout,
     action: usize,
     cells: &[u32; 192],
     k: u32,
     out: &mut [u32; 8192],
     at: usize,
 ) -> usize
+    requires { ⌜ x ≡ layoutOf (now t) ⌝ }
     requires { ⌜ length (now out) ≡ tableWords ⌝ }
     ensures { λ r. ⌜ Appended (edgeWordsAt (now (t .entry)) action (picksOf (now (t .entry)) (now (cells .entry)) k)) at (now (out .entry)) (now (out .exit)) r ⌝ }
 {
-    let places = places_of(t, action, cells, k);
+    let places = places_of(t, x, action, cells, k);
     merged_edge::edge(t, action, &places, out, at)
 }
 
 // The first `count` moves of the planned action.
 fn edges(
     t: &[u32],
+    x: Layout,
     action: usize,
     cells: &[u32; 192],
     count: u32,
     out: &mut [u32; 8192],
     at: usize,
 ) -> usize
+    requires { ⌜ x ≡ layoutOf (now t) ⌝ }
     requires { ⌜ length (now out) ≡ tableWords ⌝ }
     ensures { λ r. ⌜ Appended (edgesFrom (now (t .entry)) (now (cells .entry)) action 0 count) at (now (out .entry)) (now (out .exit)) r ⌝ }
 {
     let mut k = 0;
     let mut next = at;
     while k < count {
-        next = edge(t, action, cells, k, out, next);
+        next = edge(t, x, action, cells, k, out, next);
         k += 1;
     }
     next
 }
 
 // The edges of an action.
-fn action_edges(t: &[u32], own: &[u64; 16], action: u32, out: &mut [u32; 8192], at: usize) -> usize
+fn action_edges(
+    t: &[u32],
+    x: Layout,
+    own: &[u64; 16],
+    action: u32,
+    out: &mut [u32; 8192],
+    at: usize,
+) -> usize
+    requires { ⌜ x ≡ layoutOf (now t) ⌝ }
     requires { ⌜ length (now out) ≡ tableWords ⌝ }
     ensures { λ r. ⌜ Appended (edgesUnder (now (t .entry)) (now (own .entry)) action) at (now (out .entry)) (now (out .exit)) r ⌝ }
 {
     let mut cells = [0u32; 192];
-    let count = plan(t, own, action, &mut cells);
-    edges(t, arithmetic::index(action), &cells, count, out, at)
+    let count = plan(t, x, own, action, &mut cells);
+    edges(t, x, arithmetic::index(action), &cells, count, out, at)
 }
 
 // The edges of the actions from 0 to `last`.
@@ -134,21 +150,23 @@ pub fn all_edges(t: &[u32], own: &[u64; 16], last: u32, out: &mut [u32; 8192], a
     requires { ⌜ (length (now out) ≡ tableWords) × (last ≤ 4294967294) ⌝ }
     ensures { λ r. ⌜ Appended (edgesOf (now (t .entry)) (now (own .entry)) 0 (last + 1)) at (now (out .entry)) (now (out .exit)) r ⌝ }
 {
+    let x = layout::of(t);
     let mut action = 0;
     let mut next = at;
     while action <= last {
-        next = action_edges(t, own, action, out, next);
+        next = action_edges(t, x, own, action, out, next);
         action += 1;
     }
     next
 }
 
 // How many moves an action has, at most 513.
-fn action_moves(t: &[u32], own: &[u64; 16], action: u32) -> u32
+fn action_moves(t: &[u32], x: Layout, own: &[u64; 16], action: u32) -> u32
+    requires { ⌜ x ≡ layoutOf (now t) ⌝ }
     ensures { λ r. ⌜ r ≡ moveTotal (now (t .entry)) (now (own .entry)) action ⌝ }
 {
     let mut cells = [0u32; 192];
-    plan(t, own, action, &mut cells)
+    plan(t, x, own, action, &mut cells)
 }
 
 // How many merged edges there are, under the actions from 0 to `last`.
@@ -156,10 +174,11 @@ pub fn all_moves(t: &[u32], own: &[u64; 16], last: u32) -> usize
     requires { ⌜ last ≤ 4294967294 ⌝ }
     ensures { λ r. ⌜ r ≡ movesOf (now (t .entry)) (now (own .entry)) 0 (last + 1) 0 ⌝ }
 {
+    let x = layout::of(t);
     let mut action = 0;
     let mut sum = 0;
     while action <= last {
-        sum = node_words::add(sum, arithmetic::index(action_moves(t, own, action)));
+        sum = node_words::add(sum, arithmetic::index(action_moves(t, x, own, action)));
         action += 1;
     }
     sum

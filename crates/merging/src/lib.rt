@@ -4,6 +4,7 @@ mod clauses;
 mod depth;
 mod edges;
 mod head;
+mod layout;
 mod merged_edge;
 mod node_words;
 mod put;
@@ -13,8 +14,10 @@ mod survey;
 mod sync;
 
 ghost use mathlib.Core.Path.{_≡_};
-ghost use Prim.Native.Nat.{_≤_};
-ghost use Rattle.merging.specs.Linearize.{refusedBy, mergedTo, sheetTable, linearFor, linearBy};
+ghost use Prim.Native.Nat.{_+_, _≤_};
+ghost use Rattle.merging.specs.MergedEdges.{movesOf};
+ghost use Rattle.merging.specs.Sync.{ownSets};
+ghost use Rattle.merging.specs.Linearize.{refusedBy, mergedTo, lastAction, sheetTable, linearFor, linearBy};
 
 // Row 0, the merged sheet's table and its count of edges; or the row that refuses, no edges and an empty table.
 pub struct Linearization {
@@ -60,13 +63,23 @@ fn admitted(t: &[u32], own: &[u64; 16], edges: usize, last: u32) -> Linearizatio
     }
 }
 
-// The linearization over the words of a table, which is not checked.
-pub fn linearize(t: &[u32]) -> Linearization
-    ensures { λ r. ⌜ r ≡ linearBy (now (t .entry)) ⌝ }
+// The merged edges counted, and then the rest.
+fn counted(t: &[u32]) -> Linearization
+    ensures { λ r. ⌜ r ≡ linearFor (now (t .entry)) (ownSets (now (t .entry))) (movesOf (now (t .entry)) (ownSets (now (t .entry))) 0 (lastAction (now (t .entry)) + 1) 0) (lastAction (now (t .entry))) ⌝ }
 {
     let own = sync::own_sets(t);
     let sets = own.sets;
     let last = rows::last_action(t);
     let edges = edges::all_moves(t, &sets, last);
     admitted(t, &sets, edges, last)
+}
+
+// The linearization over the words of a table, which is not checked.
+pub fn linearize(t: &[u32]) -> Linearization
+    ensures { λ r. ⌜ r ≡ linearBy (now (t .entry)) ⌝ }
+{
+    if rows::crowded(t) {
+        return refused(31);
+    }
+    counted(t)
 }

@@ -7,7 +7,8 @@ ghost use lib.ListN.{length};
 ghost use Rattle.model.specs.Bounds.{tableWords, maxAutomata};
 ghost use Rattle.merging.specs.Append.{Appended};
 ghost use Rattle.merging.specs.NodeWords.{numberNode, eqNode};
-ghost use Rattle.merging.specs.MergedEdge.{isUnder, still, edgeUnder, takenAt, atMost, takers, updateAt, moveAt, updatesAt, movesAt, takerNodes, takersNodes, takerOperands, takersOperands, edgeBy};
+ghost use Rattle.merging.specs.Layout.{edgeStarts, takenIn};
+ghost use Rattle.merging.specs.MergedEdge.{isUnder, still, edgeUnder, atMost, takers, updateAt, moveAt, updatesAt, movesAt, takerNodes, takersNodes, takerOperands, takersOperands, edgeBy};
 
 // For each automaton, where its edge stands; 0 if it takes none.
 pub struct Takers {
@@ -47,14 +48,13 @@ fn find(t: &[u32], action: usize, j: usize, count: usize, first: usize) -> usize
     t.len()
 }
 
-// The edge that the automaton at a place takes.
-fn taken(t: &[u32], action: usize, pick: usize, at: usize) -> usize
-    ensures { λ r. ⌜ r ≡ takenAt (now (t .entry)) action pick at ⌝ }
+// The edge that an automaton takes, whose count of edges stands at `edges`.
+fn taken(t: &[u32], action: usize, pick: usize, edges: usize) -> usize
+    ensures { λ r. ⌜ r ≡ takenIn (now (t .entry)) action pick edges ⌝ }
 {
     if pick == 0 {
         return 0;
     }
-    let edges = outline::edges_at(t, at);
     let first = outline::step(t, edges, 1);
     find(t, action, pick - 1, outline::word(t, edges), first)
 }
@@ -66,17 +66,17 @@ pub fn at_most(n: usize) -> usize
     if n <= 16 { n } else { 16 }
 }
 
-pub fn takers_of(t: &[u32], action: usize, picks: &[u32; 16]) -> Takers
+pub fn takers_of(t: &[u32], starts: &[usize; 16], action: usize, picks: &[u32; 16]) -> Takers
+    requires { ⌜ now starts ≡ edgeStarts (now t) ⌝ }
     ensures { λ r. ⌜ r .places ≡ takers (now (t .entry)) action (now (picks .entry)) ⌝ }
 {
     let count = at_most(outline::word(t, outline::count_at(t)));
-    let mut place = outline::automaton_at(t, 0);
     let mut places = [0usize; 16];
     let mut i = 0;
     while i < count {
         let pick = picks[i];
-        places[i] = taken(t, action, arithmetic::index(pick), place);
-        place = outline::after_automaton(t, place);
+        let edges = starts[i];
+        places[i] = taken(t, action, arithmetic::index(pick), edges);
         i += 1;
     }
     Takers { places }

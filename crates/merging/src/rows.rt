@@ -6,7 +6,7 @@ use model::Model;
 ghost use mathlib.Core.Path.{_≡_};
 ghost use Prim.Native.Nat.{_≤_};
 ghost use Rattle.merging.specs.MergedEdge.{atMost};
-ghost use Rattle.merging.specs.Linearize.{lastAction, faultBy};
+ghost use Rattle.merging.specs.Linearize.{lastAction, isCrowded, faultBy};
 
 fn at_most(actions: u32) -> u32
     ensures { λ r. ⌜ (r ≡ atMost 63 actions) × (r ≤ 63) ⌝ }
@@ -25,15 +25,19 @@ pub fn last_action(t: &[u32]) -> u32
     at_most(sync::word32(t, 1))
 }
 
-// The first row that refuses, or 0; `edges` is the count of merged edges under the actions from 0 to `last`.
+// Row 31: has the merged sheet too many variables?
+pub fn crowded(t: &[u32]) -> bool
+    ensures { λ r. ⌜ r ≡ isCrowded (now (t .entry)) ⌝ }
+{
+    let automata = outline::word(t, outline::count_at(t));
+    Model::VARIABLES < node_words::pointer(outline::word(t, 2), automata)
+}
+
+// The first of rows 32 to 34 that refuses, or 0; `edges` is the count of merged edges under the actions from 0 to `last`.
 pub fn fault(t: &[u32], own: &[u64; 16], edges: usize, last: u32) -> u32
     requires { ⌜ last ≤ 4294967294 ⌝ }
     ensures { λ r. ⌜ r ≡ faultBy (now (t .entry)) (now (own .entry)) edges last ⌝ }
 {
-    let automata = outline::word(t, outline::count_at(t));
-    if Model::VARIABLES < node_words::pointer(outline::word(t, 2), automata) {
-        return 31;
-    }
     if Model::EDGES < edges {
         return 32;
     }

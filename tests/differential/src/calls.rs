@@ -1,13 +1,9 @@
-//! The five calls, as the library has them and as the reference answers them.
-use crate::reference::{self, judge::Proposal};
+//! The six calls, as the library has them and as the reference answers them.
+use crate::reference::{self, judge::Proposal, run::List};
 use hemdoqur::numbers;
 
 /// A way to answer the calls. Numbers and slices only, as in C.
 pub trait Sheets {
-    /// Whether `merge` is its own.
-    fn merges(&self) -> bool {
-        true
-    }
     /// row * 2^32 + line; 0: accepted, and the table is written
     fn read(&self, text: &[u8], table: &mut [u32]) -> u64;
     /// row * 2^32 + length
@@ -18,6 +14,8 @@ pub trait Sheets {
     fn step(&self, table: &[u32], proposal: &Proposal, action: u32) -> u32;
     /// 0 no, 1 yes, 100 + row refused; the proposal's new locations play no part
     fn environment(&self, table: &[u32], proposal: &Proposal) -> u32;
+    /// 0, and the judges' answers are at the front of `answers`; else the row that refuses the list
+    fn run(&self, table: &[u32], list: &List, answers: &mut [u32]) -> u32;
 }
 
 /// A row as the 64-bit answers carry it.
@@ -80,6 +78,16 @@ impl Sheets for Reference {
     fn environment(&self, table: &[u32], proposal: &Proposal) -> u32 {
         reference::environment(table, proposal.phase, proposal.locations, proposal.values, proposal.new_values)
     }
+
+    fn run(&self, table: &[u32], list: &List, answers: &mut [u32]) -> u32 {
+        match reference::run(table, list, answers.len()) {
+            Ok(given) => {
+                answers[..given.len()].copy_from_slice(&given);
+                0
+            }
+            Err(row) => row,
+        }
+    }
 }
 
 /// Row 35, or the text at the front of the buffer, whose rest stays.
@@ -91,14 +99,10 @@ fn deliver(text: &[u8], edges: usize, out: &mut [u8]) -> u64 {
     edges as u64 * EDGE + text.len() as u64
 }
 
-/// The proved library. Where its archive has no merger, the reference merges for it, so that runs go over merged tables too.
+/// The proved library.
 pub struct Library;
 
 impl Sheets for Library {
-    fn merges(&self) -> bool {
-        hemdoqur::MERGES
-    }
-
     fn read(&self, text: &[u8], table: &mut [u32]) -> u64 {
         numbers::read(text, table)
     }
@@ -108,11 +112,7 @@ impl Sheets for Library {
     }
 
     fn merge(&self, table: &[u32], out: &mut [u8]) -> u64 {
-        if self.merges() {
-            numbers::merge(table, out)
-        } else {
-            Reference.merge(table, out)
-        }
+        numbers::merge(table, out)
     }
 
     fn step(&self, table: &[u32], from: &Proposal, action: u32) -> u32 {
@@ -122,13 +122,9 @@ impl Sheets for Library {
     fn environment(&self, table: &[u32], from: &Proposal) -> u32 {
         numbers::environment(table, from.phase, from.locations, from.values, from.new_values)
     }
-}
 
-/// A line for the head of a program's output.
-pub fn left_out(sheets: &dyn Sheets) -> &'static str {
-    if sheets.merges() {
-        ""
-    } else {
-        " (LEFT OUT: merging, since the archive has no sheet_merge)"
+    fn run(&self, table: &[u32], list: &List, answers: &mut [u32]) -> u32 {
+        let &List { phase, locations, values, actions, new_locations, new_values } = list;
+        numbers::run(table, phase, locations, values, actions, new_locations, new_values, answers)
     }
 }

@@ -1,11 +1,12 @@
 //! One call, put to what is tried and to the reference: answers and all lent memory must be the same.
 use crate::calls::{self, Reference, Sheets};
-use crate::generate::{is_yes, Proposed, State};
+use crate::generate::{is_yes, Listed, Proposed, State};
 use crate::lent::Lent;
 use crate::reference::judge::{Proposal, REFUSED};
+use crate::reference::run::List;
 use std::time::{Duration, Instant};
 
-const CALLS: [&str; 5] = ["read", "write", "merge", "step", "environment"];
+const CALLS: [&str; 6] = ["read", "write", "merge", "step", "environment", "run"];
 
 pub struct Comparison<'a> {
     tried: &'a dyn Sheets,
@@ -16,13 +17,14 @@ pub struct Comparison<'a> {
     /// Differences are counted and not printed.
     pub quiet: bool,
     /// How many of each call there were, the longest time that one took, and how many were answered with no row.
-    pub counts: [u64; 5],
-    pub slowest: [Duration; 5],
-    pub good: [u64; 5],
+    pub counts: [u64; CALLS.len()],
+    pub slowest: [Duration; CALLS.len()],
+    pub good: [u64; CALLS.len()],
     pub rows: std::collections::BTreeMap<(&'static str, u32), u64>,
-    /// How many runs were compared, and how many of their proposals were answered with yes.
+    /// How many runs were compared with merged ones, how many proposals the judges answered with yes, and how many answers lists had.
     pub runs: u64,
     pub yes: u64,
+    pub listed: u64,
     margin: usize,
 }
 
@@ -34,12 +36,13 @@ impl<'a> Comparison<'a> {
             failed: 0,
             again: String::new(),
             quiet: false,
-            counts: [0; 5],
-            slowest: [Duration::ZERO; 5],
-            good: [0; 5],
+            counts: [0; CALLS.len()],
+            slowest: [Duration::ZERO; CALLS.len()],
+            good: [0; CALLS.len()],
             rows: Default::default(),
             runs: 0,
             yes: 0,
+            listed: 0,
             margin: 3,
         }
     }
@@ -65,11 +68,7 @@ impl<'a> Comparison<'a> {
 
     /// The merger's answer, and the buffer after it.
     pub fn merge(&mut self, table: &[u32], out: &[u8]) -> (u64, Vec<u8>) {
-        if self.tried.merges() {
-            return self.spell(2, table, out);
-        }
-        let mut out = out.to_vec();
-        (Reference.merge(table, &mut out), out)
+        self.spell(2, table, out)
     }
 
     fn spell(&mut self, call: usize, table: &[u32], out: &[u8]) -> (u64, Vec<u8>) {
@@ -88,7 +87,7 @@ impl<'a> Comparison<'a> {
         let expected = put(&Reference, table, &mut expected_out);
         self.row(call, calls::row(expected));
         let found = differs(&got, &expected).or(lent.difference(&expected_out)).or(lent_table.difference(table));
-        self.note(call, found, || format!("buffer of {} bytes, {}", out.len(), words(table)));
+        self.note(call, found, || format!("buffer of {} bytes, {}", out.len(), shown(table)));
         (got, lent.part().to_vec())
     }
 
@@ -117,8 +116,38 @@ impl<'a> Comparison<'a> {
             .or(lists[1].difference(&proposed.locations))
             .or(values[0].difference(&state.values))
             .or(values[1].difference(&proposed.values));
-        self.note(call, found, || format!("{state:?} {proposed:?}, {}", words(table)));
+        self.note(call, found, || format!("{state:?} {proposed:?}, {}", shown(table)));
         got
+    }
+
+    /// A run's row, and the answers after it.
+    pub fn run(&mut self, table: &[u32], state: &State, listed: &Listed, answers: &[u32]) -> (u32, Vec<u32>) {
+        let margin = self.next_margin();
+        let words = [table, &state.locations, &listed.actions, &listed.locations];
+        let values = [&state.values, &listed.values];
+        let lent_words = words.map(|list| Lent::new(list, margin));
+        let lent_values = values.map(|list| Lent::new(list, margin));
+        let mut lent = Lent::new(answers, margin);
+        let list = List {
+            phase: state.phase,
+            locations: lent_words[1].part(),
+            values: lent_values[0].part(),
+            actions: lent_words[2].part(),
+            new_locations: lent_words[3].part(),
+            new_values: lent_values[1].part(),
+        };
+        let tried = self.tried;
+        let got = self.timed(5, || tried.run(lent_words[0].part(), &list, lent.part_mut()));
+        let mut expected_answers = answers.to_vec();
+        let expected = Reference.run(table, &listed.from(state), &mut expected_answers);
+        self.row(5, expected);
+        self.listed += if expected == 0 { listed.actions.len() as u64 } else { 0 };
+        let found = differs(&(got as u64), &(expected as u64))
+            .or(lent.difference(&expected_answers))
+            .or(lent_words.iter().zip(words).find_map(|(lent, list)| lent.difference(list)))
+            .or(lent_values.iter().zip(values).find_map(|(lent, list)| lent.difference(list)));
+        self.note(5, found, || format!("{state:?} {listed:?}, room for {}, {}", answers.len(), shown(table)));
+        (got, lent.part().to_vec())
     }
 
     /// A law that must hold of the tried answers themselves.
@@ -187,7 +216,7 @@ impl<'a> Comparison<'a> {
                 rows.join(" ")
             );
         }
-        println!("runs: {}, proposals answered yes: {}", self.runs, self.yes);
+        println!("runs beside merged ones: {}, proposals answered yes: {}, answers in lists: {}", self.runs, self.yes, self.listed);
     }
 }
 
@@ -206,7 +235,7 @@ fn differs(got: &u64, expected: &u64) -> Option<String> {
 }
 
 /// A table for a report: its words without the zeros behind them.
-fn words(table: &[u32]) -> String {
+fn shown(table: &[u32]) -> String {
     let used = table.iter().rposition(|word| *word != 0).map_or(0, |last| last + 1);
     format!("table of {} words: {:?} and zeros", table.len(), &table[..used])
 }

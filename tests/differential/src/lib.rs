@@ -5,3 +5,4 @@ pub mod generate;
 pub mod lent;
 pub mod reference;
 pub mod rounds;
+pub mod runs;

@@ -1,10 +1,10 @@
-//! What a round puts to the five calls: a sheet drawn from its seed, damage of it, and runs over it.
+//! What a round puts to the six calls: a sheet drawn from its seed, damage of it, and runs over it.
 use crate::calls;
 use crate::compare::Comparison;
 use crate::generate::*;
-use crate::reference::judge::REFUSED;
 use crate::reference::model::{Model, TABLE_WORDS, TEXT_BYTES};
 use crate::reference::{self, reader};
+use crate::runs;
 
 /// The oven of the paper.
 pub const OVEN: &str = "format=1
@@ -54,12 +54,13 @@ pub fn round(comparison: &mut Comparison, seed: u64) {
     let out = written(comparison, &mut random, &table, false);
     comparison.law("writing after reading gives the text", out.as_deref() == Some(&text), || String::from_utf8_lossy(&text).into());
     judged(comparison, &mut random, &model, &table);
+    runs::lists(comparison, &mut random, &model, &table);
     damaged_tables(comparison, &mut random, &model, &table);
     faulty_tables(comparison, &mut random, &model);
     let merged_text = written(comparison, &mut random, &table, true);
     let merged_table = merged_text.map(|text| merged_read(comparison, &text));
     for _ in 0..2 {
-        run(comparison, &mut random, &model, &table, merged_table.as_deref());
+        runs::run(comparison, &mut random, &model, &table, merged_table.as_deref());
     }
 }
 
@@ -88,6 +89,7 @@ pub fn fixed(comparison: &mut Comparison) {
         comparison.read(b"", &lent);
         comparison.read(&vec![b'x'; TEXT_BYTES + 1], &lent);
     }
+    runs::oven_lists(comparison, &mut random, &model, &table);
     long_texts(comparison, &empty);
     pairs_of_words(comparison, &empty);
     lines_with_many_faults(comparison, &empty);
@@ -250,70 +252,13 @@ fn on_any_table(comparison: &mut Comparison, random: &mut Random, model: &Model,
         let proposed = proposal(random, model, &from);
         comparison.judge(table, &from, &proposed);
     }
+    runs::list_on_any_table(comparison, random, model, table);
     // A table that is not refused has a text, and that text has this table.
     if calls::row(answer) == 0 {
         let (answer, again) = comparison.read(&out[..calls::length(answer)], &vec![1; TABLE_WORDS]);
         comparison
             .law("reading after writing gives the table", answer == 0 && again == table[..TABLE_WORDS], || format!("{table:?}"));
     }
-}
-
-/// The paper's "Runs": a list of proposals on both tables, each run moving by its own answers.
-fn run(comparison: &mut Comparison, random: &mut Random, model: &Model, table: &[u32], merged: Option<&[u32]>) {
-    let mut here = state(random, model);
-    let mut there = joined(&here);
-    let mut alike = true;
-    for _ in 0..24 {
-        let mut proposed = proposal(random, model, &here);
-        if random.percent(12) {
-            spoil_proposed(random, model, &mut proposed);
-        }
-        let answer = comparison.judge(table, &here, &proposed);
-        if let Some(merged) = merged.filter(|_| translates(answer)) {
-            let translated = translation(&proposed, &there, model.ranges.len());
-            let merged_answer = comparison.judge(merged, &there, &translated);
-            alike &= answer == merged_answer;
-            there = moved(there, &translated, merged_answer);
-        }
-        here = moved(here, &proposed, answer);
-    }
-    if merged.is_some() {
-        comparison.runs += 1;
-        comparison.law("runs are alike", alike && joined(&here) == there, || format!("{here:?} {there:?}"));
-    }
-}
-
-/// The merged run's state: location 0, and the locations behind the values.
-fn joined(state: &State) -> State {
-    State { phase: state.phase, locations: vec![0], values: with_pointers(&state.values, &state.locations) }
-}
-
-fn with_pointers(values: &[i32], locations: &[u32]) -> Vec<i32> {
-    values.iter().copied().chain(locations.iter().map(|location| *location as i32)).collect()
-}
-
-/// What 21 or 22 refuses has no translation.
-fn translates(answer: u32) -> bool {
-    answer != REFUSED + 21 && answer != REFUSED + 22
-}
-
-fn translation(proposed: &Proposed, there: &State, variables: usize) -> Proposed {
-    match proposed.action {
-        Some(_) => Proposed { locations: vec![0], values: with_pointers(&proposed.values, &proposed.locations), ..*proposed },
-        None => {
-            let values = [&proposed.values[..], &there.values[variables..]].concat();
-            Proposed { action: None, locations: Vec::new(), values }
-        }
-    }
-}
-
-/// A yes moves the run, and ends in phase 1; anything else leaves it.
-fn moved(state: State, proposed: &Proposed, answer: u32) -> State {
-    if !is_yes(answer) {
-        return state;
-    }
-    let locations = if proposed.action.is_some() { proposed.locations.clone() } else { state.locations };
-    State { phase: 1, locations, values: proposed.values.clone() }
 }
 
 /// The reference by itself: a fault of it would else look like the library's.

@@ -5,6 +5,7 @@ use differential::generate::{self, Random};
 use differential::reference::judge::{step_of, Proposal, REFUSED};
 use differential::reference::merge::{count_all, moves, Takers};
 use differential::reference::model::{Model, EDGES, TABLE_WORDS, TEXT_BYTES};
+use differential::reference::run::{List, ENVIRONMENT};
 use differential::reference::{self, table};
 use differential::rounds::{self, OVEN};
 
@@ -37,6 +38,24 @@ fn on_that_oven() {
     assert_eq!(step(OVEN, 1, ([0, 0], 1), 0, ([0, 0], 1)), 0);
     let unshared = OVEN.replacen("sync=1", "sync=", 1);
     assert_eq!(step(&unshared, 0, ([0, 0], 0), 1, ([1, 0], 0)), 0);
+}
+
+/// A list on the oven from location 0 of both and value 0, and what is then in the place of six answers.
+fn run(phase: u32, actions: &[u32], new_locations: &[u32], new_values: &[i32]) -> (u32, [u32; 6]) {
+    let mut answers = [9; 6];
+    let list = List { phase, locations: &[0, 0], values: &[0], actions, new_locations, new_values };
+    (Reference.run(&table_of(OVEN), &list, &mut answers), answers)
+}
+
+#[test]
+fn only_a_yes_moves_a_run() {
+    let answers = run(0, &[2, 1, ENVIRONMENT, ENVIRONMENT, 3], &[0, 0, 1, 0, 7, 7, 7, 7, 1, 0], &[1, 0, 1, 0, 0]);
+    assert_eq!(answers, (0, [1, 2, 0, 1, 124, 9]));
+    assert_eq!(run(0, &[1, 1], &[2, 0, 1, 0], &[0, 0]), (0, [122, 2, 9, 9, 9, 9]));
+    assert_eq!(run(1, &[], &[], &[]), (0, [9; 6]));
+    assert_eq!(run(1, &[1; 7], &[0; 14], &[0; 7]), (35, [9; 6]));
+    assert_eq!(run(1, &[1; 7], &[0; 14], &[0; 8]), (21, [9; 6]));
+    assert_eq!(run(2, &[1; 7], &[0; 14], &[0; 8]), (20, [9; 6]));
 }
 
 #[test]
@@ -105,12 +124,14 @@ fn the_search_finds_what_there_is() {
     assert!(tried > 2_000, "{tried}");
 }
 
-/// How a `Sheets` can be wrong without a wrong answer.
+/// How a `Sheets` can be wrong, in an answer or beside it.
 enum Wrong {
     Answer,
     Table,
     Buffer,
     Mark,
+    Rest,
+    Still,
 }
 
 impl Sheets for Wrong {
@@ -146,11 +167,32 @@ impl Sheets for Wrong {
     fn environment(&self, table: &[u32], proposal: &Proposal) -> u32 {
         Reference.environment(table, proposal)
     }
+
+    fn run(&self, table: &[u32], list: &List, answers: &mut [u32]) -> u32 {
+        let row = Reference.run(table, list, answers);
+        let count = list.actions.len();
+        match self {
+            Wrong::Rest if row == 0 && count < answers.len() => answers[count] = 0,
+            // The last proposal is judged from where the run began.
+            Wrong::Still if row == 0 && count > 0 => {
+                let (n, v) = (list.new_locations.len() / count, list.new_values.len() / count);
+                let last = List {
+                    actions: &list.actions[count - 1..],
+                    new_locations: &list.new_locations[n * (count - 1)..],
+                    new_values: &list.new_values[v * (count - 1)..],
+                    ..*list
+                };
+                Reference.run(table, &last, &mut answers[count - 1..]);
+            }
+            _ => {}
+        }
+        row
+    }
 }
 
 #[test]
 fn wrong_calls_are_noticed() {
-    for wrong in [Wrong::Answer, Wrong::Table, Wrong::Buffer, Wrong::Mark] {
+    for wrong in [Wrong::Answer, Wrong::Table, Wrong::Buffer, Wrong::Mark, Wrong::Rest, Wrong::Still] {
         let mut comparison = Comparison::new(&wrong);
         comparison.quiet = true;
         rounds::fixed(&mut comparison);

@@ -5,8 +5,8 @@ pub mod numbers;
 pub const TABLE_WORDS: usize = 8_192;
 /// The bytes that a text has at most, also a written or merged one.
 pub const TEXT_BYTES: usize = 65_536;
-/// Whether the archive has the merger.
-pub const MERGES: bool = cfg!(merges);
+/// In the place of an action in a list: the proposal is for the environment judge.
+pub const ENVIRONMENT: u32 = u32::MAX;
 
 /// Why a call is refused: a row of the paper's table, and the line of the text, 0 where none is meant. Lent memory is as it was.
 #[derive(Clone, Copy, Debug, PartialEq, Eq)]
@@ -26,6 +26,15 @@ pub struct Merged {
 #[derive(Clone, Copy, Debug)]
 pub struct State<'a> {
     pub phase: u32,
+    pub locations: &'a [u32],
+    pub values: &'a [i32],
+}
+
+/// A list of proposals: for each an action, a location for each automaton, a value for each variable, one proposal after the other.
+/// The environment judge does not read its locations, but they have their places.
+#[derive(Clone, Copy, Debug)]
+pub struct Proposals<'a> {
+    pub actions: &'a [u32],
     pub locations: &'a [u32],
     pub values: &'a [i32],
 }
@@ -64,6 +73,15 @@ pub fn environment(table: &[u32], from: &State, new_values: &[i32]) -> Result<bo
         0 => Ok(false),
         1 => Ok(true),
         answer => Err(Refusal { row: answer - 100, line: 0 }),
+    }
+}
+
+/// Puts each proposal to its judge; a yes moves the state. The answers come to the front of `answers`, as numbers: 0 no, 1 yes, 2 yes
+/// with the mark true, 100 + row refused.
+pub fn run(table: &[u32], from: &State, list: &Proposals, answers: &mut [u32]) -> Result<(), Refusal> {
+    match numbers::run(table, from.phase, from.locations, from.values, list.actions, list.locations, list.values, answers) {
+        0 => Ok(()),
+        row => Err(Refusal { row, line: 0 }),
     }
 }
 

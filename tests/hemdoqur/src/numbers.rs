@@ -6,7 +6,6 @@ mod linked {
     extern "C" {
         pub fn sheet_read(text: *const u8, text_length: usize, table: *mut u32, table_length: usize) -> u64;
         pub fn sheet_write(table: *const u32, table_length: usize, out: *mut u8, out_length: usize) -> u64;
-        #[cfg(merges)]
         pub fn sheet_merge(table: *const u32, table_length: usize, out: *mut u8, out_length: usize) -> u64;
         pub fn sheet_step(
             table: *const u32,
@@ -33,6 +32,23 @@ mod linked {
             new_values: *const i32,
             new_values_length: usize,
         ) -> u32;
+        pub fn sheet_run(
+            table: *const u32,
+            table_length: usize,
+            phase: u32,
+            locations: *const u32,
+            locations_length: usize,
+            values: *const i32,
+            values_length: usize,
+            actions: *const u32,
+            actions_length: usize,
+            new_locations: *const u32,
+            new_locations_length: usize,
+            new_values: *const i32,
+            new_values_length: usize,
+            answers: *mut u32,
+            answers_length: usize,
+        ) -> u32;
     }
 }
 
@@ -47,15 +63,8 @@ pub fn write(table: &[u32], out: &mut [u8]) -> u64 {
 }
 
 /// row * 2^32 + edges * 2^17 + length
-#[cfg(merges)]
 pub fn merge(table: &[u32], out: &mut [u8]) -> u64 {
     unsafe { linked::sheet_merge(table.as_ptr(), table.len(), out.as_mut_ptr(), out.len()) }
-}
-
-/// Not in this archive.
-#[cfg(not(merges))]
-pub fn merge(_table: &[u32], _out: &mut [u8]) -> u64 {
-    panic!("the archive has no sheet_merge")
 }
 
 /// 0 no, 1 yes with the mark false, 2 yes with the mark true, 100 + row refused
@@ -99,6 +108,39 @@ pub fn environment(table: &[u32], phase: u32, locations: &[u32], values: &[i32],
             values.len(),
             new_values.as_ptr(),
             new_values.len(),
+        )
+    }
+}
+
+/// 0, and an answer for each action at the front of `answers`; else the row that refuses the list
+#[allow(clippy::too_many_arguments)]
+pub fn run(
+    table: &[u32],
+    phase: u32,
+    locations: &[u32],
+    values: &[i32],
+    actions: &[u32],
+    new_locations: &[u32],
+    new_values: &[i32],
+    answers: &mut [u32],
+) -> u32 {
+    unsafe {
+        linked::sheet_run(
+            table.as_ptr(),
+            table.len(),
+            phase,
+            locations.as_ptr(),
+            locations.len(),
+            values.as_ptr(),
+            values.len(),
+            actions.as_ptr(),
+            actions.len(),
+            new_locations.as_ptr(),
+            new_locations.len(),
+            new_values.as_ptr(),
+            new_values.len(),
+            answers.as_mut_ptr(),
+            answers.len(),
         )
     }
 }

@@ -32,10 +32,6 @@ fn writing_gives_the_text_back() {
 
 #[test]
 fn merging_gives_the_paper_s_text() {
-    if !MERGES {
-        println!("left out: the archive has no sheet_merge");
-        return;
-    }
     let mut out = vec![0; TEXT_BYTES];
     assert_eq!(merge(&table(), &mut out), Ok(Merged { edges: 2, length: MERGED.len() }));
     assert_eq!(&out[..MERGED.len()], MERGED);
@@ -54,4 +50,23 @@ fn the_judges_on_that_oven() {
     assert_eq!(environment(&table, &running, &[1]), Ok(false));
     assert_eq!(step(&table, &running, 3, &[1, 0], &[0]), Err(Refusal { row: 24, line: 0 }));
     assert_eq!(environment(&table, &running, &[2]), Err(Refusal { row: 23, line: 0 }));
+}
+
+#[test]
+fn a_run_on_that_oven() {
+    let table = table();
+    let from = State { phase: 0, locations: &[0, 0], values: &[0] };
+    let list = Proposals {
+        actions: &[2, ENVIRONMENT, 1, ENVIRONMENT, 2, 3],
+        locations: &[0, 0, 9, 9, 1, 0, 9, 9, 1, 0, 1, 0],
+        values: &[1, 1, 0, 1, 1, 0],
+    };
+    let mut answers = [7; 7];
+    assert_eq!(run(&table, &from, &list, &mut answers), Ok(()));
+    assert_eq!(answers, [1, 1, 2, 0, 0, 124, 7]);
+    let refused = |row| Err(Refusal { row, line: 0 });
+    assert_eq!(run(&table, &from, &list, &mut answers[..5]), refused(35));
+    assert_eq!(run(&table, &from, &Proposals { values: &[1; 5], ..list }, &mut answers), refused(21));
+    assert_eq!(run(&table, &State { phase: 2, ..from }, &list, &mut answers), refused(20));
+    assert_eq!(answers, [1, 1, 2, 0, 0, 124, 7]);
 }

@@ -22,12 +22,12 @@ fn texts() -> Vec<Vec<u8>> {
 fn all_calls(text: &[u8], table: &mut [u32], out: &mut [u8]) {
     let answer = read(text, table);
     assert!(write(table, out).is_ok() || answer.is_err());
-    if MERGES {
-        let _ = merge(table, out);
-    }
+    let _ = merge(table, out);
     let from = State { phase: 0, locations: &[0; 16], values: &[0] };
     let _ = step(table, &from, 1, &[0; 16], &[0]);
     let _ = environment(table, &from, &[0]);
+    let list = Proposals { actions: &[1, ENVIRONMENT], locations: &[0; 32], values: &[0; 2] };
+    let _ = run(table, &from, &list, &mut [0; 2]);
 }
 
 #[test]

@@ -1,25 +1,24 @@
--- `merging::linearize` meets its contract.
-use Rattle.merging.proofs.LinearizeLaws.{good-is}
+-- `merging::linearize` meets its contract: each way out is a law.
+use Rattle.merging.proofs.LinearizeLaws.{linearize-laws}
 use borrow.Author.Needs.{needs}
 use Rattle.merging.proofs.linearize.Statement.{statement}
 use Rattle.merging.proofs.linearize.Tie as tie
 
-own-sets-requires : tie.Need-own-sets-requires
-own-sets-requires c κs = search needs
+crowded-requires : tie.Need-crowded-requires
+crowded-requires c κs = search needs
 
-last-action-requires : tie.Need-last-action-requires
-last-action-requires c κs = search needs
-
-all-moves-requires : tie.Need-all-moves-requires
-all-moves-requires c κs = search needs
-
-admitted-requires : tie.Need-admitted-requires
-admitted-requires c κs = search needs
+refused-requires : tie.Need-refused-requires
+refused-requires c κs = search needs
 
 returns : tie.Need-returns
-returns c = search (needs, good-is)
+returns c = search (needs, linearize-laws)
+
+counted-requires : tie.Need-counted-requires
+counted-requires c κs = search needs
+
+returns-2 : tie.Need-returns-2
+returns-2 c = search (needs, linearize-laws)
 
 pub linearize-spec : {M : Type 1} → statement M
 linearize-spec =
-    tie.close
-    (tie.spec own-sets-requires last-action-requires all-moves-requires admitted-requires returns)
+    tie.close (tie.spec crowded-requires refused-requires returns counted-requires returns-2)

@@ -1,8 +1,10 @@
-//! Times of the five calls beside the reference, in one run, as Markdown tables. Tables and buffers are not cleared between calls;
+//! Times of the six calls beside the reference, in one run, as Markdown tables. Tables and buffers are not cleared between calls;
 //! a ratio is the library's time over the reference's.
 use differential::calls::{self, Library, Reference, Sheets};
+use differential::generate::is_yes;
 use differential::reference::judge::Proposal;
 use differential::reference::model::{TABLE_WORDS, TEXT_BYTES};
+use differential::reference::run::{List, ENVIRONMENT};
 use differential::rounds::OVEN;
 use std::fmt::Write;
 use std::hint::black_box;
@@ -11,6 +13,8 @@ use std::time::{Duration, Instant};
 /// How long one measurement lasts, and how many there are. The best is taken, for others use the machine too.
 const LASTS: Duration = Duration::from_millis(4);
 const MEASUREMENTS: usize = 100;
+/// How many proposals a list has: steps and changes from outside in turn.
+const LISTED: usize = 64;
 
 /// Nanoseconds of one call, in one measurement.
 fn time(mut call: impl FnMut()) -> f64 {
@@ -39,7 +43,7 @@ fn best(subjects: &[Subject], measure: Measure) -> Vec<[f64; 2]> {
     best
 }
 
-/// A sheet to measure, with a proposal that is answered with yes.
+/// A sheet to measure, with a proposal that is answered with yes, and one that can be repeated.
 struct Subject {
     name: String,
     text: String,
@@ -49,6 +53,7 @@ struct Subject {
     new_values: Vec<i32>,
     new_locations: Vec<u32>,
     action: u32,
+    repeated: (u32, Vec<i32>),
 }
 
 impl Subject {
@@ -66,6 +71,7 @@ impl Subject {
             new_values: vec![0; variables],
             new_locations: vec![0; automata],
             action: 1,
+            repeated: (1, vec![0; variables]),
         }
     }
 
@@ -112,8 +118,30 @@ impl Subject {
         })
     }
 
+    /// Nanoseconds of one proposal in a list; each is answered with yes and leads back to where the list begins.
+    fn run(&self, sheets: &dyn Sheets) -> f64 {
+        let (action, values) = &self.repeated;
+        let actions = [*action, ENVIRONMENT].repeat(LISTED / 2);
+        let new_locations = self.locations.repeat(LISTED);
+        let new_values = values.repeat(LISTED);
+        let list = List {
+            phase: 1,
+            locations: &self.locations,
+            values,
+            actions: &actions,
+            new_locations: &new_locations,
+            new_values: &new_values,
+        };
+        let mut answers = [0; LISTED];
+        let whole = time(|| {
+            black_box(sheets.run(&self.table, &list, &mut answers));
+        });
+        assert!(answers.iter().all(|answer| is_yes(*answer)), "{}: {answers:?}", self.name);
+        whole / LISTED as f64
+    }
+
     /// What each call answers, so that a table of times says what was timed.
-    fn answers(&self) -> [String; 5] {
+    fn answers(&self) -> [String; 6] {
         let merged = Reference.merge(&self.table, &mut vec![0; TEXT_BYTES]);
         let row = calls::row(merged);
         let merge = if row == 0 {
@@ -128,6 +156,7 @@ impl Subject {
             merge,
             judge(Reference.step(&self.table, &self.proposal(), self.action)),
             judge(Reference.environment(&self.table, &self.proposal())),
+            format!("each of {LISTED}, yes"),
         ]
     }
 }
@@ -178,6 +207,7 @@ fn at_the_limits() -> String {
 fn subjects() -> Vec<Subject> {
     let mut oven = Subject::new("oven", OVEN.to_string());
     oven.new_locations = vec![1, 0];
+    oven.repeated = (2, vec![1]);
     vec![
         oven,
         Subject::new("middle", chain(4, 6, 12, 6, 2)),
@@ -186,18 +216,14 @@ fn subjects() -> Vec<Subject> {
     ]
 }
 
-const CALLS: [(&str, Measure); 5] = [
+const CALLS: [(&str, Measure); 6] = [
     ("read", Subject::read),
     ("write", Subject::write),
     ("merge", Subject::merge),
     ("step", Subject::step),
     ("environment", Subject::environment),
+    ("run", Subject::run),
 ];
-
-/// The calls that the library has, by number.
-fn tried() -> impl Iterator<Item = usize> {
-    (0..CALLS.len()).filter(|call| CALLS[*call].0 != "merge" || Library.merges())
-}
 
 /// MB/s of the text, for reading and writing.
 fn speed(subject: &Subject, call: usize, nanoseconds: f64) -> String {
@@ -210,8 +236,7 @@ fn speed(subject: &Subject, call: usize, nanoseconds: f64) -> String {
 fn calls_table(subjects: &[Subject]) {
     println!("| call | sheet | what | library, ns | reference, ns | ratio | library, MB/s | reference, MB/s |");
     println!("|---|---|---|---:|---:|---:|---:|---:|");
-    for call in tried() {
-        let (name, measure) = CALLS[call];
+    for (call, (name, measure)) in CALLS.into_iter().enumerate() {
         for (subject, [library, reference]) in subjects.iter().zip(best(subjects, measure)) {
             println!(
                 "| {name} | {} | {} | {library:.0} | {reference:.0} | {:.2} | {} | {} |",
@@ -230,8 +255,7 @@ fn growth(title: &str, subjects: &[Subject]) {
     println!("\n## {title}\n");
     println!("| call | sheet | what | library, ns | factor | reference, ns | factor | ratio |");
     println!("|---|---|---|---:|---:|---:|---:|---:|");
-    for call in tried() {
-        let (name, measure) = CALLS[call];
+    for (call, (name, measure)) in CALLS.into_iter().enumerate() {
         let times = best(subjects, measure);
         for (subject, [library, reference]) in subjects.iter().zip(&times) {
             println!(
@@ -256,7 +280,7 @@ fn automata() -> Vec<Subject> {
 }
 
 fn main() {
-    println!("## Calls{}\n", calls::left_out(&Library));
+    println!("## Calls\n");
     calls_table(&subjects());
     growth("Growth with the text", &sizes());
     growth("Growth with the automata", &automata());

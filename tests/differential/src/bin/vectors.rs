@@ -1,5 +1,5 @@
 //! `vectors FOLDER`: each `NAME.in` as the program would read it, against `NAME.out`; then the proposals of `judge.txt`.
-use differential::calls::{self, left_out, Library, Sheets};
+use differential::calls::{self, Library, Sheets};
 use differential::reference::judge::{Proposal, NO, REFUSED, YES, YES_MARKED};
 use differential::reference::model::{TABLE_WORDS, TEXT_BYTES};
 use std::fs;
@@ -10,7 +10,6 @@ use std::path::{Path, PathBuf};
 struct Tally {
     passed: usize,
     failed: usize,
-    left_out: usize,
 }
 
 impl Tally {
@@ -36,20 +35,14 @@ fn shown(bytes: &[u8]) -> String {
 
 fn main() {
     let folder = std::env::args().nth(1).unwrap_or_else(|| "vectors".to_string());
-    println!("vectors of {folder} through the library{}", left_out(&Library));
+    println!("vectors of {folder} through the library");
     let mut tally = Tally::default();
     for input in inputs(Path::new(&folder)) {
         let text = fs::read(&input).expect("a vector can be read");
         let expected = fs::read(input.with_extension("out")).expect("each .in has its .out");
-        match program(&Library, &text) {
-            Some(got) => tally.note(&input.display().to_string(), &expected, &got),
-            None => tally.left_out += 1,
-        }
+        tally.note(&input.display().to_string(), &expected, &program(&Library, &text));
     }
     judge_file(&Library, Path::new(&folder), &mut tally);
-    if tally.left_out > 0 {
-        println!("{} vectors that are merged were left out", tally.left_out);
-    }
     println!("{} passed, {} failed", tally.passed, tally.failed);
     std::process::exit(if tally.failed == 0 && tally.passed > 0 { 0 } else { 1 });
 }
@@ -62,23 +55,20 @@ fn inputs(folder: &Path) -> Vec<PathBuf> {
     inputs
 }
 
-/// What the program writes for a sheet text; none where it has to be merged and cannot be.
-fn program(sheets: &dyn Sheets, text: &[u8]) -> Option<Vec<u8>> {
+/// What the program writes for a sheet text.
+fn program(sheets: &dyn Sheets, text: &[u8]) -> Vec<u8> {
     let mut table = vec![0; TABLE_WORDS];
     let answer = sheets.read(text, &mut table);
     if answer != 0 {
-        return Some(refused(calls::row(answer), calls::line(answer)));
-    }
-    if !sheets.merges() {
-        return None;
+        return refused(calls::row(answer), calls::line(answer));
     }
     let mut out = vec![0; TEXT_BYTES];
     let answer = sheets.merge(&table, &mut out);
     if calls::row(answer) != 0 {
-        return Some(refused(calls::row(answer), 0));
+        return refused(calls::row(answer), 0);
     }
     out.truncate(calls::length(answer));
-    Some(out)
+    out
 }
 
 fn refused(row: u32, line: u32) -> Vec<u8> {

@@ -2,6 +2,7 @@
 use super::Random;
 use crate::reference::judge::{environment_of, step_of, Proposal, NO, REFUSED};
 use crate::reference::model::*;
+use crate::reference::run::{List, ENVIRONMENT};
 
 #[derive(Clone, Debug, PartialEq)]
 pub struct State {
@@ -28,6 +29,37 @@ impl Proposed {
         match self.action {
             Some(action) => step_of(model, &self.from(state), action),
             None => environment_of(model, &self.from(state)),
+        }
+    }
+}
+
+/// A list of proposals as a run takes it: an action each, and then their locations and values one after the other.
+#[derive(Clone, Debug, Default, PartialEq)]
+pub struct Listed {
+    pub actions: Vec<u32>,
+    pub locations: Vec<u32>,
+    pub values: Vec<i32>,
+}
+
+impl Listed {
+    pub fn from<'a>(&'a self, state: &'a State) -> List<'a> {
+        List {
+            phase: state.phase,
+            locations: &state.locations,
+            values: &state.values,
+            actions: &self.actions,
+            new_locations: &self.locations,
+            new_values: &self.values,
+        }
+    }
+
+    /// An environment proposal gets locations too, which nobody is to read.
+    pub fn push(&mut self, random: &mut Random, proposed: &Proposed, automata: usize) {
+        self.actions.push(proposed.action.unwrap_or(ENVIRONMENT));
+        self.values.extend(&proposed.values);
+        match proposed.action {
+            Some(_) => self.locations.extend(&proposed.locations),
+            None => self.locations.extend((0..automata).map(|_| random.pick(&[0, 1, 32, u32::MAX]))),
         }
     }
 }
@@ -197,17 +229,73 @@ fn follow(random: &mut Random, model: &Model, update: &Predicate, old: &[i32], n
     }
 }
 
+/// A yes moves the run, and ends in phase 1; anything else leaves it.
+pub fn moved(state: State, proposed: &Proposed, answer: u32) -> State {
+    if !is_yes(answer) {
+        return state;
+    }
+    let locations = if proposed.action.is_some() { proposed.locations.clone() } else { state.locations };
+    State { phase: 1, locations, values: proposed.values.clone() }
+}
+
+/// A list of proposals that follow each other from a state: none, few or some.
+pub fn list(random: &mut Random, model: &Model, from: &State) -> Listed {
+    let count = random.pick(&[0, 1, 2, 3, 8]);
+    long_list(random, model, from, count)
+}
+
+/// So many proposals that follow each other from a state; some of them have a location, a value or an action that is not there.
+pub fn long_list(random: &mut Random, model: &Model, from: &State, count: usize) -> Listed {
+    let mut list = Listed::default();
+    let mut here = from.clone();
+    for _ in 0..count {
+        let mut proposed = proposal(random, model, &here);
+        if random.percent(12) {
+            spoil_content(random, model, &mut proposed);
+        }
+        let answer = proposed.answer(model, &here);
+        list.push(random, &proposed, model.automata.len());
+        here = moved(here, &proposed, answer);
+    }
+    list
+}
+
+/// The list with each of its three lists one too short and one too long.
+pub fn wrong_lengths(list: &Listed) -> Vec<Listed> {
+    let mut all = vec![list.clone(); 6];
+    all[0].actions.pop();
+    all[1].actions.push(1);
+    all[2].locations.pop();
+    all[3].locations.push(0);
+    all[4].values.pop();
+    all[5].values.push(0);
+    all
+}
+
+/// A list, and the state it begins at, with faults of rows 20 to 23: one or several.
+pub fn faulty_list(random: &mut Random, model: &Model, from: &State, list: &Listed) -> (State, Listed) {
+    let (mut from, mut list) = (from.clone(), list.clone());
+    loop {
+        match random.below(8) {
+            0 => spoil_length(random, &mut list.actions),
+            1 => spoil_length(random, &mut list.locations),
+            2 => spoil_length(random, &mut list.values),
+            _ => spoil_state(random, model, &mut from),
+        }
+        if random.percent(60) {
+            return (from, list);
+        }
+    }
+}
+
 /// A proposal, and the state it is made from, with faults of rows 20 to 24: one or several.
 pub fn faulty(random: &mut Random, model: &Model, state: &State, proposed: &Proposed) -> (State, Proposed) {
     let (mut state, mut proposed) = (state.clone(), proposed.clone());
     loop {
-        match random.below(7) {
-            0 => state.phase = random.pick(&[2, 3, u32::MAX]),
-            1 => spoil_length(random, &mut state.locations),
-            2 => spoil_length(random, &mut state.values),
-            3 => spoil_location(random, model, &mut state.locations),
-            4 => spoil_value(random, model, &mut state.values),
-            _ => spoil_proposed(random, model, &mut proposed),
+        if random.percent(70) {
+            spoil_state(random, model, &mut state);
+        } else {
+            spoil_proposed(random, model, &mut proposed);
         }
         if random.percent(60) {
             return (state, proposed);
@@ -215,14 +303,30 @@ pub fn faulty(random: &mut Random, model: &Model, state: &State, proposed: &Prop
     }
 }
 
+fn spoil_state(random: &mut Random, model: &Model, state: &mut State) {
+    match random.below(5) {
+        0 => state.phase = random.pick(&[2, 3, u32::MAX]),
+        1 => spoil_length(random, &mut state.locations),
+        2 => spoil_length(random, &mut state.values),
+        3 => spoil_location(random, model, &mut state.locations),
+        _ => spoil_value(random, model, &mut state.values),
+    }
+}
+
 /// A proposal with faults of its own alone, as a run can meet them.
 pub fn spoil_proposed(random: &mut Random, model: &Model, proposed: &mut Proposed) {
-    let is_step = proposed.action.is_some();
     match random.below(5) {
-        0 if is_step => spoil_length(random, &mut proposed.locations),
+        0 if proposed.action.is_some() => spoil_length(random, &mut proposed.locations),
         1 => spoil_length(random, &mut proposed.values),
-        2 if is_step => spoil_location(random, model, &mut proposed.locations),
-        3 if is_step => proposed.action = Some(random.pick(&[model.actions + 1, 64, 65, u32::MAX])),
+        _ => spoil_content(random, model, proposed),
+    }
+}
+
+/// The same without a wrong length, as a list can have them.
+fn spoil_content(random: &mut Random, model: &Model, proposed: &mut Proposed) {
+    match random.below(3) {
+        0 if proposed.action.is_some() => spoil_location(random, model, &mut proposed.locations),
+        1 if proposed.action.is_some() => proposed.action = Some(random.pick(&[model.actions + 1, 64, 65, u32::MAX])),
         _ => spoil_value(random, model, &mut proposed.values),
     }
 }

@@ -368,9 +368,6 @@ fn break_row(random: &mut Random, model: &mut Model) {
     let k = random.below(model.automata.len());
     let variables = model.ranges.len();
     let outside = Expression::Old(variables + random.below(48 - variables.min(47)));
-    let huge = (0..random.below(2)).fold(Expression::Number(32_767), |x, _| Expression::Add(Box::new(x.clone()), Box::new(x)));
-    let square = Expression::Mul(Box::new(huge.clone()), Box::new(huge.clone()));
-    let cube = Expression::Mul(Box::new(square), Box::new(Expression::Number(random.pick(&[1, 2, 3, -2, -3]))));
     let past = random.below(2);
     match random.below(11) {
         0 if variables > 0 => model.ranges[random.below(variables)] = (random.pick(&[1, 32_767]), random.pick(&[1, 0, -32_768])),
@@ -381,9 +378,7 @@ fn break_row(random: &mut Random, model: &mut Model) {
         }
         3 => deepen(random, model, DEPTH + past),
         4 => {
-            let guard = Predicate::Le(cube, Expression::Number(0));
-            let guarded = Expression::If(Box::new(guard.clone()), Box::new(Expression::Number(0)), Box::new(Expression::Number(1)));
-            let p = if past == 0 { guard } else { Predicate::Eq(guarded, Expression::Number(0)) };
+            let p = around_32_bits(random, past == 1);
             put_somewhere(random, &mut model.automata[k], p);
         }
         5 => pad(random, model, NODES + past),
@@ -405,6 +400,19 @@ fn break_row(random: &mut Random, model: &mut Model) {
             model.automata[k].sync.insert(action);
         }
     }
+}
+
+/// A product around the limits of 32 bits, perhaps as the guard of an `if`.
+fn around_32_bits(random: &mut Random, as_guard: bool) -> Predicate {
+    let huge = (0..random.below(2)).fold(Expression::Number(32_767), |x, _| Expression::Add(Box::new(x.clone()), Box::new(x)));
+    let square = Expression::Mul(Box::new(huge.clone()), Box::new(huge));
+    let cube = Expression::Mul(Box::new(square), Box::new(Expression::Number(random.pick(&[1, 2, 3, -2, -3]))));
+    let guard = Predicate::Le(cube, Expression::Number(0));
+    if !as_guard {
+        return guard;
+    }
+    let guarded = Expression::If(Box::new(guard), Box::new(Expression::Number(0)), Box::new(Expression::Number(1)));
+    Predicate::Eq(guarded, Expression::Number(0))
 }
 
 fn put_somewhere(random: &mut Random, automaton: &mut Automaton, p: Predicate) {

@@ -65,7 +65,7 @@ pub fn environment_of(model: &Model, proposal: &Proposal) -> u32 {
 }
 
 /// Rows 20 to 23.
-fn refusal(model: &Model, proposal: &Proposal) -> Option<u32> {
+pub fn refusal(model: &Model, proposal: &Proposal) -> Option<u32> {
     let locations = [proposal.locations, proposal.new_locations];
     let values = [proposal.values, proposal.new_values];
     if proposal.phase > 1 {

@@ -3,6 +3,7 @@ pub mod judge;
 pub mod merge;
 pub mod model;
 pub mod reader;
+pub mod run;
 pub mod table;
 pub mod writer;
 
@@ -10,5 +11,6 @@ pub use judge::{environment, step};
 pub use merge::{merge, merged};
 pub use model::Model;
 pub use reader::read;
+pub use run::run;
 pub use table::{open, table};
 pub use writer::write;

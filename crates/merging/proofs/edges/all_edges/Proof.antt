@@ -3,15 +3,20 @@ use Rattle.merging.proofs.AllEdgesLaws.{all-laws}
 use Prim.Native.Nat.{_+_, _-_, _≤_}
 use Rattle.merging.proofs.AppendLaws.{Underway}
 use Rattle.merging.specs.MergedEdges.{edgesOf}
+use mathlib.Core.Path.{_≡_}
+use Rattle.merging.specs.Layout.{layoutOf}
 use borrow.Author.Needs.{needs}
 use Rattle.merging.proofs.edges.all_edges.Statement.{statement}
 use Rattle.merging.proofs.edges.all_edges.Tie as tie
 
 abbrev Inv-loop : tie.InvT-loop
-Inv-loop t own last out₀ at action₀ next₀ out action next = (action ≤ last + 1) × Underway (edgesOf t own 0 (last + 1)) at out₀ (edgesOf t own action (last + 1 - action)) next out
+Inv-loop t own last out₀ at x action₀ next₀ out action next = (x ≡ layoutOf t) × (action ≤ last + 1) × Underway (edgesOf t own 0 (last + 1)) at out₀ (edgesOf t own action (last + 1 - action)) next out
 
 abbrev μ-loop : tie.MeasureT-loop
-μ-loop t own last out₀ at action₀ next₀ out action next = last + 1 - action
+μ-loop t own last out₀ at x action₀ next₀ out action next = last + 1 - action
+
+of-requires : tie.Need-of-requires Inv-loop μ-loop
+of-requires c κs = search needs
 
 loop-holds : tie.Need-loop-holds Inv-loop μ-loop
 loop-holds c = search (needs, all-laws)
@@ -37,6 +42,7 @@ all-edges-spec =
     (tie.spec
     Inv-loop
     μ-loop
+    of-requires
     loop-holds
     action-edges-requires
     add-action

@@ -3,15 +3,19 @@ use Rattle.merging.proofs.AllEdgesLaws.{all-moves-laws}
 use mathlib.Core.Path.{_≡_}
 use Prim.Native.Nat.{_+_, _-_, _≤_}
 use Rattle.merging.specs.MergedEdges.{movesOf}
+use Rattle.merging.specs.Layout.{layoutOf}
 use borrow.Author.Needs.{needs}
 use Rattle.merging.proofs.edges.all_moves.Statement.{statement}
 use Rattle.merging.proofs.edges.all_moves.Tie as tie
 
 abbrev Inv-loop : tie.InvT-loop
-Inv-loop t own last action₀ sum₀ action sum = (action ≤ last + 1) × (movesOf t own action (last + 1 - action) sum ≡ movesOf t own 0 (last + 1) 0)
+Inv-loop t own last x action₀ sum₀ action sum = (x ≡ layoutOf t) × (action ≤ last + 1) × (movesOf t own action (last + 1 - action) sum ≡ movesOf t own 0 (last + 1) 0)
 
 abbrev μ-loop : tie.MeasureT-loop
-μ-loop t own last action₀ sum₀ action sum = last + 1 - action
+μ-loop t own last x action₀ sum₀ action sum = last + 1 - action
+
+of-requires : tie.Need-of-requires Inv-loop μ-loop
+of-requires c κs = search needs
 
 loop-holds : tie.Need-loop-holds Inv-loop μ-loop
 loop-holds c = search (needs, all-moves-laws)
@@ -43,6 +47,7 @@ all-moves-spec =
     (tie.spec
     Inv-loop
     μ-loop
+    of-requires
     loop-holds
     action-moves-requires
     index-requires

@@ -1,15 +1,15 @@
 -- `merging::edges::counts_of` meets its contract: the counts so far, and those to come. The measure is the automata left.
-use Rattle.merging.proofs.AllEdgesLaws.{Counting, counting-laws}
+use Rattle.merging.proofs.AllEdgesLaws.{CountingBy, counting-laws}
 use Prim.Native.Nat.{_-_}
 use borrow.Author.Needs.{needs}
 use Rattle.merging.proofs.edges.counts_of.Statement.{statement}
 use Rattle.merging.proofs.edges.counts_of.Tie as tie
 
 abbrev Inv-loop : tie.InvT-loop
-Inv-loop t action count place₀ under₀ i₀ place under i = Counting t action count i place under
+Inv-loop t starts action count under₀ i₀ under i = CountingBy t starts action count i under
 
 abbrev μ-loop : tie.MeasureT-loop
-μ-loop t action count place₀ under₀ i₀ place under i = count - i
+μ-loop t starts action count under₀ i₀ under i = count - i
 
 count-at-requires : tie.Need-count-at-requires Inv-loop μ-loop
 count-at-requires c κs = search needs
@@ -20,14 +20,17 @@ word-requires c κs = search needs
 at-most-requires : tie.Need-at-most-requires Inv-loop μ-loop
 at-most-requires c κs = search needs
 
-automaton-at-requires : tie.Need-automaton-at-requires Inv-loop μ-loop
-automaton-at-requires c κs = search needs
-
 loop-holds : tie.Need-loop-holds Inv-loop μ-loop
 loop-holds c = search (needs, counting-laws)
 
-under-at-requires : tie.Need-under-at-requires Inv-loop μ-loop
-under-at-requires c κs = search needs
+mul-edges : tie.Need-mul-edges Inv-loop μ-loop
+mul-edges c = search needs
+
+element-copy-out-edges : tie.Need-element-copy-out-edges Inv-loop μ-loop
+element-copy-out-edges c = search needs
+
+under-in-requires : tie.Need-under-in-requires Inv-loop μ-loop
+under-in-requires c κs = search needs
 
 narrow-requires : tie.Need-narrow-requires Inv-loop μ-loop
 narrow-requires c κs = search needs
@@ -37,9 +40,6 @@ mul-under c = search needs
 
 array-write-under : tie.Need-array-write-under Inv-loop μ-loop
 array-write-under c = search needs
-
-after-automaton-requires : tie.Need-after-automaton-requires Inv-loop μ-loop
-after-automaton-requires c κs = search needs
 
 add-i : tie.Need-add-i Inv-loop μ-loop
 add-i c = search needs
@@ -62,13 +62,13 @@ counts-of-spec =
     count-at-requires
     word-requires
     at-most-requires
-    automaton-at-requires
     loop-holds
-    under-at-requires
+    mul-edges
+    element-copy-out-edges
+    under-in-requires
     narrow-requires
     mul-under
     array-write-under
-    after-automaton-requires
     add-i
     loop-less
     loop-again

@@ -8,10 +8,10 @@ use Rattle.merging.proofs.edges.edges.Statement.{statement}
 use Rattle.merging.proofs.edges.edges.Tie as tie
 
 abbrev Inv-loop : tie.InvT-loop
-Inv-loop t action cells count out₀ at k₀ next₀ out k next = (k ≤ count) × Underway (edgesFrom t cells action 0 count) at out₀ (edgesFrom t cells action k (count - k)) next out
+Inv-loop t x action cells count out₀ at k₀ next₀ out k next = (k ≤ count) × Underway (edgesFrom t cells action 0 count) at out₀ (edgesFrom t cells action k (count - k)) next out
 
 abbrev μ-loop : tie.MeasureT-loop
-μ-loop t action cells count out₀ at k₀ next₀ out k next = count - k
+μ-loop t x action cells count out₀ at k₀ next₀ out k next = count - k
 
 loop-holds : tie.Need-loop-holds Inv-loop μ-loop
 loop-holds c = search (needs, edges-laws)

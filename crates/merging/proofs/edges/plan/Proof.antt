@@ -1,4 +1,5 @@
 -- `merging::edges::plan` meets its contract.
+use Rattle.merging.proofs.Ahead.{layout-edges}
 use Rattle.merging.proofs.AllEdgesLaws.{plan-is}
 use borrow.Author.Needs.{needs}
 use Rattle.merging.proofs.edges.plan.Statement.{statement}
@@ -8,13 +9,7 @@ index-requires : tie.Need-index-requires
 index-requires c κs = search needs
 
 counts-of-requires : tie.Need-counts-of-requires
-counts-of-requires c κs = search needs
-
-tree-at-requires : tie.Need-tree-at-requires
-tree-at-requires c κs = search needs
-
-step-requires : tie.Need-step-requires
-step-requires c κs = search needs
+counts-of-requires c κs = search (needs, layout-edges)
 
 slice-aggregate-plan : tie.Need-slice-aggregate-plan
 slice-aggregate-plan c = search needs
@@ -28,11 +23,4 @@ returns c = search (needs, plan-is)
 pub plan-spec : {M : Type 1} → statement M
 plan-spec =
     tie.close
-    (tie.spec
-    index-requires
-    counts-of-requires
-    tree-at-requires
-    step-requires
-    slice-aggregate-plan
-    plan-requires
-    returns)
+    (tie.spec index-requires counts-of-requires slice-aggregate-plan plan-requires returns)

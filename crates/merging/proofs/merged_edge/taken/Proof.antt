@@ -7,9 +7,6 @@ use Rattle.merging.proofs.merged_edge.taken.Tie as tie
 returns : tie.Need-returns
 returns c = search (needs, taken-laws)
 
-edges-at-requires : tie.Need-edges-at-requires
-edges-at-requires c κs = search needs
-
 step-requires : tie.Need-step-requires
 step-requires c κs = search needs
 
@@ -27,12 +24,4 @@ returns-2 c = search (needs, taken-laws)
 
 pub taken-spec : {M : Type 1} → statement M
 taken-spec =
-    tie.close
-    (tie.spec
-    returns
-    edges-at-requires
-    step-requires
-    sub-find
-    word-requires
-    find-requires
-    returns-2)
+    tie.close (tie.spec returns step-requires sub-find word-requires find-requires returns-2)

@@ -1,15 +1,15 @@
 -- `merging::merged_edge::takers_of` meets its contract: the places so far, and those to come. The measure is the automata left.
-use Rattle.merging.proofs.EdgeLaws.{Taking, taking-laws}
+use Rattle.merging.proofs.EdgeLaws.{TakingBy, taking-laws}
 use Prim.Native.Nat.{_-_}
 use borrow.Author.Needs.{needs}
 use Rattle.merging.proofs.merged_edge.takers_of.Statement.{statement}
 use Rattle.merging.proofs.merged_edge.takers_of.Tie as tie
 
 abbrev Inv-loop : tie.InvT-loop
-Inv-loop t action picks count place₀ places₀ i₀ place places i = Taking t action picks count i place places
+Inv-loop t starts action picks count places₀ i₀ places i = TakingBy t starts action picks count i places
 
 abbrev μ-loop : tie.MeasureT-loop
-μ-loop t action picks count place₀ places₀ i₀ place places i = count - i
+μ-loop t starts action picks count places₀ i₀ places i = count - i
 
 count-at-requires : tie.Need-count-at-requires Inv-loop μ-loop
 count-at-requires c κs = search needs
@@ -20,9 +20,6 @@ word-requires c κs = search needs
 at-most-requires : tie.Need-at-most-requires Inv-loop μ-loop
 at-most-requires c κs = search needs
 
-automaton-at-requires : tie.Need-automaton-at-requires Inv-loop μ-loop
-automaton-at-requires c κs = search needs
-
 loop-holds : tie.Need-loop-holds Inv-loop μ-loop
 loop-holds c = search (needs, taking-laws)
 
@@ -31,6 +28,12 @@ mul-pick c = search needs
 
 element-copy-out-pick : tie.Need-element-copy-out-pick Inv-loop μ-loop
 element-copy-out-pick c = search needs
+
+mul-edges : tie.Need-mul-edges Inv-loop μ-loop
+mul-edges c = search needs
+
+element-copy-out-edges : tie.Need-element-copy-out-edges Inv-loop μ-loop
+element-copy-out-edges c = search needs
 
 index-requires : tie.Need-index-requires Inv-loop μ-loop
 index-requires c κs = search needs
@@ -43,9 +46,6 @@ mul-places c = search needs
 
 array-write-places : tie.Need-array-write-places Inv-loop μ-loop
 array-write-places c = search needs
-
-after-automaton-requires : tie.Need-after-automaton-requires Inv-loop μ-loop
-after-automaton-requires c κs = search needs
 
 add-i : tie.Need-add-i Inv-loop μ-loop
 add-i c = search needs
@@ -68,15 +68,15 @@ takers-of-spec =
     count-at-requires
     word-requires
     at-most-requires
-    automaton-at-requires
     loop-holds
     mul-pick
     element-copy-out-pick
+    mul-edges
+    element-copy-out-edges
     index-requires
     taken-requires
     mul-places
     array-write-places
-    after-automaton-requires
     add-i
     loop-less
     loop-again

@@ -3,15 +3,19 @@ use Rattle.merging.proofs.SurveyLaws.{all-survey-laws}
 use mathlib.Core.Path.{_≡_}
 use Prim.Native.Nat.{_+_, _-_, _≤_}
 use Rattle.merging.specs.Survey.{surveyOf}
+use Rattle.merging.specs.Layout.{layoutOf}
 use borrow.Author.Needs.{needs}
 use Rattle.merging.proofs.survey.all_survey.Statement.{statement}
 use Rattle.merging.proofs.survey.all_survey.Tie as tie
 
 abbrev Inv-loop : tie.InvT-loop
-Inv-loop t own last action₀ sofar₀ action sofar = (action ≤ last + 1) × (surveyOf t own action (last + 1 - action) sofar ≡ surveyOf t own 0 (last + 1) sofar₀)
+Inv-loop t own last x action₀ sofar₀ action sofar = (x ≡ layoutOf t) × (action ≤ last + 1) × (surveyOf t own action (last + 1 - action) sofar ≡ surveyOf t own 0 (last + 1) sofar₀)
 
 abbrev μ-loop : tie.MeasureT-loop
-μ-loop t own last action₀ sofar₀ action sofar = last + 1 - action
+μ-loop t own last x action₀ sofar₀ action sofar = last + 1 - action
+
+of-requires : tie.Need-of-requires Inv-loop μ-loop
+of-requires c κs = search needs
 
 loop-holds : tie.Need-loop-holds Inv-loop μ-loop
 loop-holds c = search (needs, all-survey-laws)
@@ -37,6 +41,7 @@ all-survey-spec =
     (tie.spec
     Inv-loop
     μ-loop
+    of-requires
     loop-holds
     action-survey-requires
     add-action

@@ -8,10 +8,10 @@ use Rattle.merging.proofs.survey.with_edges.Statement.{statement}
 use Rattle.merging.proofs.survey.with_edges.Tie as tie
 
 abbrev Inv-loop : tie.InvT-loop
-Inv-loop t action cells count k₀ sofar₀ k sofar = (k ≤ count) × (surveyFrom t cells action k (count - k) sofar ≡ surveyFrom t cells action 0 count sofar₀)
+Inv-loop t x action cells count k₀ sofar₀ k sofar = (k ≤ count) × (surveyFrom t cells action k (count - k) sofar ≡ surveyFrom t cells action 0 count sofar₀)
 
 abbrev μ-loop : tie.MeasureT-loop
-μ-loop t action cells count k₀ sofar₀ k sofar = count - k
+μ-loop t x action cells count k₀ sofar₀ k sofar = count - k
 
 loop-holds : tie.Need-loop-holds Inv-loop μ-loop
 loop-holds c = search (needs, with-edges-laws)
