@@ -20,6 +20,7 @@ use Rattle.scan.specs.declared.answer.Natural.the-variants.{In, Out}
 use Rattle.scan.proofs.NumberLaws.{natural-said, natural-denied}
 use Rattle.scan.proofs.FindLaws.{find-after}
 use Rattle.words.proofs.Parting.{partsFrom, from-start, from-past, from-step}
+use Rattle.entry.specs.declared.LineRead.{LineRead}
 use Rattle.entry.specs.declared.LineRead.the-variants.{Sound, Fault}
 use Rattle.entry.specs.declared.predicates.Nodes.the-variants as N
 use Rattle.entry.specs.declared.predicates.Nodes.{Nodes}
@@ -27,8 +28,8 @@ use Rattle.entry.specs.declared.edge.Ends.{Ends}
 use Rattle.entry.specs.declared.edge.Ends.the-variants.{Are, Unsound}
 use Rattle.entry.specs.Append.{nextPlace, put}
 use Rattle.entry.specs.Form.{valueAfter, misformed}
-use Rattle.entry.specs.Predicate.{codesOf, predicateFault, PredicateRead, counted}
-use Rattle.entry.specs.Edge.{fieldIn, endsSound, endsIn, astray, thenRow, valueFault, valueWords, edgeName, edgeFault, edgeRead, edgeAfter}
+use Rattle.entry.specs.Predicate.{codesOf, predicateFault, PredicateRead, counted, lineTold, lineAfter}
+use Rattle.entry.specs.Edge.{fieldIn, endsSound, endsIn, astray, thenRow, valueFault, valueWords, valueRead, afterValue, edgeName, edgeFault, edgeRead, edgeAfter}
 use Rattle.entry.proofs.PredicateLaws.{told-are, told-row, are-few, more-next, more-put, line-row, line-kept, line-sound, line-put, broken-hit, broken-past}
 
 -- `field`: what is left of the fields, from a place on
@@ -131,7 +132,7 @@ module _ (at from action to n : ℕ) (l : List ℕ) (a : ℕ) (ha : a ≡ nextPl
 
 pub ruleset append-edge-laws = (edge-next, edge-filled)
 
--- `edge`
+-- `read_value`
 ends-none : (v : Bytes) → endsIn v ≡ Unsound → endsSound v ≡ false
 unfolding endsIn
 ends-none v e = go (endsSound v) e
@@ -156,109 +157,125 @@ ends-some v from action to e = go (endsSound v) refl e
     go true h k = record { sound = h; first = cc; second = cc; third = cc }
     go false h k = absurd (let q : _≡_ {A = ℕ} 0 1 = cc in omega arith)
 
-module _ (s : Bytes) (ended : Bool) (c : Counts) (t : List ℕ) (at : ℕ) (p : Bool) (hp : p ≡ misformed edgeName 4 s ended) where
+module _ (v : Bytes) (c : Counts) (t : List ℕ) (at : ℕ) (q : Ends) (hq : q ≡ endsIn v) where
   -- a row that is broken is the answer, and the buffer is left as it was
-  row-told : (row : ℕ) → edgeFault s ended c t ≡ some row → Fault row ≡ edgeRead s ended c t at
-  unfolding edgeRead
+  row-told : (row : ℕ) → valueFault c t v ≡ some row → Fault row ≡ valueRead c t v at
+  unfolding valueRead
   row-told row h = line-row _ row _ at _ h
 
-  row-kept : (row : ℕ) → edgeFault s ended c t ≡ some row → t ≡ edgeAfter s ended c t at
-  unfolding edgeAfter
+  row-kept : (row : ℕ) → valueFault c t v ≡ some row → t ≡ afterValue c t v at
+  unfolding afterValue
   row-kept row h = line-kept _ row at _ t h
 
+  module _ (e : q ≡ Unsound) where
+    ends-row : valueFault c t v ≡ some 3
+    unfolding valueFault
+    ends-row = broken-hit 3 _ _ (ap not (ends-none v (sym hq ∙ e)))
+
+    pub value-unsound : Fault 3 ≡ valueRead c t v at
+    value-unsound = row-told 3 ends-row
+
+    pub value-unsound-kept : t ≡ afterValue c t v at
+    value-unsound-kept = row-kept 3 ends-row
+
+  module _ (from action to : ℕ) (e : q ≡ Are from action to) (f : Bytes) (hf : f ≡ fieldIn 3 v) (scratch : List ℕ) (r : Nodes)
+      (k : PredicateRead f (predicateFault f false c t) scratch r) where
+    ends-of : EndsOf v from action to
+    ends-of = ends-some v from action to (sym hq ∙ e)
+
+    past-ends : valueFault c t v ≡ thenRow (predicateFault f false c t) (broken 12 (astray c from action to) none)
+    unfolding valueFault
+    past-ends = broken-past 3 _ _ (ap not (ends-of .sound)) ∙ rw (ends-of .first, ends-of .second, ends-of .third, ← hf)
+
+    module _ (row : ℕ) (g : r ≡ N.Unsound row) where
+      its-row : valueFault c t v ≡ some row
+      unfolding thenRow
+      its-row = past-ends ∙ ap (λ (o : Option ℕ). thenRow o (broken 12 (astray c from action to) none)) (told-row _ row _ (sym (k .answered) ∙ g))
+
+      pub value-row : Fault row ≡ valueRead c t v at
+      value-row = row-told row its-row
+
+      pub value-row-kept : t ≡ afterValue c t v at
+      value-row-kept = row-kept row its-row
+
+    module _ (n : ℕ) (g : r ≡ N.Are n) where
+      fine : (predicateFault f false c t ≡ none) × (n ≡ length (codesOf f))
+      fine = told-are _ n _ (sym (k .answered) ∙ g)
+
+      last-row : valueFault c t v ≡ broken 12 (astray c from action to) none
+      unfolding thenRow
+      last-row = past-ends ∙ ap (λ (o : Option ℕ). thenRow o (broken 12 (astray c from action to) none)) (fine .0)
+
+      pub value-few : n ≤ maxNodes
+      value-few = are-few f false c t scratch r n k g
+
+      module _ (w : Bool) (hw : w ≡ astray c from action to) where
+        module _ (i : w ≡ true) where
+          pub value-astray : Fault 12 ≡ valueRead c t v at
+          value-astray = row-told 12 (last-row ∙ broken-hit 12 _ _ (sym hw ∙ i))
+
+          pub value-astray-kept : t ≡ afterValue c t v at
+          value-astray-kept = row-kept 12 (last-row ∙ broken-hit 12 _ _ (sym hw ∙ i))
+
+        module _ (i : w ≡ false) where
+          unbroken-all : valueFault c t v ≡ none
+          unbroken-all = last-row ∙ broken-past 12 _ _ (sym hw ∙ i)
+
+          stand : _≡_ {A = List ℕ} (n ∷ take n scratch) (counted (codesOf (fieldIn 3 v)))
+          stand = ap (λ (l : List ℕ). n ∷ l) (k .stands n g) ∙ ap (λ (m : ℕ). m ∷ codesOf f) (fine .1) ∙ ap (λ (x : Bytes). counted (codesOf x)) hf
+
+          all-words : _≡_ {A = List ℕ} (from ∷ action ∷ to ∷ n ∷ take n scratch) (valueWords v)
+          unfolding valueWords
+          all-words =
+              ap (λ (l : List ℕ). from ∷ action ∷ to ∷ l) stand ∙
+              rw (← ends-of .first, ← ends-of .second, ← ends-of .third)
+
+          size : n ≡ length (codesOf (fieldIn 3 v))
+          size = fine .1 ∙ ap (λ (x : Bytes). length (codesOf x)) hf
+
+          pub value-are : (next : ℕ) → next ≡ nextPlace at (suc (suc (suc (suc (length (take n scratch)))))) → Sound 0 n next ≡ valueRead c t v at
+          unfolding valueRead
+          value-are next hn =
+              ap (Sound 0 n) (hn ∙ ap (λ (l : List ℕ). nextPlace at (length l)) all-words) ∙
+              ap (λ (m : ℕ). Sound 0 m (nextPlace at (length (valueWords v)))) size ∙
+              line-sound _ _ at _ unbroken-all
+
+          pub value-put : (new : List ℕ) → new ≡ put at (from ∷ action ∷ to ∷ n ∷ take n scratch) t → new ≡ afterValue c t v at
+          unfolding afterValue
+          value-put new hn = hn ∙ ap (λ (l : List ℕ). put at l t) all-words ∙ line-put _ at _ t unbroken-all
+
+pub ruleset value-laws = (value-unsound, value-unsound-kept, value-row, value-row-kept, value-few, value-astray, value-astray-kept, value-are, value-put)
+
+-- `edge`
+module _ (s : Bytes) (ended : Bool) (c : Counts) (t : List ℕ) (at : ℕ) (p : Bool) (hp : p ≡ misformed edgeName 4 s ended) where
   module _ (h : p ≡ true) where
     form-row : edgeFault s ended c t ≡ some 2
     unfolding edgeFault
     form-row = broken-hit 2 _ _ (sym hp ∙ h)
 
     pub edge-form : Fault 2 ≡ edgeRead s ended c t at
-    edge-form = row-told 2 form-row
+    unfolding edgeRead
+    edge-form = line-row _ 2 _ at _ form-row
 
     pub edge-form-kept : t ≡ edgeAfter s ended c t at
-    edge-form-kept = row-kept 2 form-row
+    unfolding edgeAfter
+    edge-form-kept = line-kept _ 2 at _ t form-row
 
-  module _ (h : p ≡ false) (v : Bytes) (hv : v ≡ valueAfter edgeName s) (q : Ends) (hq : q ≡ endsIn v) where
-    value-row : edgeFault s ended c t ≡ valueFault c t v
+  module _ (h : p ≡ false) (v : Bytes) (hv : v ≡ valueAfter edgeName s) where
+    rest-row : valueFault c t v ≡ edgeFault s ended c t
     unfolding edgeFault
-    value-row = broken-past 2 _ _ (sym hp ∙ h) ∙ ap (valueFault c t) (sym hv)
+    rest-row = ap (valueFault c t) hv ∙ sym (broken-past 2 _ _ (sym hp ∙ h))
 
-    module _ (e : q ≡ Unsound) where
-      ends-row : edgeFault s ended c t ≡ some 3
-      unfolding valueFault
-      ends-row = value-row ∙ broken-hit 3 _ _ (ap not (ends-none v (sym hq ∙ e)))
+    pub edge-value : (r : LineRead) → r ≡ valueRead c t v at → r ≡ edgeRead s ended c t at
+    unfolding valueRead edgeRead
+    edge-value r hr =
+        hr ∙ ap (λ (o : Option ℕ). lineTold o (length (codesOf (fieldIn 3 v))) at (valueWords v)) rest-row ∙
+        ap (λ (x : Bytes). lineTold (edgeFault s ended c t) (length (codesOf (fieldIn 3 x))) at (valueWords x)) hv
 
-      pub edge-unsound : Fault 3 ≡ edgeRead s ended c t at
-      edge-unsound = row-told 3 ends-row
+    pub edge-value-put : (new : List ℕ) → new ≡ afterValue c t v at → new ≡ edgeAfter s ended c t at
+    unfolding afterValue edgeAfter
+    edge-value-put new hn =
+        hn ∙ ap (λ (o : Option ℕ). lineAfter o at (valueWords v) t) rest-row ∙
+        ap (λ (x : Bytes). lineAfter (edgeFault s ended c t) at (valueWords x) t) hv
 
-      pub edge-unsound-kept : t ≡ edgeAfter s ended c t at
-      edge-unsound-kept = row-kept 3 ends-row
-
-    module _ (from action to : ℕ) (e : q ≡ Are from action to) (f : Bytes) (hf : f ≡ fieldIn 3 v) (scratch : List ℕ) (r : Nodes)
-        (k : PredicateRead f (predicateFault f false c t) scratch r) where
-      ends-of : EndsOf v from action to
-      ends-of = ends-some v from action to (sym hq ∙ e)
-
-      past-ends : edgeFault s ended c t ≡ thenRow (predicateFault f false c t) (broken 12 (astray c from action to) none)
-      unfolding valueFault
-      past-ends =
-          value-row ∙ broken-past 3 _ _ (ap not (ends-of .sound)) ∙
-          rw (ends-of .first, ends-of .second, ends-of .third, ← hf)
-
-      module _ (row : ℕ) (g : r ≡ N.Unsound row) where
-        its-row : edgeFault s ended c t ≡ some row
-        unfolding thenRow
-        its-row = past-ends ∙ ap (λ (o : Option ℕ). thenRow o (broken 12 (astray c from action to) none)) (told-row _ row _ (sym (k .answered) ∙ g))
-
-        pub edge-row : Fault row ≡ edgeRead s ended c t at
-        edge-row = row-told row its-row
-
-        pub edge-row-kept : t ≡ edgeAfter s ended c t at
-        edge-row-kept = row-kept row its-row
-
-      module _ (n : ℕ) (g : r ≡ N.Are n) where
-        fine : (predicateFault f false c t ≡ none) × (n ≡ length (codesOf f))
-        fine = told-are _ n _ (sym (k .answered) ∙ g)
-
-        last-row : edgeFault s ended c t ≡ broken 12 (astray c from action to) none
-        unfolding thenRow
-        last-row = past-ends ∙ ap (λ (o : Option ℕ). thenRow o (broken 12 (astray c from action to) none)) (fine .0)
-
-        pub edge-few : n ≤ maxNodes
-        edge-few = are-few f false c t scratch r n k g
-
-        module _ (w : Bool) (hw : w ≡ astray c from action to) where
-          module _ (i : w ≡ true) where
-            pub edge-astray : Fault 12 ≡ edgeRead s ended c t at
-            edge-astray = row-told 12 (last-row ∙ broken-hit 12 _ _ (sym hw ∙ i))
-
-            pub edge-astray-kept : t ≡ edgeAfter s ended c t at
-            edge-astray-kept = row-kept 12 (last-row ∙ broken-hit 12 _ _ (sym hw ∙ i))
-
-          module _ (i : w ≡ false) where
-            unbroken-all : edgeFault s ended c t ≡ none
-            unbroken-all = last-row ∙ broken-past 12 _ _ (sym hw ∙ i)
-
-            stand : _≡_ {A = List ℕ} (n ∷ take n scratch) (counted (codesOf (fieldIn 3 v)))
-            stand = ap (λ (l : List ℕ). n ∷ l) (k .stands n g) ∙ ap (λ (m : ℕ). m ∷ codesOf f) (fine .1) ∙ ap (λ (x : Bytes). counted (codesOf x)) hf
-
-            all-words : _≡_ {A = List ℕ} (from ∷ action ∷ to ∷ n ∷ take n scratch) (valueWords (valueAfter edgeName s))
-            unfolding valueWords
-            all-words =
-                ap (λ (l : List ℕ). from ∷ action ∷ to ∷ l) stand ∙
-                rw (← ends-of .first, ← ends-of .second, ← ends-of .third) (ap valueWords hv)
-
-            size : n ≡ length (codesOf (fieldIn 3 (valueAfter edgeName s)))
-            size = fine .1 ∙ ap (λ (x : Bytes). length (codesOf x)) hf ∙ ap (λ (x : Bytes). length (codesOf (fieldIn 3 x))) hv
-
-            pub edge-are : (next : ℕ) → next ≡ nextPlace at (suc (suc (suc (suc (length (take n scratch)))))) → Sound 0 n next ≡ edgeRead s ended c t at
-            unfolding edgeRead
-            edge-are next hn =
-                ap (Sound 0 n) (hn ∙ ap (λ (l : List ℕ). nextPlace at (length l)) all-words) ∙
-                ap (λ (m : ℕ). Sound 0 m (nextPlace at (length (valueWords (valueAfter edgeName s))))) size ∙
-                line-sound _ _ at _ unbroken-all
-
-            pub edge-put : (new : List ℕ) → new ≡ put at (from ∷ action ∷ to ∷ n ∷ take n scratch) t → new ≡ edgeAfter s ended c t at
-            unfolding edgeAfter
-            edge-put new hn = hn ∙ ap (λ (l : List ℕ). put at l t) all-words ∙ line-put _ at _ t unbroken-all
-
-pub ruleset edge-laws = (edge-form, edge-form-kept, edge-unsound, edge-unsound-kept, edge-row, edge-row-kept, edge-few, edge-astray, edge-astray-kept, edge-are, edge-put)
+pub ruleset edge-laws = (edge-form, edge-form-kept, edge-value, edge-value-put)

@@ -56,6 +56,14 @@ valueFault c words v =
 unfoldable pub valueWords : Bytes → List ℕ
 valueWords v = naturalOf (fieldIn 0 v) ∷ naturalOf (fieldIn 1 v) ∷ naturalOf (fieldIn 2 v) ∷ counted (codesOf (fieldIn 3 v))
 
+-- the answer, and the buffer after it
+module _ (c : Counts) (words : List ℕ) (v : Bytes) (at : ℕ) where
+  unfoldable pub valueRead : LineRead
+  valueRead = lineTold (valueFault c words v) (length (codesOf (fieldIn 3 v))) at (valueWords v)
+
+  unfoldable pub afterValue : List ℕ
+  afterValue = lineAfter (valueFault c words v) at (valueWords v) words
+
 abbrev pub edgeName : Bytes
 edgeName = bytes "edge="
 

@@ -13,7 +13,7 @@ ghost use Prim.Native.Nat.{suc, _≤_};
 ghost use lib.ListN.{length, take};
 ghost use Rattle.model.specs.Bounds.{maxNodes};
 ghost use Rattle.entry.specs.Append.{nextPlace, put};
-ghost use Rattle.entry.specs.Edge.{fieldIn, endsIn, astray, edgeRead, edgeAfter};
+ghost use Rattle.entry.specs.Edge.{fieldIn, endsIn, astray, valueRead, afterValue, edgeRead, edgeAfter};
 
 // FROM, ACT and TO, or that one of them is no number in its range.
 pub enum Ends {
@@ -84,25 +84,21 @@ fn append_edge(
     predicates::append_nodes(words, fourth, nodes, n)
 }
 
-// Rows 2 and 3, those of P, where new values may stand, and then row 12. Nothing is written where one is broken.
-pub fn edge(
-    line: &[u8],
-    ended: bool,
+// What stands after the key: row 3, the rows of P, where new values may stand, and then row 12. Nothing is written where one is broken.
+fn read_value(
+    value: &[u8],
     counts: Counts,
     words: &mut [u32; 8192],
     at: usize,
     scratch: &mut [u32; 32768],
+    sorts: &mut [bool; 32768],
 ) -> LineRead
-    ensures { λ r. ⌜ (r ≡ edgeRead (now (line .entry)) ended counts (now (words .entry)) at) × (now (words .exit) ≡ edgeAfter (now (line .entry)) ended counts (now (words .entry)) at) ⌝ }
+    ensures { λ r. ⌜ (r ≡ valueRead counts (now (words .entry)) (now (value .entry)) at) × (now (words .exit) ≡ afterValue counts (now (words .entry)) (now (value .entry)) at) ⌝ }
 {
-    if form::misformed(line, ended, b"edge=", 4) {
-        return LineRead::Fault(2);
-    }
-    let value = form::value(line, b"edge=");
     let Ends::Are(from, action, to) = read_ends(value) else {
         return LineRead::Fault(3);
     };
-    let nodes = predicates::predicate(field(value, 3), false, counts, words, scratch);
+    let nodes = predicates::predicate(field(value, 3), false, counts, words, scratch, sorts);
     match nodes {
         Nodes::Are(n) => {
             if astray(counts, from, action, to) {
@@ -112,4 +108,29 @@ pub fn edge(
         }
         Nodes::Unsound(row) => LineRead::Fault(row),
     }
+}
+
+// Row 2, and then those of the value.
+pub fn edge(
+    line: &[u8],
+    ended: bool,
+    counts: Counts,
+    words: &mut [u32; 8192],
+    at: usize,
+    scratch: &mut [u32; 32768],
+    sorts: &mut [bool; 32768],
+) -> LineRead
+    ensures { λ r. ⌜ (r ≡ edgeRead (now (line .entry)) ended counts (now (words .entry)) at) × (now (words .exit) ≡ edgeAfter (now (line .entry)) ended counts (now (words .entry)) at) ⌝ }
+{
+    if form::misformed(line, ended, b"edge=", 4) {
+        return LineRead::Fault(2);
+    }
+    read_value(
+        form::value(line, b"edge="),
+        counts,
+        words,
+        at,
+        scratch,
+        sorts,
+    )
 }

@@ -19,7 +19,8 @@ pub enum LineRead {
     Fault(u32),
 }
 
-// The line's bytes without the LF, and whether an LF ended it; `words` is the table so far, `at` the place of its next word, `scratch` is for a predicate's words.
+// The line's bytes without the LF, and whether an LF ended it; `words` is the table so far, `at` the place of its next word, `scratch` is for a predicate's words,
+// and `sorts` for their sorts. Of these two nothing is asked, and nothing is said.
 pub fn read(
     line: &[u8],
     ended: bool,
@@ -28,6 +29,7 @@ pub fn read(
     words: &mut [u32; 8192],
     at: usize,
     scratch: &mut [u32; 32768],
+    sorts: &mut [bool; 32768],
 ) -> LineRead
     ensures { λ r. ⌜ (r ≡ lineRead (now (line .entry)) ended key counts (now (words .entry)) at) × (now (words .exit) ≡ lineAfter (now (line .entry)) ended key counts (now (words .entry)) at) ⌝ }
 {
@@ -71,13 +73,13 @@ pub fn read(
             words,
             at,
         ),
-        Key::Init => predicates::location(line, ended, b"init=", counts, words, at, scratch),
-        Key::Inv => predicates::location(line, ended, b"inv=", counts, words, at, scratch),
+        Key::Init => predicates::location(line, ended, b"init=", counts, words, at, scratch, sorts),
+        Key::Inv => predicates::location(line, ended, b"inv=", counts, words, at, scratch, sorts),
         Key::Edges => {
             let before = counts.edges;
             number::edges(line, ended, before, words, at)
         }
-        Key::Edge => edge::edge(line, ended, counts, words, at, scratch),
+        Key::Edge => edge::edge(line, ended, counts, words, at, scratch, sorts),
         Key::Compose => composition::composition(line, ended, counts, words, at),
         Key::End => LineRead::Fault(2),
     }

@@ -40,12 +40,18 @@ fn extent(nodes: &[u32], counts: Counts, words: &[u32]) -> Nodes
 }
 
 // Rows 6 to 11 of node words.
-fn judged(nodes: &[u32], old: bool, counts: Counts, words: &[u32]) -> Nodes
+fn judged(
+    nodes: &[u32],
+    old: bool,
+    counts: Counts,
+    words: &[u32],
+    sorts: &mut [bool; 32768],
+) -> Nodes
     ensures { λ r. ⌜ r ≡ told (length (now (nodes .entry))) (nodesFault old counts (now (words .entry)) (now (nodes .entry))) ⌝ }
 {
     let n = nodes.len();
     let v = counts.variables;
-    if !words::well_formed(nodes, n) {
+    if !words::well_formed(nodes, n, sorts) {
         return Nodes::Unsound(6);
     }
     if predicate::scan::names_outside(nodes, 0, n, v) {
@@ -74,6 +80,7 @@ pub fn predicate(
     counts: Counts,
     words: &[u32; 8192],
     scratch: &mut [u32; 32768],
+    sorts: &mut [bool; 32768],
 ) -> Nodes
     ensures { λ r. ⌜ PredicateRead (now (part .entry)) (predicateFault (now (part .entry)) old counts (now (words .entry))) (now (scratch .exit)) r ⌝ }
 {
@@ -82,7 +89,7 @@ pub fn predicate(
     }
     let read = words::read(part, scratch);
     match read {
-        Words::Read(n) => judged(first(scratch, n), old, counts, words),
+        Words::Read(n) => judged(first(scratch, n), old, counts, words, sorts),
         Words::Stray => Nodes::Unsound(6),
         Words::Full => Nodes::Unsound(6),
     }
@@ -106,13 +113,14 @@ pub fn location(
     words: &mut [u32; 8192],
     at: usize,
     scratch: &mut [u32; 32768],
+    sorts: &mut [bool; 32768],
 ) -> LineRead
     ensures { λ r. ⌜ (r ≡ locationRead (now (name .entry)) (now (line .entry)) ended counts (now (words .entry)) at) × (now (words .exit) ≡ locationAfter (now (name .entry)) (now (line .entry)) ended counts (now (words .entry)) at) ⌝ }
 {
     if form::misformed(line, ended, name, 1) {
         return LineRead::Fault(2);
     }
-    let nodes = predicate(form::value(line, name), true, counts, words, scratch);
+    let nodes = predicate(form::value(line, name), true, counts, words, scratch, sorts);
     match nodes {
         Nodes::Are(n) => LineRead::Sound(0, n, append_nodes(words, at, scratch, n)),
         Nodes::Unsound(row) => LineRead::Fault(row),

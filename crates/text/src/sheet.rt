@@ -58,6 +58,7 @@ fn line(
     place: Place,
     words: &mut [u32; 8192],
     scratch: &mut [u32; 32768],
+    sorts: &mut [bool; 32768],
 ) -> Round
     requires { ⌜ (place .byte < length (now text)) × (length (now text) ≤ maxBytes) ⌝ }
     ensures { λ r. ⌜ (r ≡ lineRound (now (text .entry)) number place (now (words .entry))) × (now (words .exit) ≡ lineRoundAfter (now (text .entry)) place (now (words .entry))) ⌝ }
@@ -69,7 +70,16 @@ fn line(
     let key = due.key;
     let stop = stop_from(text, byte);
     let ended = stop < text.len();
-    let read = entry::read(&text[byte..stop], ended, key, counts, words, at, scratch);
+    let read = entry::read(
+        &text[byte..stop],
+        ended,
+        key,
+        counts,
+        words,
+        at,
+        scratch,
+        sorts,
+    );
     match read {
         LineRead::Fault(row) => Round::Done(ReadAnswer::Refused(row, number)),
         LineRead::Sound(count, nodes, next) => Round::On(place.after(count, nodes, next, stop)),
@@ -83,6 +93,7 @@ fn round(
     place: Place,
     words: &mut [u32; 8192],
     scratch: &mut [u32; 32768],
+    sorts: &mut [bool; 32768],
 ) -> Round
     requires { ⌜ (length (now text) ≤ maxBytes) ⌝ }
     ensures { λ r. ⌜ (r ≡ roundAt (now (text .entry)) number place (now (words .entry))) × (now (words .exit) ≡ roundAfter (now (text .entry)) place (now (words .entry))) ⌝ }
@@ -100,7 +111,7 @@ fn round(
     if end {
         return Round::Done(ReadAnswer::Refused(2, number));
     }
-    line(text, number, place, words, scratch)
+    line(text, number, place, words, scratch, sorts)
 }
 
 // The text's lines into `words`, one after the other.
@@ -109,12 +120,13 @@ pub(crate) fn sheet(text: &[u8], words: &mut [u32; 8192]) -> ReadAnswer
     ensures { λ r. ⌜ (r ≡ sheetRead (now (text .entry)) (now (words .entry)) .answer) × (now (words .exit) ≡ sheetRead (now (text .entry)) (now (words .entry)) .words) ⌝ }
 {
     let mut scratch = [0u32; 32768];
+    let mut sorts = [false; 32768];
     let mut place = Place::first();
     // Each line takes a byte at least, so the text has been read before the rounds are over; the last finds the end.
     let mut left = Model::BYTES + 1;
     let mut number: usize = 1;
     while left != 0 {
-        let next = round(text, number, place, words, &mut scratch);
+        let next = round(text, number, place, words, &mut scratch, &mut sorts);
         match next {
             Round::Done(answer) => {
                 return answer;

@@ -7,7 +7,7 @@ use mathlib.Core.Option.{Option, none, some}
 use native.Mathlib.Omega.{arith}
 use native.Mathlib.Numerals.{add-one}
 use borrow.Author.Tests.{not-true, not-false, le-leb, lt-leb, ne-eqb}
-use lib.ListN.{length, getD, take, drop, set, length-set, drop-of-length-le}
+use lib.ListN.{length, getD, take, drop, set, drop-of-length-le}
 use lib.Seq.{getD-set-same, getD-set-other, drop-cons, length-take-le, getD-take}
 use lib.Dec.{leb, eqb}
 use mir.Syntax.{w64}
@@ -167,18 +167,18 @@ taken-low sorts sort k h r x e f = subst (Below h) (sym e ∙ f) (taken-below so
 
 -- so there is room for one more
 module _ (sorts : List Bool) (sort : Bool) (k h : ℕ) (r : Height) (x : ℕ) (e : r ≡ takenFrom sorts sort k h) (f : r ≡ Of x) (l : h < 32768) where
-  pub room-once : x ≤ 32768
-  room-once = let u : x ≤ h = taken-low sorts sort k h r x e f in omega arith
+  pub room-once : (size : ℕ) → size ≡ 32768 → x ≤ size
+  room-once size z = let u : x ≤ h = taken-low sorts sort k h r x e f in omega arith
 
   module _ (other : Bool) (j : ℕ) (s : Height) (y : ℕ) (g : s ≡ takenFrom sorts other j x) (i : s ≡ Of y) where
-    pub room-twice : y < 32768
-    room-twice =
+    pub room-twice : (size : ℕ) → size ≡ 32768 → y < size
+    room-twice size z =
         let u : x ≤ h = taken-low sorts sort k h r x e f in
         let v : y ≤ x = taken-low sorts other j x s y g i in
         omega arith
 
     pub room-next : Fits w64 (y + 1)
-    room-next = record { fits = omega (arith, room-twice) }
+    room-next = record { fits = omega (arith, room-twice 32768 refl) }
 
 taken-stack : (sorts : List Bool) (sort : Bool) (k h : ℕ) → stackAt sorts (takenFrom sorts sort k h) ≡ takeOff k sort (stacked sorts h)
 unfolding takenFrom stackAt takeOff stacked
@@ -206,7 +206,7 @@ stacked-put sorts h v l = rw (add-one h, getD-set-same sorts h v false l, stacke
 module _ (a x : Arity) (e : x ≡ a) (old : List Bool) (h : ℕ) where
   off : pushSort a (stacked old h) ≡ none → Pushed a old old h Off
   unfolding stackAt Below
-  off z = record { stack = sym z; low = tt; long = refl }
+  off z = record { stack = sym z; low = tt }
 
   pub step-stray : x ≡ Stray → Pushed a old old h Off
   unfolding pushSort
@@ -243,7 +243,6 @@ module _ (a x : Arity) (e : x ≡ a) (old : List Bool) (h : ℕ) where
             record {
               stack = ap some (stacked-put old top sort (omega (arith, step-top))) ∙ sym (pushed-on (Of top) z);
               low = omega (arith, step-top);
-              long = length-set old top sort;
             }
 
 pub ruleset step-laws = (step-stray, step-preds, step-exprs, step-on)
@@ -261,7 +260,6 @@ sole-is sorts (suc (suc h)) = rw (ne-eqb (suc (suc h)) 1 (λ e. omega arith))
 pub record Sorted (words : List ℕ) (n : ℕ) (sorts : List Bool) (height i : ℕ) : Type 0 where
   pub stack : sortStack (map wordOf (drop i (take n words))) ≡ some (stacked sorts height)
   pub few : height + i ≤ n
-  pub long : length sorts ≡ 32768
 
 -- what it answers
 abbrev formed : List ℕ → ℕ → Bool
@@ -279,11 +277,11 @@ module _ (words : List ℕ) (n : ℕ) where
       by-sorts : (o : Option (List Bool)) → sortStack (map wordOf (take n words)) ≡ o → formed words n ≡ sole o
       by-sorts o e = rw (le-leb n 32768 a, le-leb n (length words) b, formed-by-sorts (map wordOf (take n words)), e)
 
-      pub formed-start : (sorts : List Bool) → length sorts ≡ 32768 → Sorted words n sorts 0 n
+      pub formed-start : (sorts : List Bool) → Sorted words n sorts 0 n
       unfolding sortStack stacked
-      formed-start sorts l =
+      formed-start sorts =
           let z : length (take n words) ≤ n = omega (arith, length-take-le n words b) in
-          record { stack = rw (drop-of-length-le (take n words) z); few = omega arith; long = l }
+          record { stack = rw (drop-of-length-le (take n words) z); few = omega arith }
 
       module _ (sorts : List Bool) (height i : ℕ) (inv : Sorted words n sorts height i) where
         pub formed-room : (i ≡ 0 → ⊥) → height < 32768
@@ -308,7 +306,7 @@ module _ (words : List ℕ) (n : ℕ) where
           unfolding stackAt Below
           formed-on h e =
               let l : h ≤ height + 1 = subst (Below (height + 1)) e (p .low) in
-              record { stack = onward ∙ rw e; few = omega (arith, inv .few); long = p .long ∙ inv .long }
+              record { stack = onward ∙ rw e; few = omega (arith, inv .few) }
 
         pub formed-end : i ≡ 0 → (eqb height 1 && getD sorts 0 false) ≡ formed words n
         formed-end z = sole-is sorts height ∙ sym (by-sorts _ (rw z at (inv .stack)))

@@ -4,7 +4,7 @@ use mathlib.Core.Path.{_≡_}
 use mathlib.Core.Bool.{Bool, true, false, Bool·beq}
 use mathlib.Core.List.{List, [], _∷_}
 use mathlib.Core.Option.{Option, none, some}
-use lib.ListN.{length, getD}
+use lib.ListN.{getD}
 use Rattle.model.specs.Basic.{onSome}
 use Rattle.model.specs.Predicate.{Word, allOf, anyOf, notWord, impWord, eqWord, leWord, numWord, oldWord, newWord, addWord, subWord, mulWord, ifWord, stray}
 use Rattle.words.specs.declared.formed.Arity.{Arity}
@@ -73,4 +73,3 @@ Below n Off = Unit
 pub record Pushed (a : Arity) (old new : List Bool) (height : ℕ) (r : Height) : Type 0 where
   pub stack : stackAt new r ≡ pushSort a (stacked old height)
   pub low : Below (height + 1) r
-  pub long : length new ≡ length old

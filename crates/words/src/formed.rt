@@ -52,8 +52,8 @@ fn arity_of(word: u32) -> Arity
 }
 
 // The height after `count` operands of a sort are taken off.
-fn taken(sorts: &[bool; 32768], height: usize, count: usize, sort: bool) -> Height
-    requires { ⌜ height ≤ 32768 ⌝ }
+fn taken(sorts: &[bool], height: usize, count: usize, sort: bool) -> Height
+    requires { ⌜ height ≤ length (now sorts) ⌝ }
     ensures { λ r. ⌜ r ≡ takenFrom (now (sorts .entry)) sort count height ⌝ }
 {
     let mut left = count;
@@ -71,8 +71,8 @@ fn taken(sorts: &[bool; 32768], height: usize, count: usize, sort: bool) -> Heig
     Height::Of(h)
 }
 
-// One word more: its operands off, itself on.
-fn step(word: u32, sorts: &mut [bool; 32768], height: usize) -> Height
+// One word more: its operands off, itself on. The sorts are a slice: an array that is lent as one has a known length.
+fn step(word: u32, sorts: &mut [bool], height: usize) -> Height
     requires { ⌜ (height < 32768) × (length (now sorts) ≡ 32768) ⌝ }
     ensures { λ r. ⌜ Pushed (arityOf (wordOf word)) (now (sorts .entry)) (now (sorts .exit)) height r ⌝ }
 {
@@ -89,8 +89,9 @@ fn step(word: u32, sorts: &mut [bool; 32768], height: usize) -> Height
     Height::Of(top + 1)
 }
 
-// Do the first n words make one predicate? More than 32,768 make none that a text has room for.
-pub fn well_formed(words: &[u32], n: usize) -> bool
+// Do the first n words make one predicate? More than 32,768 make none that a text has room for. The sorts are lent, whatever stands in
+// them: to clear as many would cost more than most predicates.
+pub fn well_formed(words: &[u32], n: usize, sorts: &mut [bool; 32768]) -> bool
     ensures { λ r. ⌜ r ≡ (leb n 32768 && (leb n (length (now (words .entry))) && not (lacks (readPred (map wordOf (take n (now (words .entry)))))))) ⌝ }
 {
     if 32768 < n {
@@ -99,12 +100,11 @@ pub fn well_formed(words: &[u32], n: usize) -> bool
     if words.len() < n {
         return false;
     }
-    let mut sorts = [false; 32768];
     let mut height = 0;
     let mut i = n;
     while i != 0 {
         i -= 1;
-        let Height::Of(h) = step(words[i], &mut sorts, height) else {
+        let Height::Of(h) = step(words[i], sorts, height) else {
             return false;
         };
         height = h;

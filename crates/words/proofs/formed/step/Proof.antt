@@ -24,6 +24,9 @@ enum-known-below c = search needs
 enum-told-2 : tie.Need-enum-told-2
 enum-told-2 c = search needs
 
+same-length : tie.Need-same-length
+same-length c = search needs
+
 returns-2 : tie.Need-returns-2
 returns-2 c = search (needs, step-laws)
 
@@ -36,14 +39,20 @@ enum-known-top c = search needs
 enum-told-3 : tie.Need-enum-told-3
 enum-told-3 c = search needs
 
+same-length-2 : tie.Need-same-length-2
+same-length-2 c = search needs
+
 returns-3 : tie.Need-returns-3
 returns-3 c = search (needs, step-laws)
 
-element-write-sorts : tie.Need-element-write-sorts
-element-write-sorts c = search (needs, room-laws)
+slice-write-sorts : tie.Need-slice-write-sorts
+slice-write-sorts c = search (needs, room-laws)
 
-add-t16 : tie.Need-add-t16
-add-t16 c = search (needs, room-laws)
+add-t17 : tie.Need-add-t17
+add-t17 c = search (needs, room-laws)
+
+same-length-3 : tie.Need-same-length-3
+same-length-3 c = search needs
 
 returns-4 : tie.Need-returns-4
 returns-4 c = search (needs, step-laws)
@@ -59,11 +68,14 @@ step-spec =
     taken-requires
     enum-known-below
     enum-told-2
+    same-length
     returns-2
     taken-requires-2
     enum-known-top
     enum-told-3
+    same-length-2
     returns-3
-    element-write-sorts
-    add-t16
+    slice-write-sorts
+    add-t17
+    same-length-3
     returns-4)

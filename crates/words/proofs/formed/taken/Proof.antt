@@ -1,6 +1,7 @@
 -- From each turn on, the definition goes on to the same answer.
 use Prim.Native.Nat.{_≤_}
 use mathlib.Core.Path.{_≡_}
+use lib.ListN.{length}
 use Rattle.words.specs.Formed.{takenFrom}
 use Rattle.words.proofs.FormedLaws.{taken-laws}
 use borrow.Author.Needs.{needs}
@@ -8,7 +9,7 @@ use Rattle.words.proofs.formed.taken.Statement.{statement}
 use Rattle.words.proofs.formed.taken.Tie as tie
 
 abbrev Inv-loop : tie.InvT-loop
-Inv-loop sorts height count sort left₀ h₀ left h = (h ≤ 32768) × (takenFrom sorts sort left h ≡ takenFrom sorts sort count height)
+Inv-loop sorts height count sort left₀ h₀ left h = (h ≤ length sorts) × (takenFrom sorts sort left h ≡ takenFrom sorts sort count height)
 
 abbrev μ-loop : tie.MeasureT-loop
 μ-loop sorts height count sort left₀ h₀ left h = left
@@ -22,8 +23,8 @@ returns c = search (needs, taken-laws)
 sub-if2 : tie.Need-sub-if2 Inv-loop μ-loop
 sub-if2 c = search needs
 
-element-copy-out-if2 : tie.Need-element-copy-out-if2 Inv-loop μ-loop
-element-copy-out-if2 c = search needs
+shared-slice-read-if2 : tie.Need-shared-slice-read-if2 Inv-loop μ-loop
+shared-slice-read-if2 c = search needs
 
 returns-2 : tie.Need-returns-2 Inv-loop μ-loop
 returns-2 c = search (needs, taken-laws)
@@ -52,7 +53,7 @@ taken-spec =
     loop-holds
     returns
     sub-if2
-    element-copy-out-if2
+    shared-slice-read-if2
     returns-2
     sub-h
     sub-left

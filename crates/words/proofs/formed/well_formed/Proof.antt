@@ -48,8 +48,8 @@ loop-less c = search (needs, formed-laws)
 loop-again : tie.Need-loop-again Inv-loop μ-loop
 loop-again c = search (needs, formed-laws)
 
-array-read-result : tie.Need-array-read-result Inv-loop μ-loop
-array-read-result c = search needs
+element-copy-out-result : tie.Need-element-copy-out-result Inv-loop μ-loop
+element-copy-out-result c = search needs
 
 returns-4 : tie.Need-returns-4 Inv-loop μ-loop
 returns-4 c = search (needs, formed-laws)
@@ -72,5 +72,5 @@ well-formed-spec =
     returns-3
     loop-less
     loop-again
-    array-read-result
+    element-copy-out-result
     returns-4)
