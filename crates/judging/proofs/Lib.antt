@@ -1,5 +1,6 @@
 pub mod Filled
 pub mod WalkLaws
+pub mod PlacesLaws
 pub mod CodeLaws
 pub mod Items
 pub mod RowLaws

@@ -70,11 +70,6 @@ automata-fit w l n size e = rw (e, size) (go (leb (getD w (countAt w) 0) 16) ref
 pub automata-whole : (w l : List ℕ) (n : ℕ) → length l ≡ 16 → n ≡ automataShown w → n ≡ length (take n l)
 automata-whole w l n size e = sym (length-take-le n l (automata-fit w l n size e))
 
--- `tree_place`
-pub tree-place-is : (w : List ℕ) (a r : ℕ) → a ≡ treeAt w → r ≡ reach w a 1 → r ≡ treePlace w
-unfolding treePlace
-tree-place-is w a r e f = rw (f, e)
-
 -- `found`: the two lists keep their lengths
 module _ (w old new : List ℕ) (before after : List ℤ) (a : ℕ) where
   pub masks-size : (masks : List ℕ) → masks ≡ masksAfter w before after old new a (replicate 512 0) (replicate 17 0) → 512 ≡ length masks

@@ -5,3 +5,4 @@ pub mod RowTests
 pub mod Settled
 pub mod Taken
 pub mod Calls
+pub mod AutomataPlaces

@@ -1,6 +1,7 @@
 // One call of a judge: is a proposed step of the composition allowed? The judges know a checked table, and nothing of how a text spells it.
 mod call;
 mod fill;
+mod places;
 mod rows;
 mod settled;
 mod taken;
@@ -71,14 +72,23 @@ pub fn environment_on(
 ) -> Answer
     ensures { λ r. ⌜ r ≡ environmentOn (now (table .entry)) phase (now (locations .entry)) (now (values .entry)) (now («new_values» .entry)) ⌝ }
 {
+    let places = places::find(table);
     // The automata keep their locations.
-    let admitted = call::admitted(table, phase, locations, values, locations, new_values);
+    let admitted = call::admitted(
+        table,
+        &places,
+        phase,
+        locations,
+        values,
+        locations,
+        new_values,
+    );
     match admitted {
         Admitted::Out(row) => Answer::Refused(row),
         Admitted::In(p) => {
             let s = State::of(p, locations, values);
             let t = State::of(Phase::Running, locations, new_values);
-            if settled::settled(table, s, t) {
+            if settled::settled(table, &places, s, t) {
                 Answer::Yes
             } else {
                 Answer::No
@@ -125,7 +135,16 @@ pub fn step_on(
 ) -> Answer
     ensures { λ r. ⌜ r ≡ stepOn (now (table .entry)) phase (now (locations .entry)) (now (values .entry)) action (now («new_locations» .entry)) (now («new_values» .entry)) ⌝ }
 {
-    let admitted = call::admitted(table, phase, locations, values, new_locations, new_values);
+    let places = places::find(table);
+    let admitted = call::admitted(
+        table,
+        &places,
+        phase,
+        locations,
+        values,
+        new_locations,
+        new_values,
+    );
     match admitted {
         Admitted::Out(row) => Answer::Refused(row),
         Admitted::In(p) => {
@@ -134,13 +153,13 @@ pub fn step_on(
             }
             let s = State::of(p, locations, values);
             let t = State::of(Phase::Running, new_locations, new_values);
-            if !settled::settled(table, s, t) {
+            if !settled::settled(table, &places, s, t) {
                 return Answer::No;
             }
-            if !taken::taken(table, s, action, t) {
+            if !taken::taken(table, &places, s, action, t) {
                 return Answer::No;
             }
-            Answer::Marked(taken::mark(table, action))
+            Answer::Marked(taken::mark(table, &places, action))
         }
     }
 }

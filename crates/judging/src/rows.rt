@@ -1,9 +1,11 @@
 // Rows 20 to 24, over the words of a table. Each test is true where its row lets a call pass.
 use crate::Admitted;
 use crate::Phase;
+use crate::places::{self};
 ghost use mathlib.Core.Path.{_≡_};
 ghost use lib.ListN.{getD};
 ghost use Rattle.model.specs.Basic.{between};
+ghost use Rattle.judging.specs.AutomataPlaces.{placesOf};
 ghost use Rattle.judging.specs.RowTests.{phaseRead, lengthsFit, locationKnown, locationsKnown, rangeHas, valuesKnown, actionKnown};
 
 // Row 20: which phase has this number?
@@ -34,7 +36,8 @@ fn location_known(words: &[u32], at: usize, locations: &[u32], k: usize) -> bool
 }
 
 // Row 22: each automaton has its location.
-pub fn locations_known(words: &[u32], locations: &[u32]) -> bool
+pub(crate) fn known_at(words: &[u32], places: &[usize; 17], locations: &[u32]) -> bool
+    requires { ⌜ now places ≡ placesOf (now words) ⌝ }
     ensures { λ r. ⌜ r ≡ locationsKnown (now (words .entry)) (now (locations .entry)) ⌝ }
 {
     let count = outline::count_at(words);
@@ -45,10 +48,18 @@ pub fn locations_known(words: &[u32], locations: &[u32]) -> bool
         if !location_known(words, at, locations, k) {
             return false;
         }
-        at = outline::after_automaton(words, at);
+        at = places::next(words, places, n, at, k);
         k += 1;
     }
     true
+}
+
+// The same where the automata's places are not known yet.
+pub fn locations_known(words: &[u32], locations: &[u32]) -> bool
+    ensures { λ r. ⌜ r ≡ locationsKnown (now (words .entry)) (now (locations .entry)) ⌝ }
+{
+    let places = places::find(words);
+    known_at(words, &places, locations)
 }
 
 // The word at a place, 0 past the end.

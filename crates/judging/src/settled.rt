@@ -1,8 +1,10 @@
 // What holds of every automaton, whether it takes an edge or is still: its location's init (in phase Start) and inv.
 use crate::Phase;
 use crate::State;
+use crate::places::{self};
 ghost use mathlib.Core.Path.{_≡_};
 ghost use lib.ListN.{getD};
+ghost use Rattle.judging.specs.AutomataPlaces.{placesOf};
 ghost use Rattle.judging.specs.Settled.{variablesShown, partAt, partHolds, locationHolds, allHold, started, settledAt};
 
 // Which of a location's two predicates.
@@ -65,7 +67,8 @@ fn location_holds(words: &[u32], part: Part, s: State, at: usize, k: usize) -> b
 }
 
 // The predicate of each automaton's location holds.
-fn all_hold(words: &[u32], part: Part, s: State) -> bool
+fn all_hold(words: &[u32], places: &[usize; 17], part: Part, s: State) -> bool
+    requires { ⌜ now places ≡ placesOf (now words) ⌝ }
     ensures { λ r. ⌜ r ≡ allHold (now (words .entry)) part s ⌝ }
 {
     let count = outline::count_at(words);
@@ -76,32 +79,34 @@ fn all_hold(words: &[u32], part: Part, s: State) -> bool
         if !location_holds(words, part, s, at, k) {
             return false;
         }
-        at = outline::after_automaton(words, at);
+        at = places::next(words, places, n, at, k);
         k += 1;
     }
     true
 }
 
 // In phase Start every init holds; in phase Running they play no part.
-fn started(words: &[u32], s: State) -> bool
+fn started(words: &[u32], places: &[usize; 17], s: State) -> bool
+    requires { ⌜ now places ≡ placesOf (now words) ⌝ }
     ensures { λ r. ⌜ r ≡ started (now (words .entry)) s ⌝ }
 {
     let phase = s.phase;
     match phase {
-        Phase::Start => all_hold(words, Part::Init, s),
+        Phase::Start => all_hold(words, places, Part::Init, s),
         Phase::Running => true,
     }
 }
 
 // For a step or a change from s to t: the inits and invs that s needs, and the invs of t.
-pub(crate) fn settled(words: &[u32], s: State, t: State) -> bool
+pub(crate) fn settled(words: &[u32], places: &[usize; 17], s: State, t: State) -> bool
+    requires { ⌜ now places ≡ placesOf (now words) ⌝ }
     ensures { λ r. ⌜ r ≡ settledAt (now (words .entry)) s t ⌝ }
 {
-    if !started(words, s) {
+    if !started(words, places, s) {
         return false;
     }
-    if !all_hold(words, Part::Inv, s) {
+    if !all_hold(words, places, Part::Inv, s) {
         return false;
     }
-    all_hold(words, Part::Inv, t)
+    all_hold(words, places, Part::Inv, t)
 }

@@ -1,8 +1,10 @@
 // Can some automata take the action so that the step is theirs? And is the action marked?
 use crate::State;
+use crate::places::{self};
 use crate::settled::{self};
 ghost use mathlib.Core.Path.{_≡_};
-ghost use Rattle.judging.specs.Taken.{automataShown, treePlace, takenIn, takenAt, markAt};
+ghost use Rattle.judging.specs.AutomataPlaces.{placesOf};
+ghost use Rattle.judging.specs.Taken.{automataShown, takenIn, takenAt, markAt};
 
 // N, as far as a state has locations.
 pub fn automata(words: &[u32]) -> usize
@@ -16,22 +18,17 @@ pub fn automata(words: &[u32]) -> usize
     }
 }
 
-// Where the tree's nodes stand: after their count.
-fn tree_place(words: &[u32]) -> usize
-    ensures { λ r. ⌜ r ≡ treePlace (now (words .entry)) ⌝ }
-{
-    outline::step(words, outline::tree_at(words), 1)
-}
-
 // From the locations `old` and the values `before` to `new` and `after`.
 fn found(
     words: &[u32],
+    places: &[usize; 17],
     old: &[u32],
     new: &[u32],
     before: &[i32],
     after: &[i32],
     action: u32,
 ) -> bool
+    requires { ⌜ now places ≡ placesOf (now words) ⌝ }
     ensures { λ r. ⌜ r ≡ takenIn (now (words .entry)) (now (old .entry)) (now (new .entry)) (now (before .entry)) (now (after .entry)) action ⌝ }
 {
     let mut masks = [0u64; 512];
@@ -51,7 +48,7 @@ fn found(
     let changed = candidates::changed(before, after);
     search::found(
         words,
-        tree_place(words),
+        places::tree(words, places),
         &sets,
         action,
         &masks,
@@ -61,7 +58,8 @@ fn found(
     )
 }
 
-pub(crate) fn taken(words: &[u32], s: State, action: u32, t: State) -> bool
+pub(crate) fn taken(words: &[u32], places: &[usize; 17], s: State, action: u32, t: State) -> bool
+    requires { ⌜ now places ≡ placesOf (now words) ⌝ }
     ensures { λ r. ⌜ r ≡ takenAt (now (words .entry)) action s t ⌝ }
 {
     let n = automata(words);
@@ -72,6 +70,7 @@ pub(crate) fn taken(words: &[u32], s: State, action: u32, t: State) -> bool
     let after = t.values;
     found(
         words,
+        places,
         &old[..n],
         &new[..n],
         &before[..v],
@@ -81,9 +80,10 @@ pub(crate) fn taken(words: &[u32], s: State, action: u32, t: State) -> bool
 }
 
 // The mark: is the action in the whole's set?
-pub(crate) fn mark(words: &[u32], action: u32) -> bool
+pub(crate) fn mark(words: &[u32], places: &[usize; 17], action: u32) -> bool
+    requires { ⌜ now places ≡ placesOf (now words) ⌝ }
     ensures { λ r. ⌜ r ≡ markAt (now (words .entry)) action ⌝ }
 {
     let sets = candidates::own_sets(words);
-    tree::in_set(words, tree_place(words), &sets, action)
+    tree::in_set(words, places::tree(words, places), &sets, action)
 }

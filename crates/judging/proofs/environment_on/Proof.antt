@@ -4,6 +4,9 @@ use borrow.Author.Needs.{needs}
 use Rattle.judging.proofs.environment_on.Statement.{statement}
 use Rattle.judging.proofs.environment_on.Tie as tie
 
+find-requires : tie.Need-find-requires
+find-requires c κs = search needs
+
 admitted-requires : tie.Need-admitted-requires
 admitted-requires c κs = search needs
 
@@ -35,6 +38,7 @@ pub environment-on-spec : {M : Type 1} → statement M
 environment-on-spec =
     tie.close
     (tie.spec
+    find-requires
     admitted-requires
     enum-known-admitted
     enum-known-admitted-2

@@ -4,6 +4,9 @@ use borrow.Author.Needs.{needs}
 use Rattle.judging.proofs.step_on.Statement.{statement}
 use Rattle.judging.proofs.step_on.Tie as tie
 
+find-requires : tie.Need-find-requires
+find-requires c κs = search needs
+
 admitted-requires : tie.Need-admitted-requires
 admitted-requires c κs = search needs
 
@@ -50,6 +53,7 @@ pub step-on-spec : {M : Type 1} → statement M
 step-on-spec =
     tie.close
     (tie.spec
+    find-requires
     admitted-requires
     enum-known-admitted
     enum-known-admitted-2

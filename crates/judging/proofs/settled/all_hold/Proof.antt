@@ -1,20 +1,22 @@
 -- `judging::settled::all_hold` meets its contract: from each turn on, the walk goes on to the same end. The measure is the automata left.
 use mathlib.Core.Path.{_≡_}
 use Prim.Native.Nat.{_-_}
-use Rattle.outline.specs.Outline.{afterAutomaton}
+use Rattle.outline.specs.Outline.{afterAutomaton, automatonAt}
 use Rattle.judging.specs.Places.{eachFrom}
 use Rattle.judging.specs.Settled.{locationHolds, allHold}
 use Rattle.judging.proofs.WalkLaws.{walk-laws}
 use Rattle.judging.proofs.CodeLaws.{all-first}
+use Rattle.judging.proofs.PlacesLaws.{place-laws, counted}
+use Rattle.judging.specs.Places.{automataIn}
 use borrow.Author.Needs.{needs}
 use Rattle.judging.proofs.settled.all_hold.Statement.{statement}
 use Rattle.judging.proofs.settled.all_hold.Tie as tie
 
 abbrev Inv-loop : tie.InvT-loop
-Inv-loop words part s count n at₀ k₀ at k = eachFrom (afterAutomaton words) (locationHolds words part s) at k (n - k) ≡ allHold words part s
+Inv-loop words places part s count n at₀ k₀ at k = (at ≡ automatonAt words k) × (n ≡ automataIn words) × (eachFrom (afterAutomaton words) (locationHolds words part s) at k (n - k) ≡ allHold words part s)
 
 abbrev μ-loop : tie.MeasureT-loop
-μ-loop words part s count n at₀ k₀ at k = n - k
+μ-loop words places part s count n at₀ k₀ at k = n - k
 
 count-at-requires : tie.Need-count-at-requires Inv-loop μ-loop
 count-at-requires c κs = search needs
@@ -26,16 +28,16 @@ step-requires : tie.Need-step-requires Inv-loop μ-loop
 step-requires c κs = search needs
 
 loop-holds : tie.Need-loop-holds Inv-loop μ-loop
-loop-holds c = search (needs, all-first, walk-laws)
+loop-holds c = search (needs, all-first, place-laws, counted, walk-laws)
 
 location-holds-requires : tie.Need-location-holds-requires Inv-loop μ-loop
 location-holds-requires c κs = search needs
 
 returns : tie.Need-returns Inv-loop μ-loop
-returns c = search (needs, all-first, walk-laws)
+returns c = search (needs, all-first, place-laws, counted, walk-laws)
 
-after-automaton-requires : tie.Need-after-automaton-requires Inv-loop μ-loop
-after-automaton-requires c κs = search needs
+next-requires : tie.Need-next-requires Inv-loop μ-loop
+next-requires c κs = search needs
 
 add-k : tie.Need-add-k Inv-loop μ-loop
 add-k c = search needs
@@ -44,10 +46,10 @@ loop-less : tie.Need-loop-less Inv-loop μ-loop
 loop-less c = search needs
 
 loop-again : tie.Need-loop-again Inv-loop μ-loop
-loop-again c = search (needs, all-first, walk-laws)
+loop-again c = search (needs, all-first, place-laws, counted, walk-laws)
 
 returns-2 : tie.Need-returns-2 Inv-loop μ-loop
-returns-2 c = search (needs, all-first, walk-laws)
+returns-2 c = search (needs, all-first, place-laws, counted, walk-laws)
 
 pub all-hold-spec : {M : Type 1} → statement M
 all-hold-spec =
@@ -61,7 +63,7 @@ all-hold-spec =
     loop-holds
     location-holds-requires
     returns
-    after-automaton-requires
+    next-requires
     add-k
     loop-less
     loop-again

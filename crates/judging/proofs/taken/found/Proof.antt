@@ -16,8 +16,8 @@ still-requires c κs = search needs
 changed-requires : tie.Need-changed-requires
 changed-requires c κs = search needs
 
-tree-place-requires : tie.Need-tree-place-requires
-tree-place-requires c κs = search needs
+tree-requires : tie.Need-tree-requires
+tree-requires c κs = search needs
 
 slice-aggregate-found : tie.Need-slice-aggregate-found
 slice-aggregate-found c = search needs
@@ -42,7 +42,7 @@ found-spec =
     own-sets-requires
     still-requires
     changed-requires
-    tree-place-requires
+    tree-requires
     slice-aggregate-found
     slice-aggregate-found-2
     slice-aggregate-found-3

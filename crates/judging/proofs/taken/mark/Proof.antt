@@ -7,8 +7,8 @@ use Rattle.judging.proofs.taken.mark.Tie as tie
 own-sets-requires : tie.Need-own-sets-requires
 own-sets-requires c κs = search needs
 
-tree-place-requires : tie.Need-tree-place-requires
-tree-place-requires c κs = search needs
+tree-requires : tie.Need-tree-requires
+tree-requires c κs = search needs
 
 slice-aggregate-in-set : tie.Need-slice-aggregate-in-set
 slice-aggregate-in-set c = search needs
@@ -22,4 +22,4 @@ returns c = search (needs, mark-at)
 pub mark-spec : {M : Type 1} → statement M
 mark-spec =
     tie.close
-    (tie.spec own-sets-requires tree-place-requires slice-aggregate-in-set in-set-requires returns)
+    (tie.spec own-sets-requires tree-requires slice-aggregate-in-set in-set-requires returns)
