@@ -158,16 +158,7 @@ module _ (w rest : List ℕ) (m : Model) (ok : Lawful m) (sheet : w ≡ sheetWor
   founds-begin j (suc d) =
       rw (add-suc j d) (take-append-le (length (founds j)) (founds (j + d)) (found (j + d)) (founds-rise j d) ∙ founds-begin j d)
 
-  -- the places after those of the automata are left alone
-  first-kept : (left k : ℕ) (g : Gathering) (j : ℕ) → k + left < j
-      → getD (automataFrom w (s .values) (t .values) (s .locations) (t .locations) a left k g .first) j 0 ≡ getD (g .first) j 0
-  unfolding automataFrom automatonNext
-  first-kept zero k g j h = refl
-  first-kept (suc n) k g j h =
-      let v = automatonOn w (s .values) (t .values) (legOf (s .locations) (t .locations) a k) (g .on) in
-      first-kept n (k + 1) (next k g) j (omega arith) ∙ getD-set-other (g .first) (k + 1) j (v .count) 0 (λ z. absurd (omega arith))
-
-  module _ (g : Gathering) (all : Gathered (length (m .automata)) g) (none : (k : ℕ) → length (m .automata) ≤ k → getD (g .first) (suc k) 0 ≡ 0) where
+  module _ (g : Gathering) (all : Gathered (length (m .automata)) g) where
     begins : (j : ℕ) → j ≤ length (m .automata) → take (length (founds j)) (g .on .masks) ≡ founds j
     begins j h =
         let d = length (m .automata) - j in
@@ -185,10 +176,9 @@ module _ (w rest : List ℕ) (m : Model) (ok : Lawful m) (sheet : w ≡ sheetWor
           offered = λ k h.
               rw (all .first k (omega arith), all .first (suc k) h)
               (between (g .on .masks) (founds k) (found k) (begins k (omega arith)) (begins (suc k) h));
-          none-after = λ k h. rw (none k h) (omega arith);
         }
 
-  module _ (masks first : List ℕ) (long : maxEdges ≤ length masks) (first-long : maxAutomata < length first) (zeros : (j : ℕ) → getD first j 0 ≡ 0) where
+  module _ (masks first : List ℕ) (long : maxEdges ≤ length masks) (first-long : maxAutomata < length first) where
     abbrev start : Gathering
     start = gathering (walk masks (reach w (countAt w) 1) 0) (set first 0 0)
 
@@ -210,15 +200,8 @@ module _ (w rest : List ℕ) (m : Model) (ok : Lawful m) (sheet : w ≡ sheetWor
     all-of =
         rw (all-counted w rest m sheet ok) (all-gathered (length (m .automata)) 0 start (omega arith) gathered-start)
 
-    none-left : (k : ℕ) → length (m .automata) ≤ k
-        → getD (gatherFrom w (s .values) (t .values) (s .locations) (t .locations) a masks (set first 0 0) .first) (suc k) 0 ≡ 0
-    unfolding gatherFrom
-    none-left k h =
-        rw (all-counted w rest m sheet ok)
-        (first-kept (length (m .automata)) 0 start (suc k) (omega arith) ∙ getD-set-other first 0 (suc k) 0 0 (λ z. absurd (omega arith)) ∙ zeros (suc k))
-
     pub gather-offers : Offers m s a t
         (masksAfter w (s .values) (t .values) (s .locations) (t .locations) a masks first)
         (firstAfter w (s .values) (t .values) (s .locations) (t .locations) a masks first)
     unfolding masksAfter firstAfter
-    gather-offers = gathered-offers (gatherFrom w (s .values) (t .values) (s .locations) (t .locations) a masks (set first 0 0)) all-of none-left
+    gather-offers = gathered-offers (gatherFrom w (s .values) (t .values) (s .locations) (t .locations) a masks (set first 0 0)) all-of

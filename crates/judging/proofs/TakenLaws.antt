@@ -135,13 +135,8 @@ module _ (t : List ℕ) (m : Model) (sheet : Sheet t m) where
       rw (in-front l n, in-front l' n', shown-is m ok t (sheet .rest) (sheet .stands), old .values, new .values, changed-mask m u u' vn (ok .few-variables))
       (found-is m ok u a u' t (treePlace t) (ownSets t) masks first (stillBits l l') tree-stands
       (λ k h. own-agrees t (sheet .rest) m ok (sheet .stands) a k)
-      (gather-offers t (sheet .rest) m ok (sheet .stands) u a u' (old .inside) (new .inside) (replicate 512 0) (replicate 17 0) (omega arith) (omega arith) (zeros 17))
+      (gather-offers t (sheet .rest) m ok (sheet .stands) u a u' (old .inside) (new .inside) (replicate 512 0) (replicate 17 0) (omega arith) (omega arith))
       (λ k h. still-bit u u' k (omega arith) (omega arith)))
-    where
-      zeros : (n j : ℕ) → _≡_ {A = ℕ} (getD (replicate n 0) j 0) 0
-      zeros zero j = refl
-      zeros (suc n) zero = refl
-      zeros (suc n) (suc j) = zeros n j
 
   pub mark-is : (a : ℕ) → markAt t a ≡ inSet m a (m .tree)
   unfolding markAt

@@ -1,41 +1,66 @@
 -- The search over plain data says whether some move of the composition fits the step.
-use mathlib.Core.Path.{_≡_, refl, sym, ap, ap₂, _∙_}
-use mathlib.Core.Bool.{Bool, true, false, not, _&&_, and-true, and-assoc}
-use mathlib.Core.List.{List, [], _∷_, _++_, map, append-assoc, append-nil}
+use mathlib.Core.Path.{_≡_, refl, sym, ap, ap₂, _∙_, subst}
+use mathlib.Core.Bool.{Bool, true, false, not, _&&_, _||_, and-true, and-assoc, or-false, true≢false}
+use mathlib.Core.List.{List, [], _∷_, _++_, map, map-map, append-assoc, append-nil, List·Memᴰ}
 use Prim.Native.Nat.{ℕ, zero, suc, _+_, _-_, _*_, _/_, _%_, _^_, _≤_, _<_}
 use native.Mathlib.Omega.{arith}
-use native.Mathlib.Nat.{pow-succ'}
-use native.Mathlib.Numerals.{add-one}
+use native.Mathlib.Nat.{pow-succ', add-assoc, lt-of-le-of-lt}
 use lib.ListN.{length, getD, take, drop}
-use lib.Seq.{take-at}
-use lib.Dec.{eqb}
+use lib.Seq.{take-at, drop-cons}
+use lib.Dec.{eqb, ltb}
+use lib.Bits.{bitAnd, and-le-l}
 use lib.Pow.{pow-mono}
-use borrow.Author.Tests.{lt-leb, lt-ltb, eq-eqb, ne-eqb}
-use Rattle.model.specs.Basic.{eqZ, every, exists, member}
-use Rattle.model.specs.Bounds.{maxAutomata, maxTreeNodes}
-use Rattle.model.specs.Composition.{Tree, par, syn, leaf, leaves, treeSize}
-use Rattle.model.specs.Model.{Model, automaton, inSet}
+use borrow.Author.Tests.{lt-leb, lt-ltb, ltb-true, ltb-false, eq-eqb, ne-eqb}
+use Rattle.model.specs.Basic.{eqZ, every, exists, keep, member, countUp}
+use Rattle.model.specs.Bounds.{maxAutomata, maxTreeNodes, maxVariables}
+use Rattle.model.specs.Predicate.{mentions}
+use Rattle.model.specs.Composition.{Tree, par, syn, leaf, leaves, nodes, treeSize}
+use Rattle.model.specs.Model.{Model, Edge, automaton, inSet}
 use Rattle.model.specs.Limits.{rises, treeRises}
 use Rattle.model.specs.Lawful.{Lawful}
 use Rattle.model.specs.Rules.{State, val}
 use Rattle.model.specs.Moves.{moves}
 use Rattle.model.specs.Judge.{fits}
 use Rattle.model.specs.Table.{bit}
-use Rattle.model.proofs.Tests.{and-left, and-right, every-append}
-use Rattle.model.proofs.Numbered.{Leaves, leaves-in, numbered, size-is}
+use Rattle.model.proofs.Tests.{and-left, and-right, every-append, exists-ext, exists-map, exists-append}
+use Rattle.model.proofs.Lists.{keep-append, keep-first, keep-skip}
+use Rattle.model.proofs.Numbered.{size, Numbered, Leaves, leaves-in, numbered, size-is}
 use Rattle.tree.specs.declared.nodes.Found.{Found}
 use Rattle.tree.specs.declared.nodes.Found.the-variants.{Par, Syn, Leaf}
 use Rattle.tree.specs.Nodes.{treeWords, nodeAt, skipFrom}
 use Rattle.tree.specs.Members.{inSetAt}
+use Rattle.tree.proofs.SetLaws.{keep-alike, bit-above}
 use Rattle.tree.proofs.Standing.{begins, par-stands, syn-stands, leaf-stands, size-par, size-syn, size-leaf, words-leaf, skip-of}
 use Rattle.tree.proofs.NodeLaws.{later}
 use Rattle.tree.proofs.Inside.{Agrees, in-set-of}
-use Rattle.search.specs.Search.{Duty, takes, rests, shared, isCovered, uncovered, leastOf, changedIn, unmoved, allUnmoved, candidates, ahead, search}
-use Rattle.search.specs.Masks.{changedMask, Offers}
-use Rattle.search.specs.Found.{blindFrom, maxDuties, sharedBits, takenBy, partedAt, seekBy, seekAt, foundIn}
-use Rattle.search.proofs.SearchLaws.{treeOf, owed, some-node, search-is}
-use Rattle.search.proofs.MaskLaws.{mask-small, listOf, list-mask, mask-covered}
-use Rattle.search.proofs.Places.{taken-least}
+use Rattle.cover.specs.Cover.{coverable, group, groupsOf}
+use Rattle.cover.proofs.BitLaws.{bit-under, bit-top}
+use Rattle.cover.proofs.Counting.{count-around}
+use Rattle.search.specs.Search.{isCovered, uncovered, changedIn, unmoved, allUnmoved, candidates, together, onlyIf, takerSets, choosing, search}
+use Rattle.search.specs.Masks.{restMask, changedMask, Offers}
+use Rattle.search.specs.Found.{maxDuties, sharedBits, takenBy, partedAt, coveredBy, seekBy, seekAt, foundIn}
+use Rattle.search.proofs.Unpruned.{exists-and, alternatives}
+use Rattle.search.proofs.TakerLaws.{exists-together, exists-only, exists-ways, search-is}
+use Rattle.search.proofs.MaskLaws.{mask-small, bit-mask, listOf, list-mask, list-and, mask-covered}
+
+-- what a subtree must do: take the action, or keep every automaton's location
+data Duty : Type 0 where
+  takes rests : Tree → Duty
+
+unfoldable treeOf : Duty → Tree
+treeOf (takes c) = c
+treeOf (rests c) = c
+
+-- the nodes of all duties' trees
+unfoldable owed : List Duty → ℕ
+owed [] = 0
+owed (duty ∷ duties) = treeSize (treeOf duty) + owed duties
+
+some-node : (c : Tree) → 1 ≤ treeSize c
+unfolding treeSize nodes
+some-node (par c d) = omega arith
+some-node (syn list c) = omega arith
+some-node (leaf k) = omega arith
 
 -- the duties as bits of one number, and their trees' words
 unfoldable stack : List Duty → ℕ
@@ -65,16 +90,159 @@ unfolding owed
 owed-many [] = omega arith
 owed-many (duty ∷ duties) = omega (arith, owed-many duties, some-node (treeOf duty))
 
+-- Takers as bits of one number, all below i, and as a list.
+record Named (takers : ℕ) (ks : List ℕ) (i : ℕ) : Type 0 where
+  small : takers < 2 ^ i
+  listed : keep (bit takers) (countUp 0 maxAutomata) ≡ ks
+
+keep-none : (f : ℕ → Bool) (n c : ℕ) → ((k : ℕ) → n ≤ k → k < n + c → f k ≡ false) → keep f (countUp n c) ≡ []
+unfolding keep countUp
+keep-none f n zero h = refl
+keep-none f n (suc c) h = keep-skip f n (countUp (suc n) c) (h n (omega arith) (omega arith)) ∙ keep-none f (suc n) c (λ k a b. h k (omega arith) (omega arith))
+
+-- the takers below k, and none from k on; with k itself
+below : (takers k : ℕ) → takers < 2 ^ k → k < maxAutomata → keep (bit takers) (countUp 0 maxAutomata) ≡ keep (bit takers) (countUp 0 (k - 0))
+unfolding keep
+below takers k small l =
+    let rest = 0 + maxAutomata - suc k in
+    ap (keep (bit takers)) (count-around 0 maxAutomata k (omega arith) (omega arith))
+    ∙ keep-append (bit takers) (countUp 0 (k - 0)) (k ∷ countUp (suc k) rest)
+    ∙ ap (λ x. keep (bit takers) (countUp 0 (k - 0)) ++ x)
+    (keep-skip (bit takers) k (countUp (suc k) rest) (bit-above takers k k small (omega arith)) ∙ keep-none (bit takers) (suc k) rest (λ j a b. bit-above takers k j small (omega arith)))
+    ∙ append-nil (keep (bit takers) (countUp 0 (k - 0)))
+
+joined : (takers : ℕ) (ks : List ℕ) (k : ℕ) → k < maxAutomata → Named takers ks k → Named (takers + 2 ^ k) (ks ++ k ∷ []) (k + 1)
+unfolding keep
+joined takers ks k l x =
+    let small = x .small in
+    let y = takers + 2 ^ k in
+    let turned : y ≡ 2 ^ k + takers = omega arith in
+    let up : 2 ^ (k + 1) ≡ 2 * 2 ^ k = let e : k + 1 ≡ suc k = omega arith in ap (λ n. 2 ^ n) e ∙ pow-succ' 2 k in
+    let high : y < 2 ^ (k + 1) = omega arith in
+    let rest = 0 + maxAutomata - suc k in
+    let same : keep (bit y) (countUp 0 (k - 0)) ≡ keep (bit takers) (countUp 0 (k - 0)) = keep-alike (bit y) (bit takers) 0 (k - 0)
+    (λ j a b. ap (λ z. bit z j) turned ∙ bit-under takers k j (omega arith)) in
+    let top : bit y k ≡ true = ap (λ z. bit z k) turned ∙ bit-top takers k small in
+    record {
+      small = high;
+      listed =
+          ap (keep (bit y)) (count-around 0 maxAutomata k (omega arith) (omega arith))
+          ∙ keep-append (bit y) (countUp 0 (k - 0)) (k ∷ countUp (suc k) rest)
+          ∙ ap₂ (λ p q. p ++ q) (same ∙ sym (below takers k small l) ∙ x .listed)
+          (keep-first (bit y) k (countUp (suc k) rest) top
+          ∙ ap (λ z. k ∷ z) (keep-none (bit y) (suc k) rest (λ j a b. bit-above y (k + 1) j high (omega arith))));
+    }
+
+-- what is kept is mapped by what holds of it
+map-kept : {A : Type 0} (p : ℕ → Bool) (f g : ℕ → A) (l : List ℕ) → ((k : ℕ) → p k ≡ true → f k ≡ g k) → map f (keep p l) ≡ map g (keep p l)
+unfolding keep
+map-kept p f g [] h = refl
+map-kept {A} p f g (x ∷ l) h = go (p x) refl (map-kept p f g l h)
+  where
+    go : (b : Bool) → p x ≡ b → map f (keep p l) ≡ map g (keep p l)
+        → map f (elim b as (λ c. List ℕ) [ true ↦ x ∷ keep p l | false ↦ keep p l ]) ≡ map g (elim b as (λ c. List ℕ) [ true ↦ x ∷ keep p l | false ↦ keep p l ])
+    go true e ih = ap₂ (λ y z. y ∷ z) (h x e) ih
+    go false e ih = ih
+
+-- what stands from a place on
+places : (l : List ℕ) (c i : ℕ) → i + c ≤ length l → take c (drop i l) ≡ map (λ j. getD l j 0) (countUp i c)
+unfolding countUp
+places l zero i h = refl
+places l (suc c) i h = rw (drop-cons l i 0 (omega arith)) (ap (λ r. getD l i 0 ∷ r) (places l c (suc i) (omega arith)))
+
 module _ (m : Model) (lawful : Lawful m) (s : State) (a : ℕ) (t : State) (w sets masks first : List ℕ) (still : ℕ) (offers : Offers m s a t masks first)
     (stays : (k : ℕ) → k < length (m .automata) → bit still k ≡ unmoved s t k) where
   abbrev vars : ℕ
   vars = length (m .variables)
 
-  abbrev S : (left at duties u : ℕ) → Bool
-  S = seekAt w sets a masks first still (blindFrom masks first maxAutomata 0)
+  abbrev from : ℕ → ℕ
+  from k = getD first k 0
 
-  abbrev by : ((at duties u : ℕ) → Bool) → (duties u : ℕ) → Found → Bool
-  by = seekBy w sets a masks first still (blindFrom masks first maxAutomata 0)
+  -- The masks from an automaton's first place on are its candidates'.
+  rising-to : (d k : ℕ) → k + d ≡ length (m .automata) → from k ≤ from (length (m .automata))
+  rising-to zero k e =
+      let z : k ≡ length (m .automata) = omega arith in
+      rw z (omega arith)
+  rising-to (suc d) k e = omega (arith, offers .rising k (omega arith), rising-to d (suc k) (omega arith))
+
+  group-is : (k : ℕ) → k < length (m .automata) → group masks (from k) (from (suc k)) ≡ map restMask (candidates m s a t k)
+  unfolding group
+  group-is k l =
+      let up = offers .rising k l in
+      let last = rising-to (length (m .automata) - suc k) (suc k) (omega arith) in
+      let end = offers .inside in
+      sym (places masks (from (suc k) - from k) (from k) (omega arith)) ∙ offers .offered k l
+
+  groups-are : (takers : ℕ) (ks : List ℕ) (i : ℕ) → i ≤ length (m .automata) → Named takers ks i
+      → groupsOf masks first takers ≡ map (λ k. map restMask (candidates m s a t k)) ks
+  unfolding groupsOf
+  groups-are takers ks i l x =
+      map-kept (bit takers) (λ k. group masks (from k) (from (suc k))) (λ k. map restMask (candidates m s a t k)) (countUp 0 maxAutomata)
+      (λ k e. group-is k (in-range k e))
+      ∙ ap (map (λ k. map restMask (candidates m s a t k))) (x .listed)
+    where
+      in-range : (k : ℕ) → bit takers k ≡ true → k < length (m .automata)
+      in-range k e = go (ltb k i) refl
+        where
+          go : (b : Bool) → ltb k i ≡ b → k < length (m .automata)
+          go true h = omega (arith, ltb-true k i h)
+          go false h = absurd (true≢false (sym e ∙ bit-above takers i k (x .small) (ltb-false k i h)))
+
+  -- To cover a set by masks is to choose among the candidates.
+  rest-bit : (e : Edge) (v : ℕ) → v < vars → bit (restMask e) v ≡ not (mentions v (e .update))
+  unfolding restMask
+  rest-bit e v l = let few = lawful .few-variables in bit-mask (λ k. not (mentions k (e .update))) maxVariables v (omega arith)
+
+  cover-is : (ks : List ℕ) (u : ℕ) → u < 2 ^ vars
+      → coverable (map (λ k. map restMask (candidates m s a t k)) ks) u ≡ choosing m s a t ks isCovered (listOf vars u)
+  unfolding coverable choosing uncovered
+  cover-is [] u small = mask-covered vars u small
+  cover-is (k ∷ ks) u small =
+      exists-map (λ r. coverable (map (λ j. map restMask (candidates m s a t j)) ks) (bitAnd u r)) restMask (candidates m s a t k)
+      ∙ exists-ext _ _ (candidates m s a t k) (λ e i.
+      cover-is ks (bitAnd u (restMask e)) (lt-of-le-of-lt (and-le-l u (restMask e)) small)
+      ∙ ap (choosing m s a t ks isCovered) (sym (list-and (λ v. not (mentions v (e .update))) vars u (restMask e) (λ v h. rest-bit e v h))))
+
+  abbrev changed : ℕ
+  changed = changedMask m s t
+
+  covered-is : (takers : ℕ) (ks : List ℕ) (i : ℕ) → i ≤ length (m .automata) → Named takers ks i
+      → coveredBy w sets a masks first still changed takers ≡ choosing m s a t ks isCovered (changedIn m s t)
+  unfolding changedMask changedIn
+  covered-is takers ks i l x =
+      let f : ℕ → Bool = λ k. not (eqZ (val s k) (val t k)) in
+      ap (λ gs. coverable gs changed) (groups-are takers ks i l x)
+      ∙ cover-is ks changed (mask-small f vars)
+      ∙ ap (choosing m s a t ks isCovered) (sym (list-mask f vars))
+
+  abbrev S : (left at duties takers : ℕ) → Bool
+  S = seekAt w sets a masks first still changed
+
+  abbrev by : ((at duties takers : ℕ) → Bool) → (duties takers : ℕ) → Found → Bool
+  by = seekBy w sets a masks first still changed
+
+  -- The walk over the duties, by what the definition says of each.
+  unfoldable walk : List Duty → List ℕ → Bool
+  walk [] ks = choosing m s a t ks isCovered (changedIn m s t)
+  walk (takes c ∷ duties) ks = exists (λ x. walk duties (ks ++ x)) (takerSets m s a t c)
+  walk (rests c ∷ duties) ks = allUnmoved s t c && walk duties ks
+
+  walk-par : (c d : Tree) (duties : List Duty) (ks : List ℕ)
+      → walk (takes (par c d) ∷ duties) ks
+      ≡ alternatives (inSet m a c) (inSet m a d) (walk (takes c ∷ takes d ∷ duties) ks) (walk (takes c ∷ rests d ∷ duties) ks) (walk (rests c ∷ takes d ∷ duties) ks)
+  unfolding walk takerSets
+  walk-par c d duties ks =
+      let f : List ℕ → Bool = λ x. walk duties (ks ++ x) in
+      let P = takerSets m s a t c in
+      let Q = takerSets m s a t d in
+      sym (exists-ways (inSet m a c) (inSet m a d) f (together P Q) (onlyIf (allUnmoved s t d) P) (onlyIf (allUnmoved s t c) Q)
+      (exists-ext _ _ P (λ x i. exists-ext _ _ Q (λ y j. ap (walk duties) (append-assoc ks x y))) ∙ sym (exists-together f P Q))
+      (sym (exists-and (allUnmoved s t d) f P) ∙ sym (exists-only f (allUnmoved s t d) P))
+      (sym (exists-only f (allUnmoved s t c) Q)))
+
+  walk-leaf : (k : ℕ) (duties : List Duty) (ks : List ℕ) → walk (takes (leaf k) ∷ duties) ks ≡ walk duties (ks ++ k ∷ [])
+  unfolding walk takerSets exists
+  walk-leaf k duties ks = or-false (walk duties (ks ++ k ∷ []))
 
   -- a duty's tree: its lists rise, its leaves are automata, and `sets` has their own sets
   record Sound (c : Tree) : Type 0 where
@@ -107,67 +275,66 @@ module _ (m : Model) (lawful : Lawful m) (s : State) (a : ℕ) (t : State) (w se
   member-is c at rest e few x = in-set-of w sets m a (m .actions) (lawful .few-actions) c at few (standing c at rest e) (x .lists) (x .agree)
 
   -- one step of the search
-  stepped : (n at duties u : ℕ) (f : Found) → 1 < duties → nodeAt w at ≡ f → S (suc n) at duties u ≡ by (S n) duties u f
+  stepped : (n at duties x : ℕ) (f : Found) → 1 < duties → nodeAt w at ≡ f → S (suc n) at duties x ≡ by (S n) duties x f
   unfolding seekAt
-  stepped n at duties u f more e = rw (lt-leb duties 1 more, seekAt, e)
+  stepped n at duties x f more e = rw (lt-leb duties 1 more, seekAt, e)
 
-  done : (n at u : ℕ) → S n at 1 u ≡ eqb u 0
+  done : (n at x : ℕ) → S n at 1 x ≡ coveredBy w sets a masks first still changed x
   unfolding seekAt
-  done zero at u = refl
-  done (suc n) at u = refl
+  done zero at x = refl
+  done (suc n) at x = refl
 
-  nothing-owed : (p : ℕ) (l : List ℕ) → search m s a t p [] l ≡ isCovered l
-  unfolding search
-  nothing-owed zero l = refl
-  nothing-owed (suc p) l = refl
+  -- the leaves of the duties are i, i + 1, and so on
+  unfoldable InOrder : ℕ → List Duty → Type 0
+  InOrder i [] = i ≤ length (m .automata)
+  InOrder i (duty ∷ duties) = Numbered i (treeOf duty) × InOrder (i + size (treeOf duty)) duties
 
   -- the sides of a `par`
-  shared-bits : (b c : Bool) (on : ℕ → Bool) (f : Duty → Duty → Bool) (x y : Tree) → on 3 ≡ f (takes x) (takes y) → on 1 ≡ f (takes x) (rests y)
-      → on 2 ≡ f (rests x) (takes y)
-      → sharedBits b c on ≡ shared b c f x y
-  unfolding sharedBits shared
-  shared-bits true true on f x y p q r = p
-  shared-bits true false on f x y p q r = q
-  shared-bits false true on f x y p q r = r
-  shared-bits false false on f x y p q r = rw (q, r)
+  shared-bits : (b c : Bool) (on : ℕ → Bool) (both left right : Bool) → on 3 ≡ both → on 1 ≡ left → on 2 ≡ right
+      → sharedBits b c on ≡ alternatives b c both left right
+  unfolding sharedBits alternatives
+  shared-bits true true on both left right p q r = p
+  shared-bits true false on both left right p q r = q
+  shared-bits false true on both left right p q r = r
+  shared-bits false false on both left right p q r = rw (q, r)
 
-  module _ (n at u : ℕ) (f : Found) (node : nodeAt w at ≡ f) (d : ℕ) (some : 1 ≤ d) where
+  module _ (n at x : ℕ) (f : Found) (node : nodeAt w at ≡ f) (d : ℕ) (some : 1 ≤ d) where
     takes-half : (2 * d + 1) / 2 ≡ d
     takes-half = omega arith
 
     rests-half : (2 * d + 0) / 2 ≡ d
     rests-half = omega arith
 
-    syn-step : (b next x y : ℕ) → f ≡ Syn x y next → S (suc n) at (2 * d + b) u ≡ S n next (2 * d + b) u
+    syn-step : (b next p q : ℕ) → f ≡ Syn p q next → S (suc n) at (2 * d + b) x ≡ S n next (2 * d + b) x
     unfolding seekBy
-    syn-step b next x y e = stepped n at (2 * d + b) u (Syn x y next) (omega arith) (node ∙ e)
+    syn-step b next p q e = stepped n at (2 * d + b) x (Syn p q next) (omega arith) (node ∙ e)
 
-    leaf-rest : (k next : ℕ) → f ≡ Leaf k next → S (suc n) at (2 * d + 0) u ≡ (bit still k && S n next d u)
+    leaf-rest : (k next : ℕ) → f ≡ Leaf k next → S (suc n) at (2 * d + 0) x ≡ (bit still k && S n next d x)
     unfolding seekBy
     leaf-rest k next e =
-        stepped n at (2 * d + 0) u (Leaf k next) (omega arith) (node ∙ e)
+        stepped n at (2 * d + 0) x (Leaf k next) (omega arith) (node ∙ e)
         ∙ rw (eq-eqb ((2 * d + 0) % 2) 0 (omega arith), seekBy, rests-half)
 
     leaf-take : (k next : ℕ) → f ≡ Leaf k next
-        → S (suc n) at (2 * d + 1) u ≡ takenBy masks first (blindFrom masks first maxAutomata 0) (S n) next d k u
+        → S (suc n) at (2 * d + 1) x ≡ takenBy (S n) next d k x
     unfolding seekBy
     leaf-take k next e =
-        stepped n at (2 * d + 1) u (Leaf k next) (omega arith) (node ∙ e)
+        stepped n at (2 * d + 1) x (Leaf k next) (omega arith) (node ∙ e)
         ∙ rw (ne-eqb ((2 * d + 1) % 2) 0 (λ z. omega arith), seekBy, takes-half)
 
     module _ (few : d < maxDuties) (next : ℕ) (e : f ≡ Par next) where
-      par-rest : S (suc n) at (2 * d + 0) u ≡ S n next (2 * (2 * d + 0) + 0) u
+      par-rest : S (suc n) at (2 * d + 0) x ≡ S n next (2 * (2 * d + 0) + 0) x
       unfolding seekBy partedAt
       par-rest =
           let z : (2 * d + 0) / 2 * 4 ≡ 2 * (2 * d + 0) + 0 = omega arith in
-          stepped n at (2 * d + 0) u (Par next) (omega arith) (node ∙ e)
+          stepped n at (2 * d + 0) x (Par next) (omega arith) (node ∙ e)
           ∙ rw (lt-ltb ((2 * d + 0) / 2) maxDuties (omega arith), partedAt, eq-eqb ((2 * d + 0) % 2) 0 (omega arith), partedAt, z)
 
       par-take : (b c : Bool) → inSetAt w sets a next ≡ b → inSetAt w sets a (skipFrom w maxTreeNodes 1 next) ≡ c
-          → S (suc n) at (2 * d + 1) u ≡ sharedBits b c (λ x. S n next (d * 4 + x) u)
+          → S (suc n) at (2 * d + 1) x ≡ sharedBits b c (λ y. S n next (d * 4 + y) x)
       unfolding seekBy partedAt
       par-take b c h g =
-          stepped n at (2 * d + 1) u (Par next) (omega arith) (node ∙ e)
+          stepped n at (2 * d + 1) x (Par next) (omega arith) (node ∙ e)
           ∙ rw (lt-ltb ((2 * d + 1) / 2) maxDuties (omega arith), partedAt, ne-eqb ((2 * d + 1) % 2) 0 (λ z. omega arith), partedAt, h, g, takes-half)
 
   -- the duties stand from `at` on, and `n` nodes are enough for them
@@ -263,72 +430,82 @@ module _ (m : Model) (lawful : Lawful m) (s : State) (a : ℕ) (t : State) (w se
   unfolding allUnmoved leaves
   unmoved-syn list c = refl
 
-  taken-is : (n next d k u : ℕ) → k < length (m .automata) → u < 2 ^ vars → (g : List ℕ → Bool)
-      → ((v : ℕ) → v < 2 ^ vars → S n next d v ≡ g (listOf vars v))
-      → takenBy masks first (blindFrom masks first maxAutomata 0) (S n) next d k u
-      ≡ exists (λ v. every (ahead m s a t (suc k)) v && g v) (leastOf [] (map (uncovered (listOf vars u)) (candidates m s a t k)))
+  taken-is : (n next d k takers : ℕ) → k < maxAutomata → takers < 2 ^ k → takenBy (S n) next d k takers ≡ S n next d (takers + 2 ^ k)
   unfolding takenBy
-  taken-is n next d k u l small g same =
-      let few = lawful .few-automata in
-      rw (lt-ltb k maxAutomata (omega arith), takenBy, add-one k) (taken-least m lawful s a t masks first offers k l u small (S n next d) g same)
+  taken-is n next d k takers l small = rw (lt-ltb k maxAutomata l, takenBy, lt-ltb takers (2 ^ k) small, takenBy)
 
-  -- On the duties that stand from a place on, the search over plain data is the search over the model. (`p` nodes are enough too.)
-  seek-is : (n : ℕ) (duties : List Duty) (p at : ℕ) (rest : List ℕ) (u : ℕ) → Ready n duties at rest → owed duties ≤ p → u < 2 ^ vars
-      → S n at (stack duties) u ≡ search m s a t p duties (listOf vars u)
-  unfolding search stack owed treeOf
-  seek-is zero [] p at rest u r q small = done zero at u ∙ mask-covered vars u small ∙ sym (nothing-owed p (listOf vars u))
-  seek-is zero (duty ∷ duties) p at rest u r q small = absurd (omega (arith, some-node (treeOf duty), r .enough))
-  seek-is (suc n) [] p at rest u r q small = done (suc n) at u ∙ mask-covered vars u small ∙ sym (nothing-owed p (listOf vars u))
-  seek-is (suc n) (duty ∷ duties) zero at rest u r q small = absurd (omega (arith, some-node (treeOf duty)))
-  seek-is (suc n) (takes (syn list c) ∷ duties) (suc p) at rest u r q small =
+  two : (d b p q : ℕ) → b ≡ 2 * p + q → d * 4 + b ≡ 2 * (2 * d + p) + q
+  two d b p q e = omega (arith, e)
+
+  later-named : {takers : ℕ} {ks : List ℕ} {i j : ℕ} → i ≤ j → Named takers ks i → Named takers ks j
+  later-named {i = i} {j = j} l x =
+      let up : 2 ^ i ≤ 2 ^ j = pow-mono {i = i} {j = j} l in
+      record { small = omega (arith, x .small); listed = x .listed }
+
+  -- On the duties that stand from a place on, the search over plain data is that walk.
+  seek-is : (n : ℕ) (duties : List Duty) (at : ℕ) (rest : List ℕ) (i takers : ℕ) (ks : List ℕ) → Ready n duties at rest → InOrder i duties → Named takers ks i
+      → S n at (stack duties) takers ≡ walk duties ks
+  unfolding stack owed treeOf InOrder walk Numbered size
+  seek-is zero [] at rest i takers ks r o x = done zero at takers ∙ covered-is takers ks i o x
+  seek-is zero (duty ∷ duties) at rest i takers ks r o x = absurd (omega (arith, some-node (treeOf duty), r .enough))
+  seek-is (suc n) [] at rest i takers ks r o x = done (suc n) at takers ∙ covered-is takers ks i o x
+  seek-is (suc n) (takes (syn list c) ∷ duties) at rest i takers ks r o x =
       let z = takes (syn list c) in
       let stands = syn-stands w at (wordsOf duties ++ rest) list c (first-words n z duties at rest r _ refl) in
-      syn-step n at u _ (stands .node) (stack duties) (stack-some duties) 1 (at + 3) _ _ refl
-      ∙ seek-is n (takes c ∷ duties) p (at + 3) rest u (syn-ready n z duties at rest r list (takes c) refl) (omega (arith, size-syn list c)) small
-  seek-is (suc n) (rests (syn list c) ∷ duties) (suc p) at rest u r q small =
+      syn-step n at takers _ (stands .node) (stack duties) (stack-some duties) 1 (at + 3) _ _ refl
+      ∙ seek-is n (takes c ∷ duties) (at + 3) rest i takers ks (syn-ready n z duties at rest r list (takes c) refl) o x
+      ∙ unfold takerSets in refl
+  seek-is (suc n) (rests (syn list c) ∷ duties) at rest i takers ks r o x =
       let z = rests (syn list c) in
       let stands = syn-stands w at (wordsOf duties ++ rest) list c (first-words n z duties at rest r _ refl) in
-      syn-step n at u _ (stands .node) (stack duties) (stack-some duties) 0 (at + 3) _ _ refl
-      ∙ seek-is n (rests c ∷ duties) (suc p) (at + 3) rest u (syn-ready n z duties at rest r list (rests c) refl) (omega (arith, size-syn list c)) small
-      ∙ ap (λ b. b && search m s a t p duties (listOf vars u)) (sym (unmoved-syn list c))
-  seek-is (suc n) (takes (leaf k) ∷ duties) (suc p) at rest u r q small =
+      syn-step n at takers _ (stands .node) (stack duties) (stack-some duties) 0 (at + 3) _ _ refl
+      ∙ seek-is n (rests c ∷ duties) (at + 3) rest i takers ks (syn-ready n z duties at rest r list (rests c) refl) o x
+      ∙ ap (λ b. b && walk duties ks) (sym (unmoved-syn list c))
+  seek-is (suc n) (takes (leaf k) ∷ duties) at rest i takers ks r o x =
       let z = takes (leaf k) in
       let node = leaf-stands w at (wordsOf duties ++ rest) k (first-words n z duties at rest r _ refl) in
-      leaf-take n at u _ node (stack duties) (stack-some duties) k (at + 1) refl
-      ∙ taken-is n (at + 1) (stack duties) k u (named-leaf n z duties at rest r k refl) small (λ l. search m s a t p duties l)
-      (λ v h. seek-is n duties p (at + 1) rest v (leaf-ready n z duties at rest r k refl) (omega (arith, size-leaf k)) h)
-  seek-is (suc n) (rests (leaf k) ∷ duties) (suc p) at rest u r q small =
+      let few = lawful .few-automata in
+      let l : k < maxAutomata = omega (arith, named-leaf n z duties at rest r k refl) in
+      let y : Named takers ks k = subst (λ (j : ℕ). Named takers ks j) (sym (o .0)) x in
+      let next : InOrder (k + 1) duties = subst (λ (j : ℕ). InOrder (j + 1) duties) (sym (o .0)) (o .1) in
+      leaf-take n at takers _ node (stack duties) (stack-some duties) k (at + 1) refl
+      ∙ taken-is n (at + 1) (stack duties) k takers l (y .small)
+      ∙ seek-is n duties (at + 1) rest (k + 1) (takers + 2 ^ k) (ks ++ k ∷ []) (leaf-ready n z duties at rest r k refl) next (joined takers ks k l y)
+      ∙ sym (walk-leaf k duties ks)
+  seek-is (suc n) (rests (leaf k) ∷ duties) at rest i takers ks r o x =
       let z = rests (leaf k) in
       let node = leaf-stands w at (wordsOf duties ++ rest) k (first-words n z duties at rest r _ refl) in
-      leaf-rest n at u _ node (stack duties) (stack-some duties) k (at + 1) refl
-      ∙ ap₂ (λ x y. x && y) (stays k (named-leaf n z duties at rest r k refl) ∙ sym (unmoved-leaf k))
-      (seek-is n duties p (at + 1) rest u (leaf-ready n z duties at rest r k refl) (omega (arith, size-leaf k)) small)
-  seek-is (suc n) (rests (par c d) ∷ duties) (suc p) at rest u r q small =
+      leaf-rest n at takers _ node (stack duties) (stack-some duties) k (at + 1) refl
+      ∙ ap₂ (λ p q. p && q) (stays k (named-leaf n z duties at rest r k refl) ∙ sym (unmoved-leaf k))
+      (seek-is n duties (at + 1) rest (i + 1) takers ks (leaf-ready n z duties at rest r k refl) (o .1) (later-named (omega arith) x))
+  seek-is (suc n) (rests (par c d) ∷ duties) at rest i takers ks r o x =
       let z = rests (par c d) in
       let stands = par-stands w at (wordsOf duties ++ rest) c d (first-words n z duties at rest r _ refl) in
-      par-rest n at u _ (stands .node) (stack duties) (stack-some duties) (few-duties n z duties at rest r) (at + 1) refl
-      ∙ seek-is n (rests c ∷ rests d ∷ duties) (suc (suc p)) (at + 1) rest u
-      (par-ready n z duties at rest r (rests c) (rests d) refl) (omega (arith, size-par c d)) small
-      ∙ sym (ap (λ b. b && search m s a t p duties (listOf vars u)) (unmoved-par c d) ∙ and-assoc (allUnmoved s t c) (allUnmoved s t d) _)
-  seek-is (suc n) (takes (par c d) ∷ duties) (suc p) at rest u r q small =
+      let next : InOrder (i + size c + size d) duties = rw (add-assoc i (size c) (size d)) (o .1) in
+      par-rest n at takers _ (stands .node) (stack duties) (stack-some duties) (few-duties n z duties at rest r) (at + 1) refl
+      ∙ seek-is n (rests c ∷ rests d ∷ duties) (at + 1) rest i takers ks (par-ready n z duties at rest r (rests c) (rests d) refl) (o .0 .0, (o .0 .1, next)) x
+      ∙ sym (ap (λ b. b && walk duties ks) (unmoved-par c d) ∙ and-assoc (allUnmoved s t c) (allUnmoved s t d) _)
+  seek-is (suc n) (takes (par c d) ∷ duties) at rest i takers ks r o x =
       let z = takes (par c d) in
       let stands = par-stands w at (wordsOf duties ++ rest) c d (first-words n z duties at rest r _ refl) in
       let both = first-sound n z duties at rest r _ refl in
-      let size = small-tree n z duties at rest r _ refl in
+      let few = small-tree n z duties at rest r _ refl in
       let sum = size-par c d in
+      let next : InOrder (i + size c + size d) duties = rw (add-assoc i (size c) (size d)) (o .1) in
       let here = member-is c (at + 1) _ (stands .first) (omega arith) (left-sound both) in
       let there = ap (inSetAt w sets a) (skip-of w c (at + 1) (omega arith) (standing c (at + 1) _ (stands .first)))
       ∙ member-is d _ _ (stands .second) (omega arith) (right-sound both) in
-      let on : ℕ → Bool = λ b. S n (at + 1) (stack duties * 4 + b) u in
-      let ways : (x y : Duty) (b : ℕ) → par c d ≡ par (treeOf x) (treeOf y) → stack duties * 4 + b ≡ stack (x ∷ y ∷ duties)
-      → on b ≡ search m s a t p (x ∷ y ∷ duties) (listOf vars u) =
-      λ x y b e g. ap (λ k. S n (at + 1) k u) g
-      ∙ seek-is n (x ∷ y ∷ duties) p (at + 1) rest u
-      (par-ready n z duties at rest r x y e) (omega (arith, ap treeSize e, size-par (treeOf x) (treeOf y))) small in
-      par-take n at u _ (stands .node) (stack duties) (stack-some duties) (few-duties n z duties at rest r) (at + 1) refl
+      let on : ℕ → Bool = λ b. S n (at + 1) (stack duties * 4 + b) takers in
+      par-take n at takers _ (stands .node) (stack duties) (stack-some duties) (few-duties n z duties at rest r) (at + 1) refl
       (inSet m a c) (inSet m a d) here there
-      ∙ shared-bits (inSet m a c) (inSet m a d) on (λ x y. search m s a t p (x ∷ y ∷ duties) (listOf vars u)) c d
-      (ways (takes c) (takes d) 3 refl (omega arith)) (ways (takes c) (rests d) 1 refl (omega arith)) (ways (rests c) (takes d) 2 refl (omega arith))
+      ∙ shared-bits (inSet m a c) (inSet m a d) on _ _ _
+      (ap (λ k. S n (at + 1) k takers) (two (stack duties) 3 1 1 (omega arith))
+      ∙ seek-is n (takes c ∷ takes d ∷ duties) (at + 1) rest i takers ks (par-ready n z duties at rest r (takes c) (takes d) refl) (o .0 .0, (o .0 .1, next)) x)
+      (ap (λ k. S n (at + 1) k takers) (two (stack duties) 1 0 1 (omega arith))
+      ∙ seek-is n (takes c ∷ rests d ∷ duties) (at + 1) rest i takers ks (par-ready n z duties at rest r (takes c) (rests d) refl) (o .0 .0, (o .0 .1, next)) x)
+      (ap (λ k. S n (at + 1) k takers) (two (stack duties) 2 1 0 (omega arith))
+      ∙ seek-is n (rests c ∷ takes d ∷ duties) (at + 1) rest i takers ks (par-ready n z duties at rest r (rests c) (takes d) refl) (o .0 .0, (o .0 .1, next)) x)
+      ∙ sym (walk-par c d duties ks)
 
 -- The tree's words stand at `at`, `sets` has the automata's own sets, and bit k of `still` says that automaton k keeps its
 -- location: then the search says whether some move of the composition fits the step.
@@ -338,12 +515,12 @@ pub found-is : (m : Model) → Lawful m → (s : State) (a : ℕ) (t : State) (w
     → Offers m s a t masks first
     → ((k : ℕ) → k < length (m .automata) → bit still k ≡ unmoved s t k)
     → foundIn w at sets a masks first still (changedMask m s t) ≡ exists (fits m s t) (moves m a (m .tree))
-unfolding foundIn changedMask changedIn stack owed treeOf wordsOf AllSound
+unfolding foundIn stack owed treeOf wordsOf AllSound InOrder walk search
 found-is m lawful s a t w at sets masks first still stands agree offers stays =
     let c = m .tree in
     let order = lawful .tree .in-order in
     let numbers = numbered c _ order in
-    let size = size-is c _ order in
+    let total = size-is c _ order in
     let few = lawful .tree .size in
     let whole : Sound m lawful s a t w sets masks first still offers stays c = record {
       lists = lawful .tree .lists;
@@ -357,8 +534,6 @@ found-is m lawful s a t w at sets masks first still stands agree offers stays =
       words = begins w (treeWords c) at stands ∙ ap (λ l. l ++ rest) (sym (append-nil (treeWords c)));
       sound = (whole, tt);
     } in
-    let changed : ℕ → Bool = λ k. not (eqZ (val s k) (val t k)) in
-    seek-is m lawful s a t w sets masks first still offers stays maxTreeNodes (takes c ∷ []) maxTreeNodes at rest
-    (changedMask m s t) ready (omega arith) (mask-small changed (length (m .variables)))
-    ∙ ap (search m s a t maxTreeNodes (takes c ∷ [])) (sym (list-mask changed (length (m .variables))))
-    ∙ search-is m lawful s a t maxTreeNodes few
+    let none : Named 0 [] 0 = record { small = omega arith; listed = keep-none (bit 0) 0 maxAutomata (λ k x y. bit-above 0 0 k (omega arith) (omega arith)) } in
+    seek-is m lawful s a t w sets masks first still offers stays maxTreeNodes (takes c ∷ []) at rest 0 0 [] ready (numbers, omega arith) none
+    ∙ search-is m lawful s a t

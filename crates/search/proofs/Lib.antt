@@ -1,9 +1,6 @@
-pub mod Covers
 pub mod Unpruned
-pub mod Ahead
-pub mod SearchLaws
+pub mod TakerLaws
 pub mod SearchExamples
 pub mod FoundSteps
 pub mod MaskLaws
-pub mod Places
 pub mod FoundLaws

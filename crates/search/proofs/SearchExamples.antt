@@ -2,7 +2,7 @@
 use Prim.Native.Nat.{ℕ}
 use mathlib.Core.Path.{_≡_, refl}
 use mathlib.Core.Bool.{Bool, true, false}
-use mathlib.Core.List.{List, [], _∷_, map}
+use mathlib.Core.List.{List, [], _∷_, map, flatMap}
 use lib.IntN.{ℤ, pos}
 use Rattle.model.specs.Basic.{eqZ, each, every, exists, keep, member, countUp}
 use Rattle.model.specs.Predicate.{range, le, num, new, holds, value, words, wordsOf, named, isNewOf, mentions}
@@ -11,7 +11,7 @@ use Rattle.model.specs.Model.{Model, Edge, Automaton, inSet}
 use Rattle.model.specs.Rules.{running, State, mentioned}
 use Rattle.model.specs.Moves.{pairs, sides, under, moves}
 use Rattle.model.specs.Judge.{isTaker, updated, led, kept, framed, fits}
-use Rattle.search.specs.Search.{takes, shared, inside, isCovered, uncovered, skipped, leastOf, changedIn, unmoved, allUnmoved, isCandidate, candidates, covers, ahead, search}
+use Rattle.search.specs.Search.{isCovered, uncovered, changedIn, unmoved, allUnmoved, together, onlyIf, ways, isCandidate, candidates, takerSets, choosing, search}
 
 -- an edge under action 1 that may change variable k: its new value is at least 0
 abbrev writes : ℕ → Edge
@@ -41,7 +41,7 @@ before = state still (pos 0 ∷ pos 0 ∷ pos 0 ∷ pos 0 ∷ pos 0 ∷ [])
 
 -- the search's answer and the definition's
 abbrev answers : Model → State → List Bool
-answers m t = search m before 1 t 7 (takes (m .tree) ∷ []) (changedIn m before t) ∷ exists (fits m before t) (moves m 1 (m .tree)) ∷ []
+answers m t = search m before 1 t ∷ exists (fits m before t) (moves m 1 (m .tree)) ∷ []
 
 -- four automata share the action, three equal edges each: nothing changes, all that they write changes, one variable more
 abbrev alike : Model
@@ -52,7 +52,7 @@ pub equal-edges :
     answers alike (state still (pos 1 ∷ pos 1 ∷ pos 1 ∷ pos 1 ∷ pos 0 ∷ [])) ∷
     answers alike (state still (pos 1 ∷ pos 1 ∷ pos 1 ∷ pos 1 ∷ pos 1 ∷ [])) ∷
     [] ≡ (true ∷ true ∷ []) ∷ (true ∷ true ∷ []) ∷ (false ∷ false ∷ []) ∷ []
-unfolding eqZ each every exists keep member countUp range holds value words wordsOf named isNewOf mentions leaves inSet mentioned pairs sides under moves isTaker updated led kept framed fits shared inside isCovered uncovered skipped leastOf changedIn unmoved allUnmoved isCandidate candidates covers ahead search
+unfolding eqZ each every exists keep member countUp range holds value words wordsOf named isNewOf mentions leaves inSet mentioned pairs sides under moves isTaker updated led kept framed fits flatMap isCovered uncovered changedIn unmoved allUnmoved together onlyIf ways isCandidate candidates takerSets choosing search
 equal-edges = refl
 
 -- four automata share it, and each may change one of two variables that it has in common with its neighbours: each takes its
@@ -73,7 +73,7 @@ pub different-edges :
     answers all-share (state still (pos 1 ∷ pos 0 ∷ pos 1 ∷ pos 0 ∷ pos 1 ∷ [])) ∷
     answers all-share (state still (pos 1 ∷ pos 1 ∷ pos 1 ∷ pos 1 ∷ pos 1 ∷ [])) ∷
     [] ≡ (true ∷ true ∷ []) ∷ (true ∷ true ∷ []) ∷ (true ∷ true ∷ []) ∷ (false ∷ false ∷ []) ∷ []
-unfolding eqZ each every exists keep member countUp range holds value words wordsOf named isNewOf mentions leaves inSet mentioned pairs sides under moves isTaker updated led kept framed fits shared inside isCovered uncovered skipped leastOf changedIn unmoved allUnmoved isCandidate candidates covers ahead search
+unfolding eqZ each every exists keep member countUp range holds value words wordsOf named isNewOf mentions leaves inSet mentioned pairs sides under moves isTaker updated led kept framed fits flatMap isCovered uncovered changedIn unmoved allUnmoved together onlyIf ways isCandidate candidates takerSets choosing search
 different-edges = refl
 
 -- the left two share it, so the right two rest: what the left may change, what it may not, and a right one that moves; nobody
@@ -85,16 +85,14 @@ pub not-shared :
     answers (chained [] []) (state still (pos 0 ∷ pos 0 ∷ pos 0 ∷ pos 0 ∷ pos 1 ∷ [])) ∷
     answers (chained [] []) (state still (pos 0 ∷ pos 0 ∷ pos 1 ∷ pos 0 ∷ pos 1 ∷ [])) ∷
     [] ≡ (true ∷ true ∷ []) ∷ (false ∷ false ∷ []) ∷ (false ∷ false ∷ []) ∷ (true ∷ true ∷ []) ∷ (false ∷ false ∷ []) ∷ []
-unfolding eqZ each every exists keep member countUp range holds value words wordsOf named isNewOf mentions leaves inSet mentioned pairs sides under moves isTaker updated led kept framed fits shared inside isCovered uncovered skipped leastOf changedIn unmoved allUnmoved isCandidate candidates covers ahead search
+unfolding eqZ each every exists keep member countUp range holds value words wordsOf named isNewOf mentions leaves inSet mentioned pairs sides under moves isTaker updated led kept framed fits flatMap isCovered uncovered changedIn unmoved allUnmoved together onlyIf ways isCandidate candidates takerSets choosing search
 not-shared = refl
 
--- the least sets, in their order: not one with a smaller one after it, of two that are alike the first, not one with a smaller
--- one before it
-pub least-sets : leastOf [] ((0 ∷ 1 ∷ []) ∷ (1 ∷ []) ∷ (1 ∷ []) ∷ (2 ∷ 3 ∷ []) ∷ (3 ∷ 2 ∷ []) ∷ (1 ∷ 2 ∷ []) ∷ []) ≡ (1 ∷ []) ∷ (2 ∷ 3 ∷ []) ∷ []
-unfolding every exists member inside skipped leastOf
-least-sets = refl
-
--- the variables that the automata from number 2 on can cover
-pub covered-ahead : keep (ahead all-share before 1 before 2) (countUp 0 5) ≡ 2 ∷ 3 ∷ 4 ∷ []
-unfolding exists keep countUp holds value words wordsOf named isNewOf mentions under updated led isCandidate candidates covers ahead
-covered-ahead = refl
+-- who can take it together: where the left two share it, both of them, if the right two keep their locations; where nobody does, one
+pub who-takes :
+    takerSets (chained (1 ∷ []) []) before 1 before (chained (1 ∷ []) [] .tree) ∷
+    takerSets (chained (1 ∷ []) []) before 1 (state (0 ∷ 0 ∷ 0 ∷ 1 ∷ []) []) (chained (1 ∷ []) [] .tree) ∷
+    takerSets (chained [] []) before 1 before (chained [] [] .tree) ∷
+    [] ≡ ((0 ∷ 1 ∷ []) ∷ []) ∷ [] ∷ ((0 ∷ []) ∷ (1 ∷ []) ∷ (2 ∷ []) ∷ (3 ∷ []) ∷ []) ∷ []
+unfolding exists every member leaves inSet flatMap unmoved allUnmoved together onlyIf ways takerSets
+who-takes = refl

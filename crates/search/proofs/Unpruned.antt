@@ -2,7 +2,6 @@
 use mathlib.Core.Path.{_≡_, refl, sym, ap, _∙_}
 use mathlib.Core.Bool.{Bool, true, false, not, _&&_, _||_, and-assoc, and-true, or-false, or-comm, Bool·not-not}
 use mathlib.Core.List.{List, [], _∷_, _++_, map, List·Memᴰ}
-use mathlib.Core.Logic.{inl, inr}
 use Prim.Native.Nat.{ℕ, zero, suc, _+_, _≤_, _<_}
 use native.Mathlib.Omega.{arith}
 use lib.ListN.{length}
@@ -13,7 +12,7 @@ use Rattle.model.specs.Model.{Model, Edge, automaton, inSet}
 use Rattle.model.specs.Rules.{State, Taker, val, mentioned}
 use Rattle.model.specs.Moves.{pairs, sides, under, alone, moves}
 use Rattle.model.specs.Judge.{isTaker, updated, led, kept, framed, fits}
-use Rattle.model.proofs.Tests.{and-same, or-same, or-cases, eq-self, exists-append, exists-ext, exists-map, every-append, each-ext, every-ext}
+use Rattle.model.proofs.Tests.{and-same, or-same, eq-self, exists-append, exists-ext, exists-map, every-append, each-ext, every-ext}
 use Rattle.model.proofs.Numbered.{size, Numbered, numbered}
 use Rattle.model.proofs.Takers.{Within, within}
 use Rattle.search.specs.Search.{uncovered, unmoved, allUnmoved, isCandidate, candidates, isCovered, changedIn}
@@ -29,7 +28,7 @@ exists-keep {A} f p (x ∷ l) = go (p x) (exists-keep f p l)
     go true e = ap (λ b. f x || b) e
     go false e = e
 
-exists-and : {A : Type 0} (b : Bool) (f : A → Bool) (l : List A) → (b && exists f l) ≡ exists (λ x. b && f x) l
+pub exists-and : {A : Type 0} (b : Bool) (f : A → Bool) (l : List A) → (b && exists f l) ≡ exists (λ x. b && f x) l
 unfolding exists
 exists-and true f l = refl
 exists-and false f [] = refl
@@ -102,13 +101,6 @@ alternatives-sides true true f xs ys p q r = p
 alternatives-sides true false f xs ys p q r = q
 alternatives-sides false true f xs ys p q r = r
 alternatives-sides false false f xs ys p q r = or-same q r ∙ sym (exists-append f xs ys)
-
-pub alternatives-elim : {P : Type 0} (b e : Bool) {both left right : Bool} → (both ≡ true → P) → (left ≡ true → P) → (right ≡ true → P) → alternatives b e both left right ≡ true → P
-unfolding alternatives
-alternatives-elim true true p q r h = p h
-alternatives-elim true false p q r h = q h
-alternatives-elim false true p q r h = r h
-alternatives-elim {P} false false {left = left} {right = right} p q r h = elim (or-cases left right h) [ inl x ↦ q x | inr x ↦ r x ]
 
 -- what some takers leave uncovered
 unfoldable leftBy : List Taker → List ℕ → List ℕ

@@ -1,7 +1,5 @@
 // The search of the step judge for automata that can take a step. What it decides stands in specs/Search.antt, how it is
 // told in specs/Found.antt.
-mod blind;
-mod candidates;
 mod duties;
 
 use crate::duties::Step;
@@ -23,19 +21,11 @@ pub fn found(
 ) -> bool
     ensures { λ r. ⌜ r ≡ foundIn (now (words .entry)) at (now (sets .entry)) action (now (masks .entry)) (now (first .entry)) still changed ⌝ }
 {
-    let blind = blind::blinds(masks, first);
-    let step = Step { action, still };
-    let nodes = model::Tree::NODES;
-    duties::seek(
-        words,
-        sets,
-        masks,
-        first,
-        &blind,
-        step,
-        at,
-        nodes,
-        3,
+    let step = Step {
+        action,
+        still,
         changed,
-    )
+    };
+    let nodes = model::Tree::NODES;
+    duties::seek(words, sets, masks, first, step, at, nodes, 3, 0)
 }

@@ -4,9 +4,6 @@ use borrow.Author.Needs.{needs}
 use Rattle.search.proofs.found.Statement.{statement}
 use Rattle.search.proofs.found.Tie as tie
 
-blinds-requires : tie.Need-blinds-requires
-blinds-requires c κs = search needs
-
 seek-requires : tie.Need-seek-requires
 seek-requires c κs = search needs
 
@@ -14,4 +11,4 @@ returns : tie.Need-returns
 returns c = search (needs, found-by)
 
 pub found-spec : {M : Type 1} → statement M
-found-spec = tie.close (tie.spec blinds-requires seek-requires returns)
+found-spec = tie.close (tie.spec seek-requires returns)
