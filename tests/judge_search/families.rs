@@ -1,0 +1,110 @@
+// Families of sheets on which a search may take long.
+use crate::sheets::{Automaton, Edge, Sheet, Step, Tree};
+
+pub struct Random(u64);
+
+impl Random {
+    pub fn new(seed: u64) -> Random {
+        Random(seed)
+    }
+
+    pub fn below(&mut self, k: usize) -> usize {
+        self.0 = self.0.wrapping_mul(6364136223846793005).wrapping_add(1442695040888963407);
+        ((self.0 >> 33) % k as u64) as usize
+    }
+
+    /// So many different numbers below k.
+    pub fn some(&mut self, count: usize, k: usize) -> Vec<usize> {
+        let mut all = vec![];
+        while all.len() < count {
+            let x = self.below(k);
+            if !all.contains(&x) {
+                all.push(x);
+            }
+        }
+        all
+    }
+}
+
+fn loops(mentions: Vec<Vec<usize>>) -> Automaton {
+    let edges = mentions.into_iter().map(|mentions| Edge { from: 0, to: 0, mentions }).collect();
+    Automaton { shares: true, locations: 1, edges }
+}
+
+/// k automata that share the action, each with edges that mention `size` of the variables.
+pub fn random(k: usize, edges: usize, size: usize, variables: usize, seed: u64) -> Sheet {
+    let mut r = Random::new(seed);
+    let one = |r: &mut Random| loops((0..edges).map(|_| r.some(size, variables)).collect());
+    Sheet::flat(variables, (0..k).map(|_| one(&mut r)).collect())
+}
+
+/// The same with 3 of 3k variables; the last two are mentioned by the last automaton alone, and by no edge of it together.
+pub fn split(k: usize, edges: usize, seed: u64) -> Sheet {
+    let (mut r, v) = (Random::new(seed), 3 * k);
+    let one = |r: &mut Random, last: bool| {
+        let edge = |r: &mut Random, e: usize| if last { [r.some(2, v - 2), vec![v - 1 - e % 2]].concat() } else { r.some(3, v - 2) };
+        loops((0..edges).map(|e| edge(r, e)).collect())
+    };
+    Sheet::flat(v, (0..k).map(|a| one(&mut r, a + 1 == k)).collect())
+}
+
+/// k automata with edges that mention different variables, and one more that shares the action and has no edge.
+pub fn dead(k: usize, edges: usize) -> Sheet {
+    let mut r = Random::new(5);
+    let mut automata: Vec<Automaton> = (0..k).map(|_| loops((0..edges).map(|_| r.some(3, 3 * k)).collect())).collect();
+    automata.push(loops(vec![]));
+    Sheet::flat(3 * k, automata)
+}
+
+/// k automata with equal edges, which mention one variable.
+pub fn equal(k: usize, edges: usize, variables: usize) -> Sheet {
+    Sheet::flat(variables, (0..k).map(|_| loops(vec![vec![0]; edges])).collect())
+}
+
+/// k automata whose edges mention more and more of their own variables, the fullest one last.
+pub fn nested(k: usize, edges: usize, size: usize) -> Sheet {
+    let one = |a: usize| loops((0..edges).map(|e| (0..1 + e * size / edges).map(|i| a * size + i).collect()).collect());
+    Sheet::flat(k * size, (0..k).map(one).collect())
+}
+
+/// k automata with edges that mention two variables of one of two groups, whose sizes are odd: no cover, but only counting says so.
+pub fn odd(k: usize, edges: usize, first: usize, seed: u64) -> Sheet {
+    let (mut r, v) = (Random::new(seed), 2 * k);
+    let pair = |r: &mut Random| {
+        if r.below(v) < first { r.some(2, first) } else { r.some(2, v - first).iter().map(|x| x + first).collect() }
+    };
+    Sheet::flat(v, (0..k).map(|_| loops((0..edges).map(|_| pair(&mut r)).collect())).collect())
+}
+
+/// A small sheet of any shape, and a step of it.
+pub fn small(r: &mut Random) -> (Sheet, Step) {
+    let n = 1 + r.below(4);
+    let variables = 1 + r.below(6);
+    let automaton = |r: &mut Random| {
+        let locations = 1 + r.below(2) as u32;
+        let edge = |r: &mut Random| {
+            let count = r.below(variables.min(3) + 1);
+            Edge { from: r.below(locations as usize) as u32, to: r.below(locations as usize) as u32, mentions: r.some(count, variables) }
+        };
+        let edges = r.below(6);
+        Automaton { shares: r.below(3) > 0, locations, edges: (0..edges).map(|_| edge(r)).collect() }
+    };
+    let automata: Vec<Automaton> = (0..n).map(|_| automaton(r)).collect();
+    let tree = shape(r, 0, n);
+    let old: Vec<u32> = automata.iter().map(|a| r.below(a.locations as usize) as u32).collect();
+    let new = automata.iter().zip(&old).map(|(a, &l)| if r.below(3) == 0 { r.below(a.locations as usize) as u32 } else { l }).collect();
+    let changed = (0..variables).map(|_| r.below(2) == 0).collect();
+    (Sheet { variables, automata, tree }, Step { old, new, changed })
+}
+
+/// A tree over the automata from one up to another.
+fn shape(r: &mut Random, from: usize, to: usize) -> Tree {
+    if r.below(5) == 0 {
+        return Tree::Syn(Box::new(shape(r, from, to)));
+    }
+    if to - from == 1 {
+        return Tree::Leaf(from);
+    }
+    let middle = from + 1 + r.below(to - from - 1);
+    Tree::Par(Box::new(shape(r, from, middle)), Box::new(shape(r, middle, to)))
+}
