@@ -4,12 +4,20 @@ use crate::generate::{is_yes, Listed, Proposed, State};
 use crate::lent::Lent;
 use crate::reference::judge::{Proposal, REFUSED};
 use crate::reference::run::List;
+use crate::watch::Watch;
+use std::ops::RangeInclusive;
 use std::time::{Duration, Instant};
 
 const CALLS: [&str; 6] = ["read", "write", "merge", "step", "environment", "run"];
 
+/// The paper's rows that each of them can be refused by.
+const ROWS: [&[RangeInclusive<u32>]; CALLS.len()] =
+    [&[1..=16, 18..=18], &[18..=19, 35..=35], &[18..=19, 31..=35], &[18..=24], &[18..=23], &[18..=23]];
+
 pub struct Comparison<'a> {
     tried: &'a dyn Sheets,
+    /// Notices calls that do not come back.
+    pub watch: Watch,
     pub calls: u64,
     pub failed: u64,
     /// The options that make the present calls again.
@@ -32,6 +40,7 @@ impl<'a> Comparison<'a> {
     pub fn new(tried: &'a dyn Sheets) -> Comparison<'a> {
         Comparison {
             tried,
+            watch: Watch::ending(),
             calls: 0,
             failed: 0,
             again: String::new(),
@@ -166,9 +175,15 @@ impl<'a> Comparison<'a> {
 
     fn timed<T>(&mut self, call: usize, run: impl FnOnce() -> T) -> T {
         let start = Instant::now();
-        let answer = run();
+        let answer = self.watch.during(format!("{} ({})", CALLS[call], self.again), run);
         self.slowest[call] = self.slowest[call].max(start.elapsed());
         answer
+    }
+
+    /// The rows of the paper that no call has met, with the call that could have.
+    pub fn rows_not_met(&self) -> Vec<(&'static str, u32)> {
+        let due = CALLS.iter().zip(ROWS).flat_map(|(call, rows)| rows.iter().cloned().flatten().map(move |row| (*call, row)));
+        due.filter(|row| !self.rows.contains_key(row)).collect()
     }
 
     fn row(&mut self, call: usize, row: u32) {

@@ -8,6 +8,8 @@ use differential::reference::model::{Model, EDGES, TABLE_WORDS, TEXT_BYTES};
 use differential::reference::run::{List, ENVIRONMENT};
 use differential::reference::{self, table};
 use differential::rounds::{self, OVEN};
+use differential::watch::Watch;
+use std::time::Duration;
 
 fn table_of(text: &str) -> Vec<u32> {
     let mut table = vec![0; TABLE_WORDS];
@@ -199,6 +201,28 @@ fn wrong_calls_are_noticed() {
         (1..20).for_each(|seed| rounds::round(&mut comparison, seed));
         assert!(comparison.failed > 0);
     }
+}
+
+#[test]
+fn rows_that_were_not_met_are_named() {
+    let mut comparison = Comparison::new(&Reference);
+    comparison.read(OVEN.as_bytes(), &vec![0; TABLE_WORDS]);
+    comparison.read(b"", &vec![0; TABLE_WORDS]);
+    let missed = comparison.rows_not_met();
+    assert!(!missed.contains(&("read", 2)) && missed.contains(&("read", 3)) && missed.contains(&("merge", 34)));
+    // 17 rows of the reader, 3, 7, 7, 6 and 6 of the others; one was met.
+    assert_eq!(missed.len(), 45);
+}
+
+#[test]
+fn a_call_that_does_not_come_back_is_noticed() {
+    let (tell, told) = std::sync::mpsc::channel();
+    let watch = Watch::new(Duration::from_millis(40), move |name| tell.send(name.to_string()).expect("the test waits"));
+    assert_eq!(watch.during("quick".to_string(), || 7), 7);
+    std::thread::sleep(Duration::from_millis(200));
+    assert!(told.try_recv().is_err());
+    watch.during("slow".to_string(), || std::thread::sleep(Duration::from_millis(400)));
+    assert_eq!(told.try_recv().as_deref(), Ok("slow"));
 }
 
 #[test]

@@ -1,0 +1,336 @@
+//! Sheet texts made by hand, each with the answer that the paper gives it: every row of the reader and the merger, and both
+//! sides of every limit. Names say what a text is about; two that differ in a number stand on either side of a limit.
+use crate::rounds::OVEN;
+
+/// A text, and what must come of it.
+pub struct Case {
+    pub name: String,
+    pub text: Vec<u8>,
+    /// The row and the line that refuse it; none where it is merged.
+    pub refusal: Option<(u32, u32)>,
+}
+
+/// What the cases change: the small sheet of docs/FORMAT.md, section 12. A is 2, v0 is 0 to 1.
+const SMALL: [&str; 12] = [
+    "format=1",
+    "actions=2",
+    "variables=1",
+    "variable=0,1",
+    "automata=1",
+    "sync=",
+    "locations=1",
+    "init=all 0",
+    "inv=all 0",
+    "edges=1",
+    "edge=0,1,0,eq n0 1",
+    "compose=a0",
+];
+
+/// One line of the small sheet, another content for it, and the row that refuses the sheet at this line; 0: none does.
+type Change = (&'static str, usize, &'static str, u32);
+
+const CHANGES: &[Change] = &[
+    // Row 2: another line is due, fields, bytes.
+    ("key_missing", 6, "locations=1", 2),
+    ("key_capital", 6, "Sync=", 2),
+    ("key_space", 6, "sync =", 2),
+    ("key_alone", 6, "sync", 2),
+    ("line_empty", 6, "", 2),
+    ("fields_1_of_2", 4, "variable=0", 2),
+    ("fields_3_of_2", 4, "variable=0,1,", 2),
+    ("fields_3_of_4", 11, "edge=0,1,0", 2),
+    ("fields_5_of_4", 11, "edge=0,1,0,all 0,", 2),
+    ("comma_in_predicate", 8, "init=eq 1,1", 2),
+    ("byte_13", 1, "format=1\r", 2),
+    ("byte_9", 8, "init=all\t0", 2),
+    ("byte_31", 8, "init=all 0\x1f", 2),
+    ("byte_127", 8, "init=all 0\x7f", 2),
+    ("byte_126", 8, "init=~", 6),
+    // Row 3: how a number is spelled, and its range.
+    ("format_0", 1, "format=0", 3),
+    ("format_2", 1, "format=2", 3),
+    ("number_missing", 2, "actions=", 3),
+    ("number_leading_zero", 2, "actions=02", 3),
+    ("number_minus_zero", 4, "variable=-0,1", 3),
+    ("number_minus_alone", 8, "init=eq - 1", 3),
+    ("number_plus", 8, "init=eq +1 1", 6),
+    ("number_and_letter", 8, "init=eq 1x 1", 3),
+    ("number_and_space", 5, "automata=1 ", 3),
+    ("actions_64", 2, "actions=64", 3),
+    ("actions_minus_1", 2, "actions=-1", 3),
+    ("variables_49", 3, "variables=49", 3),
+    ("range_32767", 4, "variable=-32768,32767", 0),
+    ("range_32768", 4, "variable=0,32768", 3),
+    ("range_minus_32769", 4, "variable=-32769,1", 3),
+    ("automata_0", 5, "automata=0", 3),
+    ("automata_17", 5, "automata=17", 3),
+    ("locations_0", 7, "locations=0", 3),
+    ("locations_33", 7, "locations=33", 3),
+    ("edges_513", 10, "edges=513", 3),
+    ("edge_location_31", 11, "edge=0,1,31,all 0", 12),
+    ("edge_location_32", 11, "edge=32,1,0,all 0", 3),
+    ("edge_action_63", 11, "edge=0,63,0,all 0", 12),
+    ("edge_action_64", 11, "edge=0,64,0,all 0", 3),
+    ("list_63", 6, "sync=63", 5),
+    ("list_64", 6, "sync=64", 3),
+    ("list_comma_last", 6, "sync=1,", 3),
+    ("count_513", 8, "init=all 513", 3),
+    ("count_minus_1", 8, "init=any -1", 3),
+    ("expression_32767", 8, "init=le -32768 32767", 0),
+    ("expression_32768", 8, "init=le 32768 1", 3),
+    ("expression_minus_32769", 8, "init=le -32769 1", 3),
+    ("variable_47", 8, "init=eq v47 0", 7),
+    ("variable_48", 8, "init=eq v48 0", 3),
+    ("new_47", 11, "edge=0,1,0,eq n47 0", 7),
+    ("new_48", 11, "edge=0,1,0,eq n48 0", 3),
+    ("leaf_15", 12, "compose=a15", 14),
+    ("leaf_16", 12, "compose=a16", 3),
+    ("leaf_leading_zero", 12, "compose=a00", 3),
+    // Row 4: a range.
+    ("range_of_one", 4, "variable=1,1", 0),
+    ("range_falls", 4, "variable=1,0", 4),
+    // Row 5: a list of actions; A is 2.
+    ("list_2", 6, "sync=1,2", 0),
+    ("list_3", 6, "sync=3", 5),
+    ("list_0", 6, "sync=0", 5),
+    ("list_twice", 6, "sync=1,1", 5),
+    ("list_falls", 6, "sync=2,1", 5),
+    ("syn_list_2", 12, "compose=syn 1,2 a0", 0),
+    ("syn_list_0", 12, "compose=syn 0 a0", 5),
+    ("syn_list_3", 12, "compose=syn 3 a0", 5),
+    // Row 6: a predicate's form.
+    ("predicate_empty", 8, "init=", 6),
+    ("predicate_short", 9, "inv=eq v0", 6),
+    ("predicate_long", 9, "inv=all 0 all 0", 6),
+    ("predicate_count_short", 8, "init=all 2 all 0", 6),
+    ("predicate_two_spaces", 8, "init=eq  1 1", 6),
+    ("predicate_space_last", 8, "init=eq 1 1 ", 6),
+    ("predicate_unknown_word", 11, "edge=0,1,0,lt v0 1", 6),
+    ("predicate_is_number", 8, "init=1", 6),
+    // Rows 7 and 8: variables.
+    ("variable_0", 8, "init=eq v0 0", 0),
+    ("variable_1", 8, "init=eq v1 0", 7),
+    ("new_1", 11, "edge=0,1,0,eq n1 0", 7),
+    ("new_in_init", 8, "init=eq n0 0", 8),
+    ("new_in_inv", 9, "inv=le n0 1", 8),
+    // Row 10: an interval at both ends of 32 bits; v0 counts with its range, an if with both its cases and its guard.
+    ("interval_max", 8, "init=le add mul 32767 add 32767 32767 add add 32767 32767 add 32767 add 32767 1 0", 0),
+    ("interval_past_max", 8, "init=le add mul 32767 add 32767 32767 add add 32767 32767 add 32767 add 32767 2 0", 10),
+    ("interval_min", 8, "init=le mul -32768 add 32767 add 32767 2 0", 0),
+    ("interval_past_min", 8, "init=le sub mul -32768 add 32767 add 32767 2 1 0", 10),
+    ("interval_range", 8, "init=le mul mul 32767 32767 add v0 2 0", 10),
+    ("interval_new", 11, "edge=0,1,0,le mul mul 32767 32767 add n0 2 0", 10),
+    ("interval_if", 8, "init=le if eq v0 0 0 mul mul 32767 32767 3 0", 10),
+    ("interval_guard", 8, "init=le if le mul mul 32767 32767 3 0 0 1 0", 10),
+    ("interval_times_0", 8, "init=le mul 0 mul mul 32767 32767 3 0", 10),
+    // Row 12: an edge's places.
+    ("edge_to_0", 11, "edge=0,0,0,all 0", 0),
+    ("edge_from_1", 11, "edge=1,1,0,all 0", 12),
+    ("edge_to_1", 11, "edge=0,1,1,all 0", 12),
+    ("edge_action_2", 11, "edge=0,2,0,all 0", 0),
+    ("edge_action_3", 11, "edge=0,3,0,all 0", 12),
+    // Rows 13 and 14: the composition.
+    ("compose_empty", 12, "compose=", 13),
+    ("compose_short", 12, "compose=par a0", 13),
+    ("compose_no_leaf", 12, "compose=syn 1", 13),
+    ("compose_no_list", 12, "compose=syn a0 a0", 13),
+    ("compose_space_last", 12, "compose=a0 ", 13),
+    ("compose_leaf_1", 12, "compose=a1", 14),
+    ("compose_leaf_twice", 12, "compose=par a0 a0", 14),
+    // Several faults in a line: the smallest row.
+    ("faults_3_and_4", 4, "variable=40000,9", 3),
+    ("faults_3_and_6", 8, "init=foo 99999", 3),
+    ("faults_5_and_14", 12, "compose=par a1 syn 2,1 a0", 5),
+    ("faults_6_and_7", 8, "init=eq v9", 6),
+    ("faults_6_and_12", 11, "edge=0,3,0,eq v0", 6),
+    ("faults_7_and_8", 8, "init=eq n9 0", 7),
+];
+
+/// Every case.
+pub fn all() -> Vec<Case> {
+    let mut cases: Vec<Case> = CHANGES.iter().map(changed).collect();
+    cases.extend(ends());
+    cases.extend(reader_limits());
+    cases.extend(merger_limits());
+    cases
+}
+
+fn case(name: &str, text: String, refusal: Option<(u32, u32)>) -> Case {
+    Case { name: name.to_string(), text: text.into_bytes(), refusal }
+}
+
+fn changed(&(name, line, content, row): &Change) -> Case {
+    case(name, small(&[(line, content)]), (row != 0).then_some((row, line as u32)))
+}
+
+/// The small sheet with other lines in the place of some.
+fn small(changes: &[(usize, &str)]) -> String {
+    let mut lines = SMALL;
+    changes.iter().for_each(|(line, content)| lines[line - 1] = content);
+    lines.join("\n") + "\n"
+}
+
+/// Where a text ends, and how long it may be.
+fn ends() -> Vec<Case> {
+    let oven = |length: usize| OVEN.to_string() + &" ".repeat(length - OVEN.len());
+    let whole = small(&[]);
+    vec![
+        case("empty", String::new(), Some((2, 1))),
+        case("only_lf", "\n".to_string(), Some((2, 1))),
+        case("last_lf_missing", whole.trim_end().to_string(), Some((2, 12))),
+        case("last_line_missing", whole.replace("compose=a0\n", ""), Some((2, 12))),
+        case("line_more", whole.clone() + "\n", Some((2, 13))),
+        case("byte_more", whole + "x", Some((2, 13))),
+        case("oven", OVEN.to_string(), None),
+        case("bytes_65536", oven(65_536), Some((2, 22))),
+        case("bytes_65537", oven(65_537), Some((1, 0))),
+    ]
+}
+
+/// A predicate of so many nodes.
+fn nodes(count: usize) -> String {
+    let flat = |count: usize| format!("all {}{}", count - 1, " all 0".repeat(count - 1));
+    if count <= 513 {
+        return flat(count);
+    }
+    let mut parts = vec![513; (count - 1) / 513];
+    parts.extend(((count - 1) % 513 > 0).then_some((count - 1) % 513));
+    let parts: Vec<String> = parts.into_iter().map(flat).collect();
+    format!("all {} {}", parts.len(), parts.join(" "))
+}
+
+/// A predicate of this depth.
+fn depth(depth: usize) -> String {
+    "not ".repeat(depth - 1) + "all 0"
+}
+
+/// A sheet with A 2, these ranges, automata of one location with the same set and these edges each, and this composition.
+fn plain(ranges: usize, sync: &str, edges: &[Vec<String>], compose: &str) -> String {
+    let mut text = format!("format=1\nactions=2\nvariables={ranges}\n{}", "variable=0,1\n".repeat(ranges));
+    text += &format!("automata={}\n", edges.len());
+    for edges in edges {
+        text += &format!("sync={sync}\nlocations=1\ninit=all 0\ninv=all 0\nedges={}\n", edges.len());
+        edges.iter().for_each(|edge| text += &format!("edge={edge}\n"));
+    }
+    text + &format!("compose={compose}\n")
+}
+
+/// The composition of so many automata, each beside the rest.
+fn side_by_side(automata: usize) -> String {
+    let last = automata - 1;
+    (0..last).map(|k| format!("par a{k} ")).collect::<String>() + &format!("a{last}")
+}
+
+/// So many edges by this action.
+fn edges(count: usize, action: u32) -> Vec<String> {
+    vec![format!("0,{action},0,all 0"); count]
+}
+
+/// Two automata that share 1 and 2. The first has edges by 1 alone, the second by 2 alone: no merged edge has them, and what they
+/// hold can be as large as the reader lets it.
+fn lost(first: Vec<String>, second: Vec<String>) -> String {
+    plain(1, "1,2", &[first, second], "par a0 a1")
+}
+
+/// Both sides of what the reader counts.
+fn reader_limits() -> Vec<Case> {
+    let edge = |update: String| vec![format!("0,1,0,{update}")];
+    let syn = |count: usize| small(&[(12, &format!("compose={}a0", "syn 1 ".repeat(count)))]);
+    let locations = "init=all 0\ninv=all 0\n".repeat(31);
+    vec![
+        case("actions_63", small(&[(2, "actions=63"), (6, "sync=63"), (11, "edge=0,63,0,eq n0 1")]), None),
+        case("automata_16", plain(0, "", &vec![edges(1, 1); 16], &side_by_side(16)), None),
+        case("locations_32", small(&[(7, format!("locations=32\n{locations}").trim_end())]), None),
+        case("count_512", small(&[(8, &format!("init=all 512{}", " all 0".repeat(512)))]), None),
+        case("depth_24", lost(edge(depth(24)), vec![]), None),
+        case("depth_25", lost(edge(depth(25)), vec![]), Some((9, 11))),
+        case("depth_25_of_numbers", small(&[(8, &format!("init={}eq v0 0", "not ".repeat(23)))]), Some((9, 8))),
+        case("nodes_4096", lost(edge(nodes(4_092)), vec![]), None),
+        case("nodes_4097", lost(edge(nodes(4_093)), vec![]), Some((11, 15))),
+        case("nodes_4097_by_its_line", lost(edge(nodes(4_095)), vec![]), Some((11, 11))),
+        case("edges_512", lost(edges(512, 1), vec![]), None),
+        case("edges_300_and_212", lost(edges(300, 1), edges(212, 2)), None),
+        case("edges_300_and_213", lost(edges(300, 1), edges(213, 2)), Some((15, 315))),
+        case("tree_64", syn(63), None),
+        case("tree_65", syn(64), Some((16, 12))),
+        case("leaves_swapped", plain(1, "", &[edges(1, 1), edges(1, 2)], "par a1 a0"), Some((14, 18))),
+    ]
+}
+
+/// Both sides of what the merger counts, and who takes part.
+fn merger_limits() -> Vec<Case> {
+    let shared = |left: usize, right: usize| plain(0, "1", &[edges(left, 1), edges(right, 1)], "par a0 a1");
+    let alone = |count: usize| plain(1, "", &[edges(count, 1)], "a0");
+    let variables = |count: usize, automata: usize| plain(count, "", &vec![vec![]; automata], &side_by_side(automata));
+    let of_depth = |line: usize, key: &str, n: usize| small(&[(line, &format!("{key}{}", depth(n)))]);
+    let init = |count: usize| plain(0, "", &[vec![]], "a0").replacen("init=all 0", &format!("init={}", nodes(count)), 1);
+    let three = vec![edges(1, 1); 3];
+    vec![
+        case("variables_47_automata_1", variables(47, 1), None),
+        case("variables_48_automata_1", variables(48, 1), Some((31, 0))),
+        case("variables_39_automata_9", variables(39, 9), None),
+        case("variables_40_automata_9", variables(40, 9), Some((31, 0))),
+        case("merged_edges_510", alone(510), None),
+        case("merged_edges_511", alone(511), Some((34, 0))),
+        case("merged_edges_512", shared(16, 32), Some((34, 0))),
+        case("merged_edges_513", shared(19, 27), Some((32, 0))),
+        case("merged_edges_529", shared(23, 23), Some((32, 0))),
+        case("merged_edges_64", shared(8, 8), None),
+        case("init_depth_22", of_depth(8, "init=", 22), None),
+        case("init_depth_23", of_depth(8, "init=", 23), Some((33, 0))),
+        case("inv_depth_22", of_depth(9, "inv=", 22), None),
+        case("inv_depth_23", of_depth(9, "inv=", 23), Some((33, 0))),
+        case("edge_depth_23", of_depth(11, "edge=0,1,0,", 23), None),
+        case("edge_depth_24", of_depth(11, "edge=0,1,0,", 24), Some((33, 0))),
+        case("merged_nodes_4096", init(4_085), None),
+        case("merged_nodes_4097", init(4_086), Some((34, 0))),
+        case("one_of_three", plain(0, "", &three, "par a0 par a1 a2"), None),
+        case("syn_around_all", plain(0, "", &three, "syn 1 par a0 par a1 a2"), None),
+        case("syn_around_first", plain(0, "", &three, "par syn 1 a0 par a1 a2"), None),
+        case("syn_around_both_sides", plain(0, "", &three, "par syn 1 a0 syn 1 par a1 a2"), None),
+        case("syn_around_each", plain(0, "", &three, "par syn 1 a0 par syn 1 a1 syn 1 a2"), None),
+    ]
+}
+
+/// Proposals made by hand, each with its answer, after the text that they are put to; written as in judge.txt.
+pub const JUDGED: &[(&str, &[&str])] = &[
+    (
+        "oven",
+        &[
+            // The paper's own.
+            "step 0|0,0|1|1|1,0|0|yes True",
+            "step 0|0,0|0|2|0,0|1|yes False",
+            "step 1|1,0|0|2|1,0|1|no",
+            "step 0|1,0|0|2|1,0|0|no",
+            "env 1|1,0|0|0|yes",
+            "env 1|1,0|0|1|no",
+            "step 1|0,0|1|1|1,0|1|no",
+            "step 1|0,0|1|0|0,0|1|no",
+            // init is asked at the start alone; inv before; no edge; the door alone; a value that no edge names.
+            "step 1|1,0|0|2|1,0|0|no",
+            "env 0|1,0|0|0|no",
+            "env 1|1,0|1|0|no",
+            "step 1|1,0|0|1|1,0|0|no",
+            "step 1|0,0|0|1|0,0|0|no",
+            "step 1|0,0|0|1|1,0|0|yes True",
+            "env 0|0,0|0|1|yes",
+            // Rows 20 to 24, and the smaller one of two.
+            "step 2|0,0|0|1|1,0|0|refused 20",
+            "env 2|0|9|9|refused 20",
+            "step 0|0|0|1|1,0|0|refused 21",
+            "step 0|0,0|0|1|1,0,0|0|refused 21",
+            "step 0|0,0||1|1,0|0|refused 21",
+            "env 0|0,0|0|0,0|refused 21",
+            "step 0|2,0|0|1|1,0|0|refused 22",
+            "step 0|0,0|0|1|1,1|2|refused 22",
+            "step 0|0,0|-1|1|1,0|0|refused 23",
+            "env 1|0,0|0|2|refused 23",
+            "step 0|0,0|0|1|1,0|2|refused 23",
+            "step 0|0,0|0|3|1,0|0|refused 24",
+        ],
+    ),
+    ("syn_around_all", &["step 0|0,0,0||1|0,0,0||yes True", "step 0|0,0,0||0|0,0,0||no", "step 0|0,0,0||2|0,0,0||no"]),
+    ("one_of_three", &["step 0|0,0,0||1|0,0,0||yes False"]),
+    ("variable_0", &["step 0|0|1|1|0|1|no", "step 0|0|0|1|0|1|yes False", "step 1|0|1|1|0|1|yes False", "step 1|0|0|2|0|1|no"]),
+    ("edge_to_0", &["step 1|0|0|0|0|0|yes False", "step 1|0|0|0|0|1|no", "env 1|0|0|1|yes"]),
+];
