@@ -1,5 +1,5 @@
-//! Sheet texts made by hand, each with the answer that the paper gives it: every row of the reader and the merger, and both
-//! sides of every limit. Names say what a text is about; two that differ in a number stand on either side of a limit.
+//! Sheet texts made by hand, each with the answer that the paper gives it: every row of the reader and the merger, and
+//! both sides of every limit. Names say what a text is about; where two differ in a number, a limit lies between them.
 use crate::rounds::OVEN;
 
 /// A text, and what must come of it.
@@ -226,8 +226,8 @@ fn edges(count: usize, action: u32) -> Vec<String> {
     vec![format!("0,{action},0,all 0"); count]
 }
 
-/// Two automata that share 1 and 2. The first has edges by 1 alone, the second by 2 alone: no merged edge has them, and what they
-/// hold can be as large as the reader lets it.
+/// Two automata that share 1 and 2. The first has edges by 1 alone, the second by 2 alone: no merged edge has them, and
+/// what they hold can be as large as the reader lets it.
 fn lost(first: Vec<String>, second: Vec<String>) -> String {
     plain(1, "1,2", &[first, second], "par a0 a1")
 }

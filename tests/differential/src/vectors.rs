@@ -2,6 +2,20 @@
 use crate::calls::{self, Sheets};
 use crate::reference::judge::{Proposal, NO, REFUSED, YES, YES_MARKED};
 use crate::reference::model::{TABLE_WORDS, TEXT_BYTES};
+use std::fs;
+use std::path::Path;
+
+/// The names of a folder's files; a folder that is not there ends the program as a failure.
+pub fn files_in(folder: &Path) -> Vec<String> {
+    let Ok(entries) = fs::read_dir(folder) else { fail(&format!("there is no folder {}", folder.display())) };
+    entries.map(|entry| entry.expect("an entry").file_name().to_string_lossy().into_owned()).collect()
+}
+
+/// Ends the program as one failure.
+pub fn fail(why: &str) -> ! {
+    println!("FAILED: {why}\n0 passed, 1 failed");
+    std::process::exit(1)
+}
 
 /// What the program writes for a sheet text.
 pub fn program(sheets: &dyn Sheets, text: &[u8]) -> Vec<u8> {

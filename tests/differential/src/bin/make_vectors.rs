@@ -1,22 +1,24 @@
-//! `make_vectors FOLDER`: writes the repository's vectors into a folder. `make_vectors --check FOLDER`: are they what it holds?
+//! `make_vectors FOLDER`: writes the repository's vectors into a folder. `make_vectors --check FOLDER`: does it hold them?
 //!
-//! The texts and proposals of `cases` have answers made by hand, with which the reference must agree. The others are drawn from
-//! seeds, and their answers are the reference's. Nothing here looks at the library.
+//! The texts and proposals of `cases` have answers made by hand, with which the reference must agree. The others are drawn
+//! from seeds, and their answers are the reference's. Nothing here looks at the library.
 use differential::calls::{Reference, Sheets};
 use differential::cases;
 use differential::generate::*;
 use differential::reference::judge::YES;
 use differential::reference::model::{Model, TABLE_WORDS};
 use differential::reference::reader;
-use differential::vectors::{answer_of, judged, program, refused};
+use differential::vectors::{answer_of, fail, files_in, judged, program, refused};
 use std::collections::BTreeMap;
 use std::fs;
 use std::path::Path;
 
-/// How many sheets and damaged texts are drawn, how long a drawn text and its answer may be, and how many proposals a sheet gets.
+/// How many sheets and damaged texts are drawn.
 const SHEETS: usize = 16;
 const DAMAGED: usize = 16;
+/// How long a drawn text may be; its answer three times that.
 const BYTES: usize = 1_500;
+/// How many proposals are put to a drawn sheet.
 const PROPOSALS: usize = 16;
 
 /// Each file's content by its name.
@@ -65,9 +67,13 @@ fn put(files: &mut Files, name: &str, text: &[u8], answer: Vec<u8>) {
 /// What the program writes, which must be what the case says by hand.
 fn answer_by_hand(case: &cases::Case) -> Vec<u8> {
     let answer = program(&Reference, &case.text);
-    match case.refusal {
-        Some((row, line)) => assert_eq!(answer, refused(row, line), "{}", case.name),
-        None => assert!(!answer.starts_with(b"refused"), "{}: {}", case.name, String::from_utf8_lossy(&answer)),
+    let good = match case.refusal {
+        Some((row, line)) => answer == refused(row, line),
+        None => !answer.starts_with(b"refused"),
+    };
+    if !good {
+        let said = String::from_utf8_lossy(&answer);
+        fail(&format!("{} is {:?} by hand, and the reference says {said}", case.name, case.refusal));
     }
     answer
 }
@@ -76,7 +82,10 @@ fn judged_by_hand(files: &Files, name: &str, lines: &[&str]) -> String {
     let mut table = vec![0; TABLE_WORDS];
     assert_eq!(Reference.read(&files[&format!("{name}.in")], &mut table), 0, "{name} is accepted");
     for line in lines {
-        assert_eq!(judged(&Reference, &table, line), answer_of(line), "{name}: {line}");
+        let said = judged(&Reference, &table, line);
+        if said != answer_of(line) {
+            fail(&format!("on {name}, {line}, the reference says {said}"));
+        }
     }
     format!("sheet {name}.in\n{}\n", lines.join("\n"))
 }
@@ -138,9 +147,10 @@ fn write(folder: &Path, files: &Files) -> usize {
 /// Whether the folder holds these files and no other texts.
 fn check(folder: &Path, files: &Files) -> usize {
     println!("are the vectors of {} those that are made?", folder.display());
-    let there = fs::read_dir(folder).expect("the folder can be read");
-    let there = there.map(|entry| entry.expect("an entry").file_name().to_string_lossy().into_owned());
-    let more = there.filter(|name| name != "README.md" && !files.contains_key(name)).map(|name| format!("{name} is not made"));
+    let more = files_in(folder)
+        .into_iter()
+        .filter(|name| name != "README.md" && !files.contains_key(name))
+        .map(|name| format!("{name} is not made"));
     let differs = |(name, content): (&String, &Vec<u8>)| {
         let same = fs::read(folder.join(name)).is_ok_and(|found| found == *content);
         (!same).then(|| format!("{name} is another, or is not there"))

@@ -1,10 +1,11 @@
-//! `vectors FOLDER`: each `NAME.in` as the program would read it, against `NAME.out`; then the proposals of `judge.txt`.
+//! `vectors FOLDER`: each `NAME.in` as the program would read it, against `NAME.out`; then the proposals of judge.txt.
 use differential::calls::{Library, Sheets};
 use differential::reference::model::TABLE_WORDS;
-use differential::vectors::{answer_of, judged, program};
+use differential::vectors::{answer_of, fail, files_in, judged, program};
 use differential::watch::Watch;
+use std::collections::BTreeSet;
 use std::fs;
-use std::path::{Path, PathBuf};
+use std::path::Path;
 
 /// How many passed and failed.
 #[derive(Default)]
@@ -37,37 +38,39 @@ fn shown(bytes: &[u8]) -> String {
 fn main() {
     let folder = std::env::args().nth(1).unwrap_or_else(|| "vectors".to_string());
     println!("vectors of {folder} through the library");
+    let folder = Path::new(&folder);
     let (mut tally, watch) = (Tally::default(), Watch::ending());
-    for input in inputs(Path::new(&folder)) {
-        let text = fs::read(&input).expect("a vector can be read");
-        let expected = fs::read(input.with_extension("out")).expect("each .in has its .out");
-        let name = input.display().to_string();
+    for name in names(folder) {
+        let text = fs::read(folder.join(format!("{name}.in"))).expect("a text can be read");
+        let expected = fs::read(folder.join(format!("{name}.out"))).expect("an answer can be read");
         let got = watch.during(name.clone(), || program(&Library, &text));
         tally.note(&name, &expected, &got);
     }
-    judge_file(&Library, Path::new(&folder), &mut tally, &watch);
+    judge_file(&Library, folder, &mut tally, &watch);
     println!("{} passed, {} failed", tally.passed, tally.failed);
-    std::process::exit(if tally.failed == 0 && tally.passed > 0 { 0 } else { 1 });
+    std::process::exit((tally.failed > 0) as i32);
 }
 
-/// The texts; a folder without one, or with an answer to none, is a failure.
-fn inputs(folder: &Path) -> Vec<PathBuf> {
-    let entries = fs::read_dir(folder).expect("the folder can be read");
-    let paths: Vec<_> = entries.map(|entry| entry.expect("an entry").path()).collect();
-    let of_kind = |kind: &'static str| paths.iter().filter(move |path| path.extension().is_some_and(|extension| extension == kind));
-    let mut inputs: Vec<_> = of_kind("in").cloned().collect();
-    assert!(!inputs.is_empty(), "{} has no text", folder.display());
-    for output in of_kind("out") {
-        assert!(inputs.contains(&output.with_extension("in")), "{} has no text", output.display());
+/// The names of the texts. There are some, and each has its answer and no other has.
+fn names(folder: &Path) -> Vec<String> {
+    let files = files_in(folder);
+    let of_kind = |kind: &'static str| files.iter().filter_map(move |file| Some(file.strip_suffix(kind)?.to_string()));
+    let (texts, answers): (BTreeSet<_>, BTreeSet<_>) = (of_kind(".in").collect(), of_kind(".out").collect());
+    if let Some(name) = texts.symmetric_difference(&answers).next() {
+        fail(&format!("{name} has no text or no answer in {}", folder.display()));
     }
-    inputs.sort();
-    inputs
+    if texts.is_empty() {
+        fail(&format!("{} has no text", folder.display()));
+    }
+    texts.into_iter().collect()
 }
 
 /// The proposals of judge.txt; a folder has some.
 fn judge_file(sheets: &dyn Sheets, folder: &Path, tally: &mut Tally, watch: &Watch) {
-    let lines = fs::read_to_string(folder.join("judge.txt")).expect("the folder has a judge.txt");
-    assert!(lines.lines().count() > 1, "judge.txt has a proposal");
+    let lines = fs::read_to_string(folder.join("judge.txt")).unwrap_or_default();
+    if lines.lines().count() < 2 {
+        fail(&format!("{} has no judge.txt with a proposal", folder.display()));
+    }
     let mut table = Vec::new();
     for (number, line) in lines.lines().enumerate() {
         if let Some(sheet) = line.strip_prefix("sheet ") {
