@@ -204,9 +204,9 @@ fn depth(depth: usize) -> String {
     "not ".repeat(depth - 1) + "all 0"
 }
 
-/// A sheet with A 2, these ranges, automata of one location with the same set and these edges each, and this composition.
-fn plain(ranges: usize, sync: &str, edges: &[Vec<String>], compose: &str) -> String {
-    let mut text = format!("format=1\nactions=2\nvariables={ranges}\n{}", "variable=0,1\n".repeat(ranges));
+/// A sheet with A 2, so many variables, automata of one location with this set and their edges, and this composition.
+fn plain(variables: usize, sync: &str, edges: &[Vec<String>], compose: &str) -> String {
+    let mut text = format!("format=1\nactions=2\nvariables={variables}\n{}", "variable=0,1\n".repeat(variables));
     text += &format!("automata={}\n", edges.len());
     for edges in edges {
         text += &format!("sync={sync}\nlocations=1\ninit=all 0\ninv=all 0\nedges={}\n", edges.len());

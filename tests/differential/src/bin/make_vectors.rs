@@ -1,7 +1,7 @@
-//! `make_vectors FOLDER`: writes the repository's vectors into a folder. `make_vectors --check FOLDER`: does it hold them?
+//! `make_vectors FOLDER` writes the repository's vectors into a folder; `make_vectors --check FOLDER` asks if it has them.
 //!
-//! The texts and proposals of `cases` have answers made by hand, with which the reference must agree. The others are drawn
-//! from seeds, and their answers are the reference's. Nothing here looks at the library.
+//! The texts and proposals of `cases` have answers made by hand, with which the reference must agree. The others are
+//! drawn from seeds, and their answers are the reference's. Nothing here looks at the library.
 use differential::calls::{Reference, Sheets};
 use differential::cases;
 use differential::generate::*;
