@@ -12,7 +12,7 @@ use Rattle.model.specs.Lawful.{Lawful}
 use Rattle.model.specs.Limits.{limits}
 use Rattle.model.specs.Linear.{linear, mergedCount, row31, row32, mergeFault}
 use Rattle.model.specs.Model.{Model}
-use Rattle.model.specs.Table.{row18, modelOf, Opened, unopened, opened, openTable}
+use Rattle.model.specs.Table.{Opened, unopened, opened}
 use Rattle.model.proofs.LimitsLaws.{lawful-is}
 use Rattle.model.proofs.LinearLimits.{linear-lawful}
 use Rattle.model.proofs.TableLaws.{model-given}
@@ -21,6 +21,7 @@ use Rattle.format.specs.Spelling.{textOf}
 use Rattle.format.specs.Writer.{row35}
 use Rattle.format.proofs.FitsLaws.{text-fits}
 use Rattle.format.proofs.LineLaws.{broken-inv}
+use Rattle.exports.proofs.OpenCases.{open-cases}
 
 -- 0 for a refusal
 unfoldable pub textLength : MergeAnswer → ℕ
@@ -59,13 +60,7 @@ model-apart m buffer lawful = go (mergeFault m) refl
     go none e = written e (row35 buffer (textOf (linear m)))
 
 pub merge-apart : (t : List ℕ) (buffer : ℕ) → Apart (mergeAnswer t buffer)
-unfolding mergeAnswer openTable
-merge-apart t buffer = go (row18 (length t))
-  where
-    rest : (o : Option Model) → modelOf t ≡ o → Apart (elim (elim o as (λ x. Opened) [ none ↦ unopened 19 | some m ↦ opened m ]) [ unopened row ↦ unmerged row | opened m ↦ mergeModel m buffer ])
-    rest none e = refusal-apart 19
-    rest (some m) e = model-apart m buffer (lawful-is m .0 (model-given t m e .0))
-
-    go : (b : Bool) → Apart (elim (elim b as (λ x. Opened) [ true ↦ unopened 18 | false ↦ elim (modelOf t) [ none ↦ unopened 19 | some m ↦ opened m ] ]) [ unopened row ↦ unmerged row | opened m ↦ mergeModel m buffer ])
-    go true = refusal-apart 18
-    go false = rest (modelOf t) refl
+unfolding mergeAnswer
+merge-apart t buffer =
+    open-cases t (λ o. Apart (elim o [ unopened row ↦ unmerged row | opened m ↦ mergeModel m buffer ])) (refusal-apart 18) (refusal-apart 19)
+    (λ m e. model-apart m buffer (lawful-is m .0 (model-given t m e .0)))

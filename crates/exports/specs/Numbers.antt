@@ -1,22 +1,24 @@
 -- Answers as one number, for callers in C and Rust.
-use Prim.Native.Nat.{ℕ, _+_, _*_, _^_}
+use Prim.Native.Nat.{ℕ, _+_, _*_, _^_, _≤_}
 use lib.ListN.{length}
-use Rattle.model.specs.Bounds.{maxBytes}
+use Rattle.model.specs.Bounds.{maxActions, maxVariables, maxAutomata, maxBytes}
+use Rattle.model.specs.Runs.{phaseNumber}
+use Rattle.model.specs.Table.{Opened, unopened, opened}
 use Rattle.format.specs.Merger as Merger
 use Rattle.format.specs.Reader as Reader
 use Rattle.format.specs.Writer.{WriteAnswer, unwritten, written}
-use Rattle.judge.specs.RunAnswer.{RunAnswer, notRun, ran}
+use Rattle.judging.specs.Answers.{phaseIs}
+use Rattle.judge.specs.RunAnswer.{RunAnswer, notRun, uneven, answersShort, endShort, ran}
+use Rattle.judge.specs.declared.Ran.{Ran}
+use Rattle.judge.specs.declared.Ran.the-variants as J
+use Rattle.judge.specs.declared.Counted.{Counted}
+use Rattle.judge.specs.declared.Counted.the-variants as S
 use Rattle.text.specs.declared.ReadAnswer.{ReadAnswer}
 use Rattle.text.specs.declared.ReadAnswer.the-variants as R
 use Rattle.merge.specs.declared.MergeAnswer.{MergeAnswer}
 use Rattle.merge.specs.declared.MergeAnswer.the-variants as M
 use Rattle.writer.specs.declared.WriteAnswer as W
 use Rattle.writer.specs.declared.WriteAnswer.the-variants.{Written, Refused}
-
--- a run's: the row that refuses it, or 0. (The answers' numbers are `answerNumber` of crate judge.)
-unfoldable pub runNumber : RunAnswer → ℕ
-runNumber (notRun row) = row
-runNumber (ran r) = 0
 
 -- the reader's: row * 2^32 + line. A text that is accepted has neither.
 unfoldable pub readNumber : Reader.ReadAnswer → ℕ
@@ -63,3 +65,44 @@ mergedLength (M.Refused row) = 0
 unfoldable pub mergedEdges : MergeAnswer → ℕ
 mergedEdges (M.Merged n edges) = edges
 mergedEdges (M.Refused row) = 0
+
+-- a run's: the phase at its end, or 100 + the row that refuses it. The list's own faults have numbers that no row has. (The answers'
+-- numbers are `answerNumber` of crate judging.)
+unfoldable pub runNumber : RunAnswer → ℕ
+runNumber (ran r) = phaseNumber (r .end .phase)
+runNumber (notRun row) = 100 + row
+runNumber uneven = 201
+runNumber answersShort = 202
+runNumber endShort = 203
+
+-- the same of an answer as the code gives it; and its row, which is at most 23
+unfoldable pub ranNumber : Ran → ℕ
+ranNumber (J.Ended phase) = phaseNumber (phaseIs phase)
+ranNumber (J.Refused row) = 100 + row
+ranNumber J.Uneven = 201
+ranNumber J.AnswersShort = 202
+ranNumber J.EndShort = 203
+
+unfoldable pub rowOf : Ran → ℕ
+rowOf (J.Ended phase) = 0
+rowOf (J.Refused row) = row
+rowOf J.Uneven = 0
+rowOf J.AnswersShort = 0
+rowOf J.EndShort = 0
+
+abbrev pub lastRow : ℕ
+lastRow = 23
+
+-- the numbers of a table: A * 2^16 + V * 2^8 + N. Each is below 2^8, so the parts stay apart (the law size-few).
+unfoldable pub sizeNumber : Opened → ℕ
+sizeNumber (unopened row) = row * 2 ^ 32
+sizeNumber (opened m) = m .actions * 2 ^ 16 + length (m .variables) * 2 ^ 8 + length (m .automata)
+
+-- the same of an answer as the code gives it, and its parts
+unfoldable pub countedNumber : Counted → ℕ
+countedNumber (S.Counts actions variables automata) = actions * 2 ^ 16 + variables * 2 ^ 8 + automata
+countedNumber (S.Refused row) = row * 2 ^ 32
+
+unfoldable pub Few : Counted → Type 0
+Few (S.Counts actions variables automata) = (actions ≤ maxActions) × (variables ≤ maxVariables) × (automata ≤ maxAutomata)
+Few (S.Refused row) = Unit {0}

@@ -1,2 +1,3 @@
 pub mod RunCodeLaws
 pub mod RunLaws
+pub mod SizeLaws

@@ -1,38 +1,40 @@
--- Each way out of the code of a run: src/runs.rt, and the row 21 of its lists.
+-- Each way out of the code of a run: src/runs.rt.
 use mathlib.Core.Path.{_≡_, refl, sym, ap, _∙_}
-use mathlib.Core.Bool.{Bool, true, false, not, _&&_, _||_, true≢false}
-use mathlib.Core.List.{List, [], _∷_}
+use mathlib.Core.Bool.{Bool, true, false, not, _&&_, true≢false}
+use mathlib.Core.List.{List, [], _∷_, _++_}
 use Prim.Native.Nat.{ℕ, zero, suc, _+_, _-_, _*_, _/_, _%_, _^_, _≤_, _<_}
 use native.Mathlib.Omega.{arith}
 use native.Mathlib.Numerals.{add-one}
-use native.Mathlib.Nat.{zero-mul, div-add-mod, div-eq-of-eq-mul-right, mul-mod-right}
+use native.Mathlib.Nat.{zero-add, zero-mul, div-add-mod, div-eq-of-eq-mul-right, mul-mod-right}
 use lib.IntN.{ℤ, pos}
-use lib.ListN.{length, getD, take, drop, set, replicate, length-set, length-drop, drop-of-length-le}
-use lib.Seq.{drop-cons, drop-drop, drop-length, take-all}
+use lib.ListN.{length, getD, take, drop, set, length-set, length-drop, drop-of-length-le}
+use lib.Seq.{drop-cons, drop-drop, drop-length, take-all, take-length, paste, paste-zero, paste-suc}
 use lib.Dec.{eqb, leb}
-use borrow.Author.Tests.{le-leb, lt-leb, lt-ltb, le-ltb, leb-false}
+use borrow.Author.Tests.{le-leb, lt-leb, leb-true, leb-false}
 use Rattle.model.specs.Runs.{phaseNumber}
-use Rattle.model.proofs.Tests.{not-true, not-false, eq-of, of-eq, not-eq}
+use Rattle.model.proofs.Tests.{and-left, and-right, not-true, not-false, eq-of, of-eq, not-eq}
 use Rattle.outline.specs.Outline.{countAt}
 use Rattle.table.specs.declared.Checked.{Checked}
 use Rattle.table.specs.declared.Checked.the-variants as C
 use Rattle.judging.specs.declared.Phase.{Phase}
 use Rattle.judging.specs.declared.Phase.the-variants.{Start, Running}
 use Rattle.judging.specs.declared.State.{State}
-use Rattle.judge.specs.declared.Ran.{Ran}
+use Rattle.judge.specs.declared.Ran.the-variants.{Ended, Uneven, AnswersShort, EndShort}
 use Rattle.judge.specs.declared.runs.Turn.{Turn}
 use Rattle.judging.specs.declared.Admitted.{Admitted}
 use Rattle.judging.specs.declared.Admitted.the-variants.{In, Out}
 use Rattle.judging.specs.declared.Answer.{Answer}
 use Rattle.judging.specs.declared.Answer.the-variants.{Yes, Marked, No, Refused}
 use Rattle.judging.specs.Answers.{answerOf, phaseIs, answerNumber}
-use Rattle.judging.specs.States.{filled, stateOf}
+use Rattle.judging.specs.States.{stateOf}
 use Rattle.judging.specs.RowTests.{phaseRead, lengthsFit, locationsKnown, valuesKnown}
 use Rattle.judging.specs.Settled.{variablesShown}
 use Rattle.judging.specs.Taken.{automataShown}
+use Rattle.judging.proofs.CodeLaws.{shown-whole}
+use Rattle.judging.proofs.TakenLaws.{automata-whole}
 use Rattle.judging.specs.Calls.{thenLists, thenPhase, environmentOn, stepOn}
-use Rattle.judge.specs.RunAnswer.{environmentMark, notRun, ranOf}
-use Rattle.judge.specs.RunWords.{listsFit, runChecked, begunOn, judgedOn, proposedOn, movedTo, onward, Gone, turnOn, goOn}
+use Rattle.judge.specs.RunAnswer.{environmentMark, inFront}
+use Rattle.judge.specs.RunWords.{listsFit, endFits, startChecked, begunOn, judgedOn, proposedOn, movedTo, onward, Gone, turnOn, goOn, Left, listedOn, Leaves}
 
 -- `times`
 pub times-none : (total n count : ℕ) → n ≡ 0 → eqb total 0 ≡ eqb total (n * count)
@@ -65,66 +67,63 @@ pub lengths-for-is : (w : List ℕ) (count l v c a n : ℕ) (p q : Bool) → c �
 unfolding listsFit
 lengths-for-is w count l v c a n p q e f g h i = rw (h, i, f, e, g)
 
--- `lists`
-module _ (w l : List ℕ) (v : List ℤ) (count nl nv room : ℕ) where
-  module _ (a b : Bool) (e : a ≡ lengthsFit w (length l) (length v)) (f : b ≡ listsFit w count nl nv) where
-    pub run-21 : (not a || not b) ≡ true → C.Refused 21 ≡ runChecked w l v count nl nv room
-    unfolding runChecked
-    run-21 h = rw (rw (e, f) at h, runChecked)
+-- `end_fits`
+pub end-fits-is : (w : List ℕ) (l v n k : ℕ) → n ≡ automataShown w → k ≡ variablesShown w → (leb n l && leb k v) ≡ endFits w l v
+unfolding endFits
+end-fits-is w l v n k e f = rw (e, f)
 
-    module _ (h : (not a || not b) ≡ false) (c : Bool) (g : c ≡ locationsKnown w l) where
-      pub run-22 : not c ≡ true → C.Refused 22 ≡ runChecked w l v count nl nv room
-      unfolding runChecked
-      run-22 i =
-          let x : locationsKnown w l ≡ false = sym g ∙ not-true c i in
-          rw (rw (e, f) at h, runChecked, x, runChecked)
+-- `start_checked`
+module _ (w l : List ℕ) (v : List ℤ) (a : Bool) (e : a ≡ lengthsFit w (length l) (length v)) where
+  pub start-21 : not a ≡ true → C.Refused 21 ≡ startChecked w l v
+  unfolding startChecked
+  start-21 h =
+      let x : lengthsFit w (length l) (length v) ≡ false = sym e ∙ not-true a h in
+      rw (x, startChecked)
 
-      module _ (i : not c ≡ false) (d : Bool) (j : d ≡ valuesKnown w v) where
-        known : locationsKnown w l ≡ true
-        known = sym g ∙ not-false c i
+  module _ (h : not a ≡ false) (b : Bool) (f : b ≡ locationsKnown w l) where
+    fit : lengthsFit w (length l) (length v) ≡ true
+    fit = sym e ∙ not-false a h
 
-        pub run-23 : not d ≡ true → C.Refused 23 ≡ runChecked w l v count nl nv room
-        unfolding runChecked
-        run-23 k =
-            let y : valuesKnown w v ≡ false = sym j ∙ not-true d k in
-            rw (rw (e, f) at h, runChecked, known, runChecked, y, runChecked)
+    pub start-22 : not b ≡ true → C.Refused 22 ≡ startChecked w l v
+    unfolding startChecked
+    start-22 i =
+        let x : locationsKnown w l ≡ false = sym f ∙ not-true b i in
+        rw (fit, startChecked, x, startChecked)
 
-        pub run-35 : not d ≡ false → room < count → C.Refused 35 ≡ runChecked w l v count nl nv room
-        unfolding runChecked
-        run-35 k s =
-            let y : valuesKnown w v ≡ true = sym j ∙ not-false d k in
-            rw (rw (e, f) at h, runChecked, known, runChecked, y, runChecked, lt-ltb room count s, runChecked)
+    module _ (i : not b ≡ false) (c : Bool) (g : c ≡ valuesKnown w v) where
+      known : locationsKnown w l ≡ true
+      known = sym f ∙ not-false b i
 
-        pub run-passes : not d ≡ false → count ≤ room → C.Good ≡ runChecked w l v count nl nv room
-        unfolding runChecked
-        run-passes k s =
-            let y : valuesKnown w v ≡ true = sym j ∙ not-false d k in
-            rw (rw (e, f) at h, runChecked, known, runChecked, y, runChecked, le-ltb room count s, runChecked)
+      pub start-23 : not c ≡ true → C.Refused 23 ≡ startChecked w l v
+      unfolding startChecked
+      start-23 j =
+          let x : valuesKnown w v ≡ false = sym g ∙ not-true c j in
+          rw (fit, startChecked, known, startChecked, x, startChecked)
 
-  -- `begun`
-  module _ (phase : ℕ) (y : Admitted) (f : y ≡ phaseRead phase) where
-    pub not-in-phase : (row : ℕ) → y ≡ Out row → Out row ≡ begunOn w l v count nl nv room phase
-    unfolding begunOn thenPhase
-    not-in-phase row g = rw (sym f ∙ g)
+      pub start-passes : not c ≡ false → C.Good ≡ startChecked w l v
+      unfolding startChecked
+      start-passes j =
+          let x : valuesKnown w v ≡ true = sym g ∙ not-false c j in
+          rw (fit, startChecked, known, startChecked, x, startChecked)
 
-    module _ (p : Phase) (g : y ≡ In p) (z : Checked) (i : z ≡ runChecked w l v count nl nv room) where
-      pub not-begun : (row : ℕ) → z ≡ C.Refused row → Out row ≡ begunOn w l v count nl nv room phase
-      unfolding begunOn thenPhase thenLists
-      not-begun row j = rw (sym f ∙ g, sym i ∙ j)
+pub ruleset start-laws = (start-21, start-22, start-23, start-passes)
 
-      pub begun-in : z ≡ C.Good → In p ≡ begunOn w l v count nl nv room phase
-      unfolding begunOn thenPhase thenLists
-      begun-in j = rw (sym f ∙ g, sym i ∙ j)
+-- `begun`
+module _ (w l : List ℕ) (v : List ℤ) (phase : ℕ) (y : Admitted) (f : y ≡ phaseRead phase) where
+  pub not-in-phase : (row : ℕ) → y ≡ Out row → Out row ≡ begunOn w l v phase
+  unfolding begunOn thenPhase
+  not-in-phase row g = rw (sym f ∙ g)
 
-pub ruleset run-lists-laws = (run-21, run-22, run-23, run-35, run-passes)
+  module _ (p : Phase) (g : y ≡ In p) (z : Checked) (i : z ≡ startChecked w l v) where
+    pub not-begun : (row : ℕ) → z ≡ C.Refused row → Out row ≡ begunOn w l v phase
+    unfolding begunOn thenPhase thenLists
+    not-begun row j = rw (sym f ∙ g, sym i ∙ j)
+
+    pub begun-in : z ≡ C.Good → In p ≡ begunOn w l v phase
+    unfolding begunOn thenPhase thenLists
+    begun-in j = rw (sym f ∙ g, sym i ∙ j)
 
 pub ruleset begun-laws = (not-in-phase, not-begun, begun-in)
-
--- `refused`
-pub refused-is : (row : ℕ)
-    → _≡_ {A = Ran} (record { row = row; state = record { phase = Start; locations = replicate 16 0; values = replicate 48 (pos 0) } }) (ranOf (notRun row))
-unfolding ranOf stateOf filled
-refused-is row = refl
 
 -- `phase_number`
 pub number-start : (p : Phase) → p ≡ Start → 0 ≡ phaseNumber (phaseIs p)
@@ -272,3 +271,116 @@ all-answers w n v actions ls vs old first answers s at from k g h e f =
     rw (← e, ← f) (ap (λ (x : Gone). x .answers) (going-ends w n v actions ls vs old first answers s at from k g h))
 
 pub ruleset all-laws = (going-first, going-on, all-state, all-answers)
+
+-- `put_words`, `put_values`: the first i items are in their places, and the rest is as it was
+module _ {A : Type 0} (list old : List A) where
+  pub record Putting (lent : List A) (i : ℕ) : Type 0 where
+    pub room : length list ≤ length old
+    pub inside : i ≤ length list
+    pub same : length lent ≡ length old
+    pub so-far : lent ≡ paste old 0 list i
+
+  pub putting-first : length list ≤ length old → Putting old 0
+  putting-first h = record { room = h; inside = omega arith; same = refl; so-far = paste-zero old 0 list }
+
+  putting-item : (lent : List A) (i : ℕ) (x z : A) → Putting lent i → i < length list → x ≡ getD list i z → Putting (set lent i x) (i + 1)
+  putting-item lent i x z p h e =
+      let room = p .room in
+      let at : 0 + i ≡ i = zero-add i in
+      let here : 0 + i < length old = omega arith in
+      record {
+        room = room;
+        inside = omega arith;
+        same = length-set lent i x ∙ p .same;
+        so-far =
+            rw (add-one i)
+            (ap (λ (y : A). set lent i y) e ∙ ap (λ (l : List A). set l i (getD list i z)) (p .so-far) ∙
+            ap (λ (k : ℕ). set (paste old 0 list i) k (getD list i z)) (sym at) ∙ paste-suc old 0 list i z here h);
+      }
+
+  pub putting-on : (lent : List A) (i : ℕ) (z : A) → Putting lent i → i < length list → Putting (set lent i (getD list i z)) (i + 1)
+  putting-on lent i z p h = putting-item lent i (getD list i z) z p h refl
+
+  pub putting-ends : (lent : List A) (i : ℕ) → Putting lent i → length list ≤ i → lent ≡ inFront list old
+  unfolding inFront
+  putting-ends lent i p h =
+      let inside = p .inside in
+      let all : i ≡ length list = omega arith in
+      p .so-far ∙ ap (λ (k : ℕ). paste old 0 list k) all ∙ ap (λ (l : List A). l ++ drop (0 + length list) old) (take-length list) ∙
+      ap (λ (k : ℕ). list ++ drop k old) (zero-add (length list))
+
+pub putting-value : (list old lent : List ℤ) (i : ℕ) (x : ℤ) → Putting list old lent i → i < length list → x ≡ getD list i (pos 0)
+    → Putting list old (set lent i x) (i + 1)
+putting-value list old lent i x p h e = putting-item list old lent i x (pos 0) p h e
+
+pub ruleset put-laws = (putting-first, putting-on, putting-ends)
+
+pub ruleset put-values-laws = (putting-first, putting-value, putting-ends)
+
+-- `keep`: there is room
+module _ (w : List ℕ) (l v n : ℕ) (h : endFits w l v ≡ true) where
+  pub room-for-locations : n ≡ automataShown w → (list : List ℕ) → length list ≡ 16 → length (take n list) ≤ l
+  unfolding endFits
+  room-for-locations e list i =
+      let fits = leb-true (automataShown w) l (and-left (leb (automataShown w) l) _ h) in
+      rw (← automata-whole w list n i e, e) fits
+
+  pub room-for-values : n ≡ variablesShown w → (list : List ℤ) → length list ≡ 48 → length (take n list) ≤ v
+  unfolding endFits
+  room-for-values e list i =
+      let fits = leb-true (variablesShown w) v (and-right (leb (automataShown w) l) _ h) in
+      rw (← shown-whole w list n i e, e) fits
+
+-- and the items are those of the state
+pub kept-locations : (w : List ℕ) (n : ℕ) (list old new : List ℕ) → n ≡ automataShown w → new ≡ inFront (take n list) old
+    → new ≡ inFront (take (automataShown w) list) old
+kept-locations w n list old new e f = rw (← e) f
+
+pub kept-values : (w : List ℕ) (n : ℕ) (list old new : List ℤ) → n ≡ variablesShown w → new ≡ inFront (take n list) old
+    → new ≡ inFront (take (variablesShown w) list) old
+kept-values w n list old new e f = rw (← e) f
+
+pub ruleset keep-laws = (room-for-locations, room-for-values)
+
+-- `listed`
+pub end-has-room : (w : List ℕ) (l v : ℕ) (b : Bool) → b ≡ endFits w l v → not b ≡ false → endFits w l v ≡ true
+end-has-room w l v b f g = sym f ∙ not-false b g
+
+module _ (w : List ℕ) (s : State) (actions ls : List ℕ) (vs : List ℤ) (answers locations : List ℕ) (values : List ℤ) where
+  abbrev left : Left
+  left = listedOn w s actions ls vs answers locations values
+
+  module _ (a : Bool) (e : a ≡ listsFit w (length actions) (length ls) (length vs)) where
+    pub listed-uneven : not a ≡ true → Leaves left Uneven answers locations values
+    unfolding listedOn
+    listed-uneven h =
+        let x : listsFit w (length actions) (length ls) (length vs) ≡ false = sym e ∙ not-true a h in
+        record { is = rw (x, listedOn) }
+
+    module _ (h : not a ≡ false) where
+      even : listsFit w (length actions) (length ls) (length vs) ≡ true
+      even = sym e ∙ not-false a h
+
+      pub listed-short : length answers < length actions → Leaves left AnswersShort answers locations values
+      unfolding listedOn
+      listed-short i = record { is = rw (even, listedOn, lt-leb (length actions) (length answers) i, listedOn) }
+
+      module _ (i : length actions ≤ length answers) (b : Bool) (f : b ≡ endFits w (length locations) (length values)) where
+        room : leb (length actions) (length answers) ≡ true
+        room = le-leb (length actions) (length answers) i
+
+        pub listed-no-end : not b ≡ true → Leaves left EndShort answers locations values
+        unfolding listedOn
+        listed-no-end g =
+            let x : endFits w (length locations) (length values) ≡ false = sym f ∙ not-true b g in
+            record { is = rw (even, listedOn, room, listedOn, x, listedOn) }
+
+        pub listed-ran : not b ≡ false → (end : State) (new l : List ℕ) (v : List ℤ) (p : Phase)
+            → end ≡ goOn w (automataShown w) (variablesShown w) s answers 0 actions ls vs .state
+            → new ≡ goOn w (automataShown w) (variablesShown w) s answers 0 actions ls vs .answers → p ≡ end .phase
+            → l ≡ inFront (take (automataShown w) (end .locations)) locations → v ≡ inFront (take (variablesShown w) (end .values)) values
+            → Leaves left (Ended p) new l v
+        unfolding listedOn
+        listed-ran g end new l v p i j k n o = record { is = rw (even, listedOn, room, listedOn, end-has-room w (length locations) (length values) b f g, listedOn, k, n, o, i, j) }
+
+pub ruleset listed-laws = (listed-uneven, listed-short, listed-no-end, listed-ran)

@@ -1,13 +1,13 @@
 -- A run: the code's over the words of a table is the definitions'.
 use mathlib.Core.Path.{_≡_, refl, sym, ap, _∙_}
-use mathlib.Core.Bool.{Bool, true, false, not, _||_, true≢false}
+use mathlib.Core.Bool.{Bool, true, false, not, cond, true≢false}
 use mathlib.Core.List.{List, [], _∷_, _++_, map}
 use mathlib.Core.Option.{none, some}
 use Prim.Native.Nat.{ℕ, suc, _+_, _*_, _≤_, _<_}
 use native.Mathlib.Omega.{arith}
 use native.Mathlib.Nat.{add-zero, zero-add, mul-suc}
 use lib.IntN.{ℤ, pos}
-use lib.ListN.{length, take, drop, set, take-append-drop, length-drop, length-set}
+use lib.ListN.{length, take, drop, set, take-append-drop, length-drop, length-set, length-map}
 use lib.Seq.{length-take-le, take-suc-set, drop-set-lt, append-snoc}
 use lib.Dec.{eqb, ltb}
 use Rattle.model.specs.Model.{Model}
@@ -15,7 +15,8 @@ use Rattle.model.specs.Table.{Opened, unopened, opened, openTable}
 use Rattle.model.specs.Rules as R
 use Rattle.model.specs.Judge as J
 use Rattle.model.specs.Runs.{Proposal, proposed, Judge, phaseNumber, callOf, tableJudge, goes, Run, andThen, run}
-use Rattle.model.proofs.Tests.{and-left, and-right, not-false, eq-of, le-of, or-none-left, or-none-right, or-same}
+use borrow.Author.Tests.{le-leb, lt-leb}
+use Rattle.model.proofs.Tests.{and-left, and-right, not-false, eq-of, lt-of, le-of}
 use Rattle.table.specs.Check.{answered}
 use Rattle.table.specs.declared.Checked.{Checked}
 use Rattle.table.specs.declared.Checked.the-variants as C
@@ -24,6 +25,7 @@ use Rattle.judging.specs.declared.Phase.{Phase}
 use Rattle.judging.specs.declared.Phase.the-variants.{Start, Running}
 use Rattle.judging.specs.declared.State.{State}
 use Rattle.judge.specs.declared.Ran.{Ran}
+use Rattle.judge.specs.declared.Ran.the-variants as Code
 use Rattle.judging.specs.declared.Admitted.{Admitted}
 use Rattle.judging.specs.declared.Admitted.the-variants.{In, Out}
 use Rattle.judging.specs.declared.Answer.{Answer}
@@ -34,8 +36,8 @@ use Rattle.judging.specs.RowTests.{lengthsFit, locationsKnown, valuesKnown}
 use Rattle.judging.specs.Settled.{variablesShown}
 use Rattle.judging.specs.Taken.{automataShown}
 use Rattle.judging.specs.Calls.{thenLists, thenPhase}
-use Rattle.judge.specs.RunAnswer.{environmentMark, proposalOf, proposalsOf, RunAnswer, notRun, ran, listsMiss, runFrom, runAnswer, ranOf, answersAfter}
-use Rattle.judge.specs.RunWords.{listsFit, runChecked, begunOn, judgedOn, proposedOn, movedTo, Gone, turnOn, goOn}
+use Rattle.judge.specs.RunAnswer.{environmentMark, proposalOf, proposalsOf, RunAnswer, notRun, uneven, answersShort, endShort, ran, isUneven, lacksEnd, runFrom, runAnswer, ranOf, inFront, lentAfter, answersAfter, locationsAfter, valuesAfter}
+use Rattle.judge.specs.RunWords.{listsFit, endFits, startChecked, begunOn, judgedOn, proposedOn, movedTo, Gone, turnOn, goOn, Left, touched, listedOn, Leaves}
 use Rattle.judging.proofs.Filled.{filled-front, filled-twice}
 use Rattle.judging.proofs.RowLaws.{automata-in, variables-in, lengths-row, locations-row, values-row}
 use Rattle.judging.proofs.SettledLaws.{shown-is}
@@ -70,6 +72,10 @@ proposed-exact u a l' v' = go (eqb a environmentMark) refl
     go : (b : Bool) → eqb a environmentMark ≡ b → proposedOn (held u) a l' v' ≡ held (proposed u (proposalOf a l' v'))
     go true e = rw (e, proposedOn, proposalOf) (ap (λ (l : List ℕ). record { phase = Running; locations = l; values = filled 48 (pos 0) v' }) (filled-twice 16 0 (u .locations)))
     go false e = rw (e, proposedOn, proposalOf)
+
+not-not : (b : Bool) → not (not b) ≡ b
+not-not true = refl
+not-not false = refl
 
 -- what holds of both states holds of the one that the run goes to
 goes-to : (P : R.State → Type 0) (x : J.Answer) (u u' : R.State) → P u → P u' → P (goes x u u')
@@ -155,12 +161,13 @@ module _ (t : List ℕ) (m : Model) (e : openTable t ≡ opened m) where
   record Agrees (g : Gone) (old : List ℕ) (k count : ℕ) (r : Run J.Answer) : Type 0 where
     pub state : g .state ≡ held (r .end)
     pub answers : g .answers ≡ take k old ++ (map answerNumber (r .answers) ++ drop (k + count) old)
+    pub shaped : Shaped (r .end)
 
   go-on-exact : (actions ls : List ℕ) (vs : List ℤ) (u : R.State) → Shaped u → length ls ≡ n * length actions → length vs ≡ v * length actions
       → (old : List ℕ) (k : ℕ) → k + length actions ≤ length old
       → Agrees (goOn t n v (held u) old k actions ls vs) old k (length actions) (run (tableJudge t) u (proposalsOf n v actions ls vs))
   unfolding goOn run andThen proposalsOf
-  go-on-exact [] ls vs u shaped h i old k room = record { state = refl; answers = sym (take-append-drop k old) ∙ ap (λ (i : ℕ). take k old ++ drop i old) (sym (add-zero k)) }
+  go-on-exact [] ls vs u shaped h i old k room = record { state = refl; answers = sym (take-append-drop k old) ∙ ap (λ (i : ℕ). take k old ++ drop i old) (sym (add-zero k)); shaped = shaped }
   go-on-exact (a ∷ actions) ls vs u shaped h i old k room =
       let p = proposalOf a (take n ls) (take v vs) in
       let u' = goes (tableJudge t u p) u (proposed u p) in
@@ -174,7 +181,7 @@ module _ (t : List ℕ) (m : Model) (e : openTable t ≡ opened m) where
       let long : suc k + length actions ≤ length (set old k num) = rw (length-set old k num) (omega arith) in
       let rest = go-on-exact actions (drop n ls) (drop v vs) u' (goes-shaped u shaped a (take n ls) (take v vs) one one') others others' (set old k num) (suc k) long in
       rw (turn-state u shaped a (take n ls) (take v vs), turn-number u shaped a (take n ls) (take v vs))
-      (record { state = rest .state; answers = rest .answers ∙ joined old k num (map answerNumber (run (tableJudge t) u' (proposalsOf n v actions (drop n ls) (drop v vs)) .answers)) (length actions) (omega arith) })
+      (record { state = rest .state; answers = rest .answers ∙ joined old k num (map answerNumber (run (tableJudge t) u' (proposalsOf n v actions (drop n ls) (drop v vs)) .answers)) (length actions) (omega arith); shaped = rest .shaped })
     where
       joined : (old : List ℕ) (k num : ℕ) (more : List ℕ) (c : ℕ) → k < length old
           → take (suc k) (set old k num) ++ (more ++ drop (suc k + c) (set old k num)) ≡ take k old ++ (num ∷ more ++ drop (k + suc c) old)
@@ -182,35 +189,37 @@ module _ (t : List ℕ) (m : Model) (e : openTable t ≡ opened m) where
           let z : suc k + c ≡ k + suc c = omega arith in
           rw (take-suc-set old k num h, drop-set-lt (suc k + c) old k num (omega arith), z) (append-snoc (take k old) num (more ++ drop (k + suc c) old))
 
-  -- The whole call. `room` is the length of the place for the answers.
-  module _ (phase : ℕ) (l : List ℕ) (k : List ℤ) (actions ls : List ℕ) (vs : List ℤ) (room : ℕ) where
-    -- no row refuses it, and it is the run from the state
+  -- The whole call; the last three numbers are the lengths of the lent memory.
+  module _ (phase : ℕ) (l : List ℕ) (k : List ℤ) (actions ls : List ℕ) (vs : List ℤ) (answers ends endv : ℕ) where
+    abbrev called : RunAnswer
+    called = runAnswer t phase l k actions ls vs answers ends endv
+
+    -- what comes behind the rows: the list's own faults, then its run
+    abbrev behind : Phase → RunAnswer
+    behind q =
+        cond (isUneven m actions ls vs) uneven
+        (cond (ltb answers (length actions)) answersShort
+        (cond (lacksEnd m ends endv) endShort (ran (run (tableJudge t) (stands q l k) (proposalsOf n v actions ls vs)))))
+
+    -- no row refuses it
     record Begun (q : Phase) : Type 0 where
       pub fits : J.row21 m (stands q l k) ≡ false
-      pub lists : listsMiss m actions ls vs ≡ false
-      pub rooms : ltb room (length actions) ≡ false
-      pub is : runAnswer t phase l k actions ls vs room ≡ ran (run (tableJudge t) (stands q l k) (proposalsOf n v actions ls vs))
+      pub is : called ≡ behind q
 
     -- what the rows say
     unfoldable Told : Admitted → Type 0
-    Told (Out row) = runAnswer t phase l k actions ls vs room ≡ notRun row
+    Told (Out row) = called ≡ notRun row
     Told (In q) = Begun q
-
-    lists-row : not (listsFit t (length actions) (length ls) (length vs)) ≡ listsMiss m actions ls vs
-    unfolding listsFit listsMiss
-    lists-row = rw (automata-in t (sheet .rest) m (sheet .stands), variables-in t (sheet .rest) m (sheet .stands))
 
     module _ (q : Phase) where
       abbrev u : R.State
       u = stands q l k
 
-      lists-told : runFrom t m u actions ls vs room ≡ runAnswer t phase l k actions ls vs room
-          → Told (thenLists (runChecked t l k (length actions) (length ls) (length vs) room) q)
-      lists-told f =
-          rows (J.row21 m u || listsMiss m actions ls vs) refl (locationsKnown t l) refl (valuesKnown t k) refl (ltb room (length actions)) refl
+      rows-told : runFrom t m u actions ls vs answers ends endv ≡ called → Told (thenLists (startChecked t l k) q)
+      rows-told f = rows (lengthsFit t (length l) (length k)) refl (locationsKnown t l) refl (valuesKnown t k) refl
         where
-          r21 : (not (lengthsFit t (length l) (length k)) || not (listsFit t (length actions) (length ls) (length vs))) ≡ (J.row21 m u || listsMiss m actions ls vs)
-          r21 = or-same (lengths-row t (sheet .rest) m (sheet .stands) u) lists-row
+          r21 : (b : Bool) → lengthsFit t (length l) (length k) ≡ b → J.row21 m u ≡ not b
+          r21 b h = sym (lengths-row t (sheet .rest) m (sheet .stands) u) ∙ ap not h
 
           r22 : (b : Bool) → locationsKnown t l ≡ b → J.row22 m u ≡ not b
           r22 b h = sym (locations-row t (sheet .rest) m (sheet .stands) u) ∙ ap not h
@@ -218,63 +227,103 @@ module _ (t : List ℕ) (m : Model) (e : openTable t ≡ opened m) where
           r23 : (b : Bool) → valuesKnown t k ≡ b → J.row23 m u ≡ not b
           r23 b h = sym (values-row t (sheet .rest) m (sheet .stands) (sheet .lawful) u) ∙ ap not h
 
-          rows : (a : Bool) → (J.row21 m u || listsMiss m actions ls vs) ≡ a → (b : Bool) → locationsKnown t l ≡ b → (c : Bool) → valuesKnown t k ≡ c
-              → (d : Bool) → ltb room (length actions) ≡ d → Told (thenLists (runChecked t l k (length actions) (length ls) (length vs) room) q)
-          rows true w b x c y d z = unfold Told runChecked thenLists runFrom in rw (r21 ∙ w, runChecked) (sym (rw w at f))
-          rows false w false x c y d z = unfold Told runChecked thenLists runFrom in rw (r21 ∙ w, runChecked, x, runChecked) (sym (rw (w, r22 false x) at f))
-          rows false w true x false y d z =
-              unfold Told runChecked thenLists runFrom in rw (r21 ∙ w, runChecked, x, runChecked, y, runChecked) (sym (rw (w, r22 true x, r23 false y) at f))
-          rows false w true x true y true z =
-              unfold Told runChecked thenLists runFrom in rw (r21 ∙ w, runChecked, x, runChecked, y, runChecked, z, runChecked) (sym (rw (w, r22 true x, r23 true y, z) at f))
-          rows false w true x true y false z =
-              unfold Told runChecked thenLists runFrom in
-              rw (r21 ∙ w, runChecked, x, runChecked, y, runChecked, z, runChecked)
-              (record {
-                fits = or-none-left (J.row21 m u) (listsMiss m actions ls vs) w;
-                lists = or-none-right (J.row21 m u) (listsMiss m actions ls vs) w;
-                rooms = z;
-                is = sym (rw (w, r22 true x, r23 true y, z) at f);
-              })
+          rows : (a : Bool) → lengthsFit t (length l) (length k) ≡ a → (b : Bool) → locationsKnown t l ≡ b → (c : Bool) → valuesKnown t k ≡ c
+              → Told (thenLists (startChecked t l k) q)
+          rows false w b x c y = unfold Told startChecked thenLists runFrom in rw (w, startChecked) (sym (rw (r21 false w) at f))
+          rows true w false x c y = unfold Told startChecked thenLists runFrom in rw (w, startChecked, x, startChecked) (sym (rw (r21 true w, r22 false x) at f))
+          rows true w true x false y =
+              unfold Told startChecked thenLists runFrom in rw (w, startChecked, x, startChecked, y, startChecked) (sym (rw (r21 true w, r22 true x, r23 false y) at f))
+          rows true w true x true y =
+              unfold Told startChecked thenLists runFrom in
+              rw (w, startChecked, x, startChecked, y, startChecked) (record { fits = r21 true w; is = sym (rw (r21 true w, r22 true x, r23 true y) at f) })
 
-    told : Told (begunOn t l k (length actions) (length ls) (length vs) room phase)
+    told : Told (begunOn t l k phase)
     unfolding begunOn thenPhase
     told =
         phase-read phase
         (λ x o.
-        elim o [ none ↦ notRun 20 | some p ↦ runFrom t m (record { phase = p; locations = l; values = k }) actions ls vs room ] ≡ runAnswer t phase l k actions ls vs room
-        → Told (thenPhase x (runChecked t l k (length actions) (length ls) (length vs) room)))
-        (λ q f. lists-told q f)
+        elim o [ none ↦ notRun 20 | some p ↦ runFrom t m (record { phase = p; locations = l; values = k }) actions ls vs answers ends endv ] ≡ called
+        → Told (thenPhase x (startChecked t l k)))
+        (λ q f. rows-told q f)
         (λ f. unfold Told in sym f)
         (unfold runAnswer in rw (e, runAnswer))
 
-module _ (t : List ℕ) (phase : ℕ) (l : List ℕ) (k : List ℤ) (actions ls : List ℕ) (vs : List ℤ) (old : List ℕ) where
+  -- where the run ends, as the code's arrays hold it
+  module _ (u : R.State) (shaped : Shaped u) where
+    end-phase : held u .phase ≡ phaseFor (u .phase)
+    unfolding stateOf
+    end-phase = refl
+
+    end-locations : take n (held u .locations) ≡ u .locations
+    unfolding stateOf
+    end-locations = rw (automata-is t m sheet) at (in-front t m sheet (u .locations) (shaped .locations))
+
+    end-values : take v (held u .values) ≡ u .values
+    unfolding stateOf
+    end-values = rw (shown-is m (sheet .lawful) t (sheet .rest) (sheet .stands)) at (values-front (u .values) (shaped .values))
+
+  -- the list's own faults, over words
+  lists-even : (actions ls : List ℕ) (vs : List ℤ) → listsFit t (length actions) (length ls) (length vs) ≡ not (isUneven m actions ls vs)
+  unfolding listsFit isUneven
+  lists-even actions ls vs = rw (automata-in t (sheet .rest) m (sheet .stands), variables-in t (sheet .rest) m (sheet .stands)) (sym (not-not _))
+
+  end-room : (ends endv : ℕ) → endFits t ends endv ≡ not (lacksEnd m ends endv)
+  unfolding endFits lacksEnd
+  end-room ends endv = rw (automata-is t m sheet, shown-is m (sheet .lawful) t (sheet .rest) (sheet .stands)) (sym (not-not _))
+
+module _ (t : List ℕ) (phase : ℕ) (l : List ℕ) (k : List ℤ) (actions ls : List ℕ) (vs : List ℤ) (old oldl : List ℕ) (oldv : List ℤ) where
   abbrev whole : RunAnswer
-  whole = runAnswer t phase l k actions ls vs (length old)
+  whole = runAnswer t phase l k actions ls vs (length old) (length oldl) (length oldv)
 
-  abbrev rows : Admitted
-  rows = begunOn t l k (length actions) (length ls) (length vs) (length old) phase
+  -- what the definitions leave
+  abbrev leftOf : RunAnswer → Left
+  leftOf a = record { ran = ranOf a; answers = answersAfter a old; locations = locationsAfter a oldl; values = valuesAfter a oldv }
 
-  -- the code's run, on a table that opens
-  run-exact : (m : Model) (e : openTable t ≡ opened m) (q : Phase) → Begun t m e phase l k actions ls vs (length old) q
-      → let g = goOn t (automataShown t) (variablesShown t) (stateOf q l k) old 0 actions ls vs in
-      (_≡_ {A = Ran} (record { row = 0; state = g .state }) (ranOf whole)) × (g .answers ≡ answersAfter whole old)
-  unfolding ranOf answersAfter listsMiss
-  run-exact m e q b =
-      let u = stands q l k in
-      let r = run (tableJudge t) u (proposalsOf (length (m .automata)) (length (m .variables)) actions ls vs) in
-      let sizes = not-false _ (b .lists) in
-      let one = eq-of (length ls) (length (m .automata) * length actions) (and-left (eqb (length ls) (length (m .automata) * length actions)) _ sizes) in
-      let one' = eq-of (length vs) (length (m .variables) * length actions) (and-right (eqb (length ls) (length (m .automata) * length actions)) _ sizes) in
-      let room : length actions ≤ length old = le-of (length old) (length actions) (b .rooms) in
-      let agrees = go-on-exact t m e actions ls vs u (record { locations = one-each m u (b .fits); values = one-value m u (b .fits) }) one one' old 0 (omega arith) in
-      let count : length (r .answers) ≡ 0 + length actions = run-length (tableJudge t) u _ ∙ proposals-length _ _ actions ls vs ∙ sym (zero-add (length actions)) in
-      rw (automata-is t m (sheet-of t m e), shown-is m (sheet-of t m e .lawful) t (sheet-of t m e .rest) (sheet-of t m e .stands), ← phase-held q, b .is, count)
-      (ap (λ (s : State). record { row = 0; state = s }) (agrees .state), agrees .answers)
+  module _ (m : Model) (e : openTable t ≡ opened m) (q : Phase) (b : Begun t m e phase l k actions ls vs (length old) (length oldl) (length oldv) q) where
+    abbrev run-of : Run J.Answer
+    run-of = run (tableJudge t) (stands q l k) (proposalsOf (length (m .automata)) (length (m .variables)) actions ls vs)
 
-  -- what a refusal gives back
-  by-refusal : (row : ℕ) → whole ≡ notRun row → (r : Ran) → r ≡ ranOf (notRun row) → (r ≡ ranOf whole) × (old ≡ answersAfter whole old)
-  unfolding answersAfter
-  by-refusal row e r f = rw e (f, refl)
+    -- the code's run
+    run-exact : isUneven m actions ls vs ≡ false → length actions ≤ length old
+        → touched t (stateOf q l k) actions ls vs old oldl oldv ≡ leftOf (ran run-of)
+    unfolding ranOf answersAfter locationsAfter valuesAfter lentAfter inFront isUneven
+    run-exact even room =
+        let u = stands q l k in
+        let sizes = not-false _ even in
+        let one = eq-of (length ls) (length (m .automata) * length actions) (and-left (eqb (length ls) (length (m .automata) * length actions)) _ sizes) in
+        let one' = eq-of (length vs) (length (m .variables) * length actions) (and-right (eqb (length ls) (length (m .automata) * length actions)) _ sizes) in
+        let agrees = go-on-exact t m e actions ls vs u (record { locations = one-each m u (b .fits); values = one-value m u (b .fits) }) one one' old 0 (omega arith) in
+        let count : length (map answerNumber (run-of .answers)) ≡ 0 + length actions =
+        length-map (run-of .answers) answerNumber ∙ run-length (tableJudge t) u _ ∙ proposals-length _ _ actions ls vs ∙ sym (zero-add (length actions)) in
+        let start : stateOf q l k ≡ held u = ap (λ (p : Phase). stateOf p l k) (sym (phase-held q)) in
+        let end = run-of .end in
+        let shaped = agrees .shaped in
+        rw (automata-is t m (sheet-of t m e), shown-is m (sheet-of t m e .lawful) t (sheet-of t m e .rest) (sheet-of t m e .stands), start, agrees .state, agrees .answers, count, end-phase t m e end shaped, end-locations t m e end shaped, end-values t m e end shaped)
+
+    -- and the whole list
+    listed-exact : listedOn t (stateOf q l k) actions ls vs old oldl oldv ≡ leftOf whole
+    unfolding listedOn ranOf answersAfter locationsAfter valuesAfter lentAfter
+    listed-exact = rw (b .is) (go (isUneven m actions ls vs) refl (ltb (length old) (length actions)) refl (lacksEnd m (length oldl) (length oldv)) refl)
+      where
+        go : (x : Bool) → isUneven m actions ls vs ≡ x → (y : Bool) → ltb (length old) (length actions) ≡ y → (z : Bool) → lacksEnd m (length oldl) (length oldv) ≡ z
+            → listedOn t (stateOf q l k) actions ls vs old oldl oldv ≡ leftOf (behind t m e phase l k actions ls vs (length old) (length oldl) (length oldv) q)
+        go true f y g z h = rw (lists-even t m e actions ls vs ∙ ap not f, listedOn, f)
+        go false f true g z h =
+            let less = lt-leb (length actions) (length old) (lt-of (length old) (length actions) g) in
+            rw (lists-even t m e actions ls vs ∙ ap not f, listedOn, f, less, listedOn, g)
+        go false f false g true h =
+            let room = le-leb (length actions) (length old) (le-of (length old) (length actions) g) in
+            rw (lists-even t m e actions ls vs ∙ ap not f, listedOn, f, room, listedOn, g, end-room t m e (length oldl) (length oldv) ∙ ap not h, listedOn, h)
+        go false f false g false h =
+            let most = le-of (length old) (length actions) g in
+            let room = le-leb (length actions) (length old) most in
+            rw (lists-even t m e actions ls vs ∙ ap not f, listedOn, f, room, listedOn, g, end-room t m e (length oldl) (length oldv) ∙ ap not h, listedOn, h)
+            (run-exact f most)
+
+  -- what a refusal by a row leaves
+  by-row : (row : ℕ) → whole ≡ notRun row → record { ran = Code.Refused row; answers = old; locations = oldl; values = oldv } ≡ leftOf whole
+  unfolding ranOf answersAfter locationsAfter valuesAfter lentAfter
+  by-row row e = rw e
 
   -- each way out of `run`
   module _ (x : Checked) (e : x ≡ answered (openTable t)) where
@@ -291,11 +340,21 @@ module _ (t : List ℕ) (phase : ℕ) (l : List ℕ) (k : List ℤ) (actions ls 
             let never : C.Good ≡ C.Refused row = rw g at (sym e ∙ f) in
             cc
 
-    pub run-bad : (row : ℕ) → x ≡ C.Refused row → (r : Ran) → r ≡ ranOf (notRun row) → r ≡ ranOf whole
-    run-bad row f r g = by-refusal row (table-out row f) r g .0
+    module _ (row : ℕ) (f : x ≡ C.Refused row) where
+      bad : record { ran = Code.Refused row; answers = old; locations = oldl; values = oldv } ≡ leftOf whole
+      bad = by-row row (table-out row f)
 
-    pub run-bad-keeps : (row : ℕ) → x ≡ C.Refused row → old ≡ answersAfter whole old
-    run-bad-keeps row f = by-refusal row (table-out row f) (ranOf (notRun row)) refl .1
+      pub run-bad : Code.Refused row ≡ ranOf whole
+      run-bad = ap (λ (y : Left). y .ran) bad
+
+      pub bad-answers : old ≡ answersAfter whole old
+      bad-answers = ap (λ (y : Left). y .answers) bad
+
+      pub bad-locations : oldl ≡ locationsAfter whole oldl
+      bad-locations = ap (λ (y : Left). y .locations) bad
+
+      pub bad-values : oldv ≡ valuesAfter whole oldv
+      bad-values = ap (λ (y : Left). y .values) bad
 
     module _ (h : x ≡ C.Good) where
       opens : (m : Model) × (openTable t ≡ opened m)
@@ -309,33 +368,44 @@ module _ (t : List ℕ) (phase : ℕ) (l : List ℕ) (k : List ℤ) (actions ls 
               absurd (true≢false clash)
           go (opened m) g = (m, g)
 
-      module _ (y : Admitted) (i : y ≡ rows) where
-        said : Told t (opens .0) (opens .1) phase l k actions ls vs (length old) y
-        said = rw i (told t (opens .0) (opens .1) phase l k actions ls vs (length old))
+      module _ (y : Admitted) (i : y ≡ begunOn t l k phase) where
+        said : Told t (opens .0) (opens .1) phase l k actions ls vs (length old) (length oldl) (length oldv) y
+        said = rw i (told t (opens .0) (opens .1) phase l k actions ls vs (length old) (length oldl) (length oldv))
 
-        rows-out : (row : ℕ) → y ≡ Out row → whole ≡ notRun row
-        unfolding Told
-        rows-out row j = rw j at said
+        module _ (row : ℕ) (j : y ≡ Out row) where
+          out : record { ran = Code.Refused row; answers = old; locations = oldl; values = oldv } ≡ leftOf whole
+          unfolding Told
+          out = by-row row (rw j at said)
 
-        pub run-out : (row : ℕ) → y ≡ Out row → (r : Ran) → r ≡ ranOf (notRun row) → r ≡ ranOf whole
-        run-out row j r g = by-refusal row (rows-out row j) r g .0
+          pub run-out : Code.Refused row ≡ ranOf whole
+          run-out = ap (λ (z : Left). z .ran) out
 
-        pub run-out-keeps : (row : ℕ) → y ≡ Out row → old ≡ answersAfter whole old
-        run-out-keeps row j = by-refusal row (rows-out row j) (ranOf (notRun row)) refl .1
+          pub out-answers : old ≡ answersAfter whole old
+          out-answers = ap (λ (z : Left). z .answers) out
 
-        module _ (q : Phase) (j : y ≡ In q) where
-          begun : Begun t (opens .0) (opens .1) phase l k actions ls vs (length old) q
+          pub out-locations : oldl ≡ locationsAfter whole oldl
+          out-locations = ap (λ (z : Left). z .locations) out
+
+          pub out-values : oldv ≡ valuesAfter whole oldv
+          out-values = ap (λ (z : Left). z .values) out
+
+        module _ (q : Phase) (j : y ≡ In q) (s : State) (o : s ≡ stateOf q l k) (r : Ran) (new newl : List ℕ) (newv : List ℤ)
+            (d : Leaves (listedOn t s actions ls vs old oldl oldv) r new newl newv) where
+          begun : Begun t (opens .0) (opens .1) phase l k actions ls vs (length old) (length oldl) (length oldv) q
           unfolding Told
           begun = rw j at said
 
-          pub run-room : length actions ≤ length old
-          run-room = le-of (length old) (length actions) (begun .rooms)
+          done : record { ran = r; answers = new; locations = newl; values = newv } ≡ leftOf whole
+          done = d .is ∙ ap (λ (z : State). listedOn t z actions ls vs old oldl oldv) o ∙ listed-exact (opens .0) (opens .1) q begun
 
-          module _ (s : State) (o : s ≡ stateOf q l k) where
-            pub run-ends : (r : State) → r ≡ goOn t (automataShown t) (variablesShown t) s old 0 actions ls vs .state → _≡_ {A = Ran} (record { row = 0; state = r }) (ranOf whole)
-            run-ends r p = ap (λ (z : State). record { row = 0; state = z }) (rw o at p) ∙ run-exact (opens .0) (opens .1) q begun .0
+          pub run-done : r ≡ ranOf whole
+          run-done = ap (λ (z : Left). z .ran) done
 
-            pub run-answers : (new : List ℕ) → new ≡ goOn t (automataShown t) (variablesShown t) s old 0 actions ls vs .answers → new ≡ answersAfter whole old
-            run-answers new p = (rw o at p) ∙ run-exact (opens .0) (opens .1) q begun .1
+          pub done-answers : new ≡ answersAfter whole old
+          done-answers = ap (λ (z : Left). z .answers) done
 
-pub ruleset run-laws = (run-bad, run-bad-keeps, run-out, run-out-keeps, run-ends, run-answers)
+          pub done-locations : newl ≡ locationsAfter whole oldl
+          done-locations = ap (λ (z : Left). z .locations) done
+
+          pub done-values : newv ≡ valuesAfter whole oldv
+          done-values = ap (λ (z : Left). z .values) done

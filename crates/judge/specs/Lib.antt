@@ -1,2 +1,3 @@
 pub mod RunAnswer
 pub mod RunWords
+pub mod TableSize

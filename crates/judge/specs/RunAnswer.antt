@@ -1,20 +1,20 @@
--- A list of proposals put to the judges over one table, as a caller gives it: three lists, and room for the answers.
-use mathlib.Core.Bool.{Bool, true, false, not, cond, _&&_, _||_}
+-- A list of proposals put to the judges over one table, as a caller gives it: three lists, and room for the answers and for the state
+-- at the end.
+use mathlib.Core.Bool.{Bool, true, false, not, cond, _&&_}
 use mathlib.Core.List.{List, [], _∷_, _++_, map}
 use mathlib.Core.Option.{none, some}
 use Prim.Native.Nat.{ℕ, _*_}
 use lib.IntN.{ℤ}
 use lib.ListN.{length, take, drop}
-use lib.Dec.{eqb, ltb}
+use lib.Dec.{eqb, ltb, leb}
 use Rattle.model.specs.Model.{Model}
 use Rattle.model.specs.Table.{unopened, opened, openTable}
 use Rattle.model.specs.Rules.{State}
 use Rattle.model.specs.Judge.{Answer, phaseOf, row21, row22, row23}
 use Rattle.model.specs.Runs.{Proposal, toStep, toEnvironment, tableJudge, Run, run}
-use Rattle.judging.specs.declared.Phase.the-variants.{Start}
 use Rattle.judge.specs.declared.Ran.{Ran}
-use Rattle.judging.specs.Answers.{answerNumber}
-use Rattle.judging.specs.States.{stateOf, held}
+use Rattle.judge.specs.declared.Ran.the-variants.{Ended, Refused, Uneven, AnswersShort, EndShort}
+use Rattle.judging.specs.Answers.{phaseFor, answerNumber}
 
 -- Each proposal has an action, N locations and V values. In place of an action, this number is for the environment judge, which does
 -- not read the locations.
@@ -29,43 +29,72 @@ proposalsOf n v [] locations values = []
 proposalsOf n v (action ∷ actions) locations values =
     proposalOf action (take n locations) (take v values) ∷ proposalsOf n v actions (drop n locations) (drop v values)
 
--- the row that refuses the list as a whole, or its run
+-- What a list is answered with as a whole: a row of the paper, of the table, the phase or the state that the run starts from; a fault of
+-- the list itself, which no row speaks of; or its run.
 pub data RunAnswer : Type 0 where
   notRun : (row : ℕ) → RunAnswer
+  -- not N locations and V values for each action; fewer places for answers than actions; not N places for the locations at the end,
+  -- or not V for the values
+  uneven answersShort endShort : RunAnswer
   ran : Run Answer → RunAnswer
 
--- row 21, of the proposals: N locations and V values for each
-unfoldable pub listsMiss : Model → (actions newLocations : List ℕ) (newValues : List ℤ) → Bool
-listsMiss m actions newLocations newValues =
+-- the tests are true where the fault is there
+unfoldable pub isUneven : Model → (actions newLocations : List ℕ) (newValues : List ℤ) → Bool
+isUneven m actions newLocations newValues =
     not (eqb (length newLocations) (length (m .automata) * length actions) && eqb (length newValues) (length (m .variables) * length actions))
 
--- from state s: rows 21 to 23, and 35 where the answers have no room; then the run
-unfoldable pub runFrom : (table : List ℕ) → Model → State → (actions newLocations : List ℕ) (newValues : List ℤ) (room : ℕ) → RunAnswer
-runFrom table m s actions newLocations newValues room =
-    cond (row21 m s || listsMiss m actions newLocations newValues) (notRun 21)
+unfoldable pub lacksEnd : Model → (endLocations endValues : ℕ) → Bool
+lacksEnd m endLocations endValues = not (leb (length (m .automata)) endLocations && leb (length (m .variables)) endValues)
+
+-- from state s: rows 21 to 23 of it; then the list's own faults in this order; then the run
+unfoldable pub runFrom : (table : List ℕ) → Model → State → (actions newLocations : List ℕ) (newValues : List ℤ) (answers endLocations endValues : ℕ) → RunAnswer
+runFrom table m s actions newLocations newValues answers endLocations endValues =
+    cond (row21 m s) (notRun 21)
     (cond (row22 m s) (notRun 22)
     (cond (row23 m s) (notRun 23)
-    (cond (ltb room (length actions)) (notRun 35)
-    (ran (run (tableJudge table) s (proposalsOf (length (m .automata)) (length (m .variables)) actions newLocations newValues))))))
+    (cond (isUneven m actions newLocations newValues) uneven
+    (cond (ltb answers (length actions)) answersShort
+    (cond (lacksEnd m endLocations endValues) endShort
+    (ran (run (tableJudge table) s (proposalsOf (length (m .automata)) (length (m .variables)) actions newLocations newValues))))))))
 
--- the whole call: rows 18, 19 and 20 come first
-unfoldable pub runAnswer : (table : List ℕ) (phase : ℕ) (locations : List ℕ) (values : List ℤ) (actions newLocations : List ℕ) (newValues : List ℤ) (room : ℕ) → RunAnswer
-runAnswer table phase locations values actions newLocations newValues room =
+-- the whole call: rows 18, 19 and 20 come first. The last three numbers are the lengths of the lent memory.
+unfoldable pub runAnswer : (table : List ℕ) (phase : ℕ) (locations : List ℕ) (values : List ℤ) (actions newLocations : List ℕ) (newValues : List ℤ) (answers endLocations endValues : ℕ) → RunAnswer
+runAnswer table phase locations values actions newLocations newValues answers endLocations endValues =
     elim (openTable table) [
       | unopened row ↦ notRun row
       | opened m ↦
           elim (phaseOf phase) [
             | none ↦ notRun 20
-            | some p ↦ runFrom table m (record { phase = p; locations = locations; values = values }) actions newLocations newValues room
+            | some p ↦
+                runFrom table m (record { phase = p; locations = locations; values = values }) actions newLocations newValues answers endLocations endValues
           ]
     ]
 
--- what the code gives back: the row and a state of zeros, or 0 and the state at the end
+-- what the code gives back
 unfoldable pub ranOf : RunAnswer → Ran
-ranOf (notRun row) = record { row = row; state = stateOf Start [] [] }
-ranOf (ran r) = record { row = 0; state = held (r .end) }
+ranOf (notRun row) = Refused row
+ranOf uneven = Uneven
+ranOf answersShort = AnswersShort
+ranOf endShort = EndShort
+ranOf (ran r) = Ended (phaseFor (r .end .phase))
 
--- what is in the place lent for the answers: their numbers at the front, and the rest as it was
+-- Lent memory afterwards. What a run gives stands at its front, and the rest is as it was; a list that is not run leaves it all as it was.
+unfoldable pub inFront : {A : Type 0} → (new old : List A) → List A
+inFront new old = new ++ drop (length new) old
+
+unfoldable pub lentAfter : {A : Type 0} → (Run Answer → List A) → RunAnswer → List A → List A
+lentAfter given (ran r) old = inFront (given r) old
+lentAfter given (notRun row) old = old
+lentAfter given uneven old = old
+lentAfter given answersShort old = old
+lentAfter given endShort old = old
+
+-- the answers' numbers; the locations and the values at the end
 unfoldable pub answersAfter : RunAnswer → List ℕ → List ℕ
-answersAfter (notRun row) old = old
-answersAfter (ran r) old = map answerNumber (r .answers) ++ drop (length (r .answers)) old
+answersAfter = lentAfter (λ r. map answerNumber (r .answers))
+
+unfoldable pub locationsAfter : RunAnswer → List ℕ → List ℕ
+locationsAfter = lentAfter (λ r. r .end .locations)
+
+unfoldable pub valuesAfter : RunAnswer → List ℤ → List ℤ
+valuesAfter = lentAfter (λ r. r .end .values)

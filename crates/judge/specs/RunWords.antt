@@ -1,15 +1,18 @@
 -- A run over the words of a table, as the code does it. On a good table it is the definitions': the law run-exact.
-use mathlib.Core.Bool.{Bool, true, false, not, _&&_, _||_}
+use mathlib.Core.Path.{_≡_}
+use mathlib.Core.Bool.{Bool, true, false, _&&_}
 use mathlib.Core.List.{List, [], _∷_}
 use Prim.Native.Nat.{ℕ, suc, _+_, _*_, _%_, _^_}
 use lib.IntN.{ℤ}
 use lib.ListN.{length, take, drop, set}
-use lib.Dec.{eqb, ltb, leb}
+use lib.Dec.{eqb, leb}
 use Rattle.model.specs.Runs.{phaseNumber}
 use Rattle.table.specs.declared.Checked.{Checked}
 use Rattle.table.specs.declared.Checked.the-variants as C
 use Rattle.judging.specs.declared.Phase.the-variants.{Running}
 use Rattle.judging.specs.declared.State.{State}
+use Rattle.judge.specs.declared.Ran.{Ran}
+use Rattle.judge.specs.declared.Ran.the-variants.{Ended, Uneven, AnswersShort, EndShort}
 use Rattle.judge.specs.declared.runs.Turn.{Turn}
 use Rattle.judging.specs.declared.Admitted.{Admitted}
 use Rattle.judging.specs.declared.Answer.{Answer}
@@ -21,31 +24,31 @@ use Rattle.judging.specs.RowTests.{phaseRead, lengthsFit, locationsKnown, value
 use Rattle.judging.specs.Settled.{variablesShown}
 use Rattle.judging.specs.Taken.{automataShown}
 use Rattle.judging.specs.Calls.{thenPhase, environmentOn, stepOn}
-use Rattle.judge.specs.RunAnswer.{environmentMark}
+use Rattle.judge.specs.RunAnswer.{environmentMark, inFront}
 
--- row 21 of the proposals: so many locations and values for `count` of them
+-- the proposals' lists: so many locations and values for `count` actions
 unfoldable pub listsFit : (words : List ℕ) (count locations values : ℕ) → Bool
 listsFit words count locations values = eqb locations (automataIn words * count) && eqb values (variablesIn words * count)
 
-module _ (words locations : List ℕ) (values : List ℤ) (count newLocations newValues room : ℕ) where
-  -- rows 21 to 23 and 35
-  unfoldable pub runChecked : Checked
-  runChecked =
-      elim (not (lengthsFit words (length locations) (length values)) || not (listsFit words count newLocations newValues)) [
-        | true ↦ C.Refused 21
-        | false ↦
+-- the places for the state at the end
+unfoldable pub endFits : (words : List ℕ) (locations values : ℕ) → Bool
+endFits words locations values = leb (automataShown words) locations && leb (variablesShown words) values
+
+module _ (words locations : List ℕ) (values : List ℤ) where
+  -- rows 21 to 23
+  unfoldable pub startChecked : Checked
+  startChecked =
+      elim (lengthsFit words (length locations) (length values)) [
+        | false ↦ C.Refused 21
+        | true ↦
             elim (locationsKnown words locations) [
               | false ↦ C.Refused 22
-              | true ↦
-                  elim (valuesKnown words values) [
-                    | false ↦ C.Refused 23
-                    | true ↦ elim (ltb room count) [ true ↦ C.Refused 35 | false ↦ C.Good ]
-                  ]
+              | true ↦ elim (valuesKnown words values) [ false ↦ C.Refused 23 | true ↦ C.Good ]
             ]
       ]
 
   unfoldable pub begunOn : (phase : ℕ) → Admitted
-  begunOn phase = thenPhase (phaseRead phase) runChecked
+  begunOn phase = thenPhase (phaseRead phase) startChecked
 
 -- one proposal, from the state that the run is in
 unfoldable pub judgedOn : (words : List ℕ) → State → (action : ℕ) → List ℕ → List ℤ → Answer
@@ -94,3 +97,43 @@ goOn words n v s answers k [] locations values = record { state = s; answers = a
 goOn words n v s answers k (action ∷ actions) locations values =
     let turn = turnOn words s action (take n locations) (take v values) in
     goOn words n v (turn .state) (set answers k (turn .number)) (suc k) actions (drop n locations) (drop v values)
+
+-- what a list leaves: its answer, and the memory lent for the answers and for the state at the end
+pub record Left : Type 0 where
+  pub ran : Ran
+  pub answers : List ℕ
+  pub locations : List ℕ
+  pub values : List ℤ
+
+module _ (words : List ℕ) (s : State) (actions ls : List ℕ) (vs : List ℤ) (answers locations : List ℕ) (values : List ℤ) where
+  -- the memory as it was
+  abbrev pub untouched : Ran → Left
+  untouched r = record { ran = r; answers = answers; locations = locations; values = values }
+
+  abbrev pub gone : Gone
+  gone = goOn words (automataShown words) (variablesShown words) s answers 0 actions ls vs
+
+  abbrev pub touched : Left
+  touched =
+      record {
+        ran = Ended (gone .state .phase);
+        answers = gone .answers;
+        locations = inFront (take (automataShown words) (gone .state .locations)) locations;
+        values = inFront (take (variablesShown words) (gone .state .values)) values;
+      }
+
+  -- from state s: the list's own faults, or its run
+  unfoldable pub listedOn : Left
+  listedOn =
+      elim (listsFit words (length actions) (length ls) (length vs)) [
+        | false ↦ untouched Uneven
+        | true ↦
+            elim (leb (length actions) (length answers)) [
+              | false ↦ untouched AnswersShort
+              | true ↦ elim (endFits words (length locations) (length values)) [ false ↦ untouched EndShort | true ↦ touched ]
+            ]
+      ]
+
+-- the same of what a call leaves
+pub record Leaves (l : Left) (r : Ran) (answers locations : List ℕ) (values : List ℤ) : Type 0 where
+  pub is : record { ran = r; answers = answers; locations = locations; values = values } ≡ l

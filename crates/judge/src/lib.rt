@@ -8,20 +8,27 @@ pub use judging::State;
 pub use judging::environment;
 pub use judging::number;
 pub use judging::step;
+pub use runs::phase_number;
 use table::Checked;
 ghost use mathlib.Core.Path.{_≡_};
 ghost use lib.ListN.{length};
-ghost use Rattle.judge.specs.RunAnswer.{runAnswer, ranOf, answersAfter};
+ghost use Rattle.model.specs.Table.{openTable};
+ghost use Rattle.judge.specs.RunAnswer.{runAnswer, ranOf, answersAfter, locationsAfter, valuesAfter};
+ghost use Rattle.judge.specs.TableSize.{sizeOf};
 
-// A run's end: row 0 and the state it ends in; or the row that refuses it as a whole, and a state of zeros.
-pub struct Ran {
-    pub row: u32,
-    pub state: State,
+// The phase that a run ends in; or the row that refuses the table, the phase or the state that it starts from; or a fault of the list:
+// not one location for each automaton and one value for each variable at each proposal, no place for each answer, no place for the state.
+pub enum Ran {
+    Ended(Phase),
+    Refused(u32),
+    Uneven,
+    AnswersShort,
+    EndShort,
 }
 
 // Puts a list of proposals to the judges, over one check of the table. For each: its action, or 4294967295 for the environment judge;
 // its locations, which that judge does not read; its values. A yes moves the run to the proposed state. The answers' numbers go into
-// `answers`, and the rest of it is as it was.
+// `answers`, the locations and values at the end into the other two, and what follows them is as it was.
 pub fn run(
     table: &[u32],
     phase: u32,
@@ -31,29 +38,50 @@ pub fn run(
     new_locations: &[u32],
     new_values: &[i32],
     answers: &mut [u32],
+    end_locations: &mut [u32],
+    end_values: &mut [i32],
 ) -> Ran
-    ensures { λ r. ⌜ r ≡ ranOf (runAnswer (now (table .entry)) phase (now (locations .entry)) (now (values .entry)) (now (actions .entry)) (now («new_locations» .entry)) (now («new_values» .entry)) (length (now (answers .entry)))) ⌝ }
-    ensures { λ _. ⌜ now (answers .exit) ≡ answersAfter (runAnswer (now (table .entry)) phase (now (locations .entry)) (now (values .entry)) (now (actions .entry)) (now («new_locations» .entry)) (now («new_values» .entry)) (length (now (answers .entry)))) (now (answers .entry)) ⌝ }
+    ensures { λ r. ⌜ r ≡ ranOf (runAnswer (now (table .entry)) phase (now (locations .entry)) (now (values .entry)) (now (actions .entry)) (now («new_locations» .entry)) (now («new_values» .entry)) (length (now (answers .entry))) (length (now («end_locations» .entry))) (length (now («end_values» .entry)))) ⌝ }
+    ensures { λ _. ⌜ now (answers .exit) ≡ answersAfter (runAnswer (now (table .entry)) phase (now (locations .entry)) (now (values .entry)) (now (actions .entry)) (now («new_locations» .entry)) (now («new_values» .entry)) (length (now (answers .entry))) (length (now («end_locations» .entry))) (length (now («end_values» .entry)))) (now (answers .entry)) ⌝ }
+    ensures { λ _. ⌜ now («end_locations» .exit) ≡ locationsAfter (runAnswer (now (table .entry)) phase (now (locations .entry)) (now (values .entry)) (now (actions .entry)) (now («new_locations» .entry)) (now («new_values» .entry)) (length (now (answers .entry))) (length (now («end_locations» .entry))) (length (now («end_values» .entry)))) (now («end_locations» .entry)) ⌝ }
+    ensures { λ _. ⌜ now («end_values» .exit) ≡ valuesAfter (runAnswer (now (table .entry)) phase (now (locations .entry)) (now (values .entry)) (now (actions .entry)) (now («new_locations» .entry)) (now («new_values» .entry)) (length (now (answers .entry))) (length (now («end_locations» .entry))) (length (now («end_values» .entry)))) (now («end_values» .entry)) ⌝ }
 {
     if let Checked::Refused(row) = table::check(table) {
-        return runs::refused(row);
+        return Ran::Refused(row);
     }
-    let begun = runs::begun(
-        table,
-        phase,
-        locations,
-        values,
-        actions.len(),
-        new_locations.len(),
-        new_values.len(),
-        answers.len(),
-    );
+    let begun = runs::begun(table, phase, locations, values);
     match begun {
-        Admitted::Out(row) => runs::refused(row),
+        Admitted::Out(row) => Ran::Refused(row),
         Admitted::In(p) => {
             let start = State::of(p, locations, values);
-            let state = runs::all(table, start, actions, new_locations, new_values, answers);
-            Ran { row: 0, state }
+            runs::listed(
+                table,
+                start,
+                actions,
+                new_locations,
+                new_values,
+                answers,
+                end_locations,
+                end_values,
+            )
         }
     }
+}
+
+// How many actions (the silent one not counted), variables and automata a table has; or the row that refuses it.
+pub enum Counted {
+    Counts(usize, usize, usize),
+    Refused(u32),
+}
+
+pub fn size(table: &[u32]) -> Counted
+    ensures { λ r. ⌜ r ≡ sizeOf (openTable (now (table .entry))) ⌝ }
+{
+    if let Checked::Refused(row) = table::check(table) {
+        return Counted::Refused(row);
+    }
+    let actions = outline::word(table, 1);
+    let variables = outline::word(table, 2);
+    let automata = outline::word(table, outline::count_at(table));
+    Counted::Counts(actions, variables, automata)
 }

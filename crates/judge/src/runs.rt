@@ -6,15 +6,17 @@ use judging::Phase;
 use judging::State;
 use table::Checked;
 ghost use mathlib.Core.Path.{_≡_};
-ghost use Prim.Native.Nat.{_*_, _≤_};
-ghost use lib.ListN.{length};
+ghost use Prim.Native.Nat.{_*_, _≤_, _<_};
+ghost use mathlib.Core.Bool.{true};
+ghost use lib.IntN.{pos};
+ghost use lib.ListN.{length, getD, take};
 ghost use lib.Dec.{eqb};
 ghost use Rattle.model.specs.Runs.{phaseNumber};
 ghost use Rattle.judging.specs.Answers.{phaseIs};
 ghost use Rattle.judging.specs.Settled.{variablesShown};
 ghost use Rattle.judging.specs.Taken.{automataShown};
-ghost use Rattle.judge.specs.RunAnswer.{environmentMark, notRun, ranOf};
-ghost use Rattle.judge.specs.RunWords.{listsFit, runChecked, begunOn, judgedOn, proposedOn, movedTo, onward, turnOn, goOn};
+ghost use Rattle.judge.specs.RunAnswer.{environmentMark, inFront};
+ghost use Rattle.judge.specs.RunWords.{listsFit, endFits, startChecked, begunOn, judgedOn, proposedOn, movedTo, onward, turnOn, goOn, listedOn, Leaves};
 
 // Is the total n times the count? The product is not made: it might not fit.
 fn times(total: usize, n: usize, count: usize) -> bool
@@ -26,7 +28,7 @@ fn times(total: usize, n: usize, count: usize) -> bool
     (total / n == count) & (total % n == 0)
 }
 
-// Row 21 of a run: so many locations and values are those of `count` proposals.
+// So many locations and values are those of `count` proposals.
 fn lengths_for(words: &[u32], count: usize, locations: usize, values: usize) -> bool
     ensures { λ r. ⌜ r ≡ listsFit (now (words .entry)) count locations values ⌝ }
 {
@@ -35,21 +37,18 @@ fn lengths_for(words: &[u32], count: usize, locations: usize, values: usize) -> 
     times(locations, automata, count) & times(values, variables, count)
 }
 
-// Rows 21 to 23 of the state that a run starts from, 21 of the lists of `count` proposals, and 35.
-fn lists(
-    words: &[u32],
-    locations: &[u32],
-    values: &[i32],
-    count: usize,
-    new_locations: usize,
-    new_values: usize,
-    room: usize,
-) -> Checked
-    ensures { λ r. ⌜ r ≡ runChecked (now (words .entry)) (now (locations .entry)) (now (values .entry)) count «new_locations» «new_values» room ⌝ }
+// So many places for locations and values have room for a state.
+fn end_fits(words: &[u32], locations: usize, values: usize) -> bool
+    ensures { λ r. ⌜ r ≡ endFits (now (words .entry)) locations values ⌝ }
 {
-    if !judging::lengths(words, locations.len(), values.len())
-        | !lengths_for(words, count, new_locations, new_values)
-    {
+    (judging::automata(words) <= locations) & (judging::shown(words) <= values)
+}
+
+// Rows 21 to 23 of the state that a run starts from.
+fn start_checked(words: &[u32], locations: &[u32], values: &[i32]) -> Checked
+    ensures { λ r. ⌜ r ≡ startChecked (now (words .entry)) (now (locations .entry)) (now (values .entry)) ⌝ }
+{
+    if !judging::lengths(words, locations.len(), values.len()) {
         return Checked::Refused(21);
     }
     if !judging::locations_known(words, locations) {
@@ -58,55 +57,19 @@ fn lists(
     if !judging::values_known(words, values) {
         return Checked::Refused(23);
     }
-    if room < count {
-        return Checked::Refused(35);
-    }
     Checked::Good
 }
 
-// Rows 20 to 23 and 35: the phase that a run starts in, or the first row that refuses it.
-pub(crate) fn begun(
-    words: &[u32],
-    phase: u32,
-    locations: &[u32],
-    values: &[i32],
-    count: usize,
-    new_locations: usize,
-    new_values: usize,
-    room: usize,
-) -> Admitted
-    ensures { λ r. ⌜ r ≡ begunOn (now (words .entry)) (now (locations .entry)) (now (values .entry)) count «new_locations» «new_values» room phase ⌝ }
+// Rows 20 to 23: the phase that a run starts in, or the first row that refuses it.
+pub(crate) fn begun(words: &[u32], phase: u32, locations: &[u32], values: &[i32]) -> Admitted
+    ensures { λ r. ⌜ r ≡ begunOn (now (words .entry)) (now (locations .entry)) (now (values .entry)) phase ⌝ }
 {
     let read = judging::phase_of(phase);
     match read {
         Admitted::Out(row) => Admitted::Out(row),
-        Admitted::In(p) => {
-            match lists(
-                words,
-                locations,
-                values,
-                count,
-                new_locations,
-                new_values,
-                room,
-            ) {
-                Checked::Refused(row) => Admitted::Out(row),
-                Checked::Good => Admitted::In(p),
-            }
-        }
-    }
-}
-
-// A run that does not begin: a state of zeros.
-pub(crate) fn refused(row: u32) -> Ran
-    ensures { λ r. ⌜ r ≡ ranOf (notRun row) ⌝ }
-{
-    Ran {
-        row,
-        state: State {
-            phase: Phase::Start,
-            locations: [0u32; 16],
-            values: [0i32; 48],
+        Admitted::In(p) => match start_checked(words, locations, values) {
+            Checked::Refused(row) => Admitted::Out(row),
+            Checked::Good => Admitted::In(p),
         },
     }
 }
@@ -117,7 +80,8 @@ fn for_environment(action: u32) -> bool
     action == 4294967295
 }
 
-fn phase_number(phase: Phase) -> u32
+// A phase as its number.
+pub fn phase_number(phase: Phase) -> u32
     ensures { λ r. ⌜ r ≡ phaseNumber (phaseIs phase) ⌝ }
 {
     match phase {
@@ -202,7 +166,7 @@ fn onward(size: usize, at: usize, n: usize) -> usize
 }
 
 // Every proposal in its turn: its locations and values are the next ones. Gives the state at the end.
-pub(crate) fn all(
+fn all(
     words: &[u32],
     start: State,
     actions: &[u32],
@@ -233,4 +197,76 @@ pub(crate) fn all(
         k += 1;
     }
     s
+}
+
+// Puts the items at the front of lent memory.
+fn put_words(list: &[u32], lent: &mut [u32])
+    requires { ⌜ length (now list) ≤ length (now lent) ⌝ }
+    ensures { λ _. ⌜ now (lent .exit) ≡ inFront (now (list .entry)) (now (lent .entry)) ⌝ }
+{
+    let mut i = 0;
+    while i < list.len() {
+        lent[i] = list[i];
+        i += 1;
+    }
+}
+
+fn value_at(list: &[i32], i: usize) -> i32
+    requires { ⌜ i < length (now list) ⌝ }
+    ensures { λ r. ⌜ r ≡ getD (now (list .entry)) i (pos 0) ⌝ }
+{
+    list[i]
+}
+
+fn put_values(list: &[i32], lent: &mut [i32])
+    requires { ⌜ length (now list) ≤ length (now lent) ⌝ }
+    ensures { λ _. ⌜ now (lent .exit) ≡ inFront (now (list .entry)) (now (lent .entry)) ⌝ }
+{
+    let mut i = 0;
+    while i < list.len() {
+        lent[i] = value_at(list, i);
+        i += 1;
+    }
+}
+
+// The locations and values of a state into the memory lent for them.
+fn keep(words: &[u32], s: State, end_locations: &mut [u32], end_values: &mut [i32]) -> Phase
+    requires { ⌜ endFits (now words) (length (now «end_locations»)) (length (now «end_values»)) ≡ true ⌝ }
+    ensures { λ r. ⌜ r ≡ s .phase ⌝ }
+    ensures { λ _. ⌜ now («end_locations» .exit) ≡ inFront (take (automataShown (now (words .entry))) (s .locations)) (now («end_locations» .entry)) ⌝ }
+    ensures { λ _. ⌜ now («end_values» .exit) ≡ inFront (take (variablesShown (now (words .entry))) (s .values)) (now («end_values» .entry)) ⌝ }
+{
+    let n = judging::automata(words);
+    let v = judging::shown(words);
+    let locations = s.locations;
+    let values = s.values;
+    put_words(&locations[..n], end_locations);
+    put_values(&values[..v], end_values);
+    s.phase
+}
+
+// A list from the state that its run starts in: a fault of its own; or the run, with the answers and the end in lent memory.
+pub(crate) fn listed(
+    words: &[u32],
+    start: State,
+    actions: &[u32],
+    new_locations: &[u32],
+    new_values: &[i32],
+    answers: &mut [u32],
+    end_locations: &mut [u32],
+    end_values: &mut [i32],
+) -> Ran
+    ensures { λ r. ⌜ Leaves (listedOn (now (words .entry)) start (now (actions .entry)) (now («new_locations» .entry)) (now («new_values» .entry)) (now (answers .entry)) (now («end_locations» .entry)) (now («end_values» .entry))) r (now (answers .exit)) (now («end_locations» .exit)) (now («end_values» .exit)) ⌝ }
+{
+    if !lengths_for(words, actions.len(), new_locations.len(), new_values.len()) {
+        return Ran::Uneven;
+    }
+    if answers.len() < actions.len() {
+        return Ran::AnswersShort;
+    }
+    if !end_fits(words, end_locations.len(), end_values.len()) {
+        return Ran::EndShort;
+    }
+    let end = all(words, start, actions, new_locations, new_values, answers);
+    Ran::Ended(keep(words, end, end_locations, end_values))
 }

@@ -1,5 +1,5 @@
-//! The six calls, as the library has them and as the reference answers them.
-use crate::reference::{self, judge::Proposal, run::List};
+//! The seven calls, as the library has them and as the reference answers them.
+use crate::reference::{self, judge::Proposal, judge::REFUSED, run::List};
 use hemdoqur::numbers;
 
 /// A way to answer the calls. Numbers and slices only, as in C.
@@ -14,8 +14,17 @@ pub trait Sheets {
     fn step(&self, table: &[u32], proposal: &Proposal, action: u32) -> u32;
     /// 0 no, 1 yes, 100 + row refused; the proposal's new locations play no part
     fn environment(&self, table: &[u32], proposal: &Proposal) -> u32;
-    /// 0, and the judges' answers are at the front of `answers`; else the row that refuses the list
-    fn run(&self, table: &[u32], list: &List, answers: &mut [u32]) -> u32;
+    /// The phase at the end, and what the run gives is at the front of the lent memory; else 100 + the row or fault of the list
+    fn run(&self, table: &[u32], list: &List, lent: Lent) -> u32;
+    /// row * 2^32 + actions * 2^16 + variables * 2^8 + automata
+    fn size(&self, table: &[u32]) -> u64;
+}
+
+/// What a run is lent: for its answers, and for the locations and the values at the end.
+pub struct Lent<'a> {
+    pub answers: &'a mut [u32],
+    pub locations: &'a mut [u32],
+    pub values: &'a mut [i32],
 }
 
 /// A row as the 64-bit answers carry it.
@@ -79,13 +88,22 @@ impl Sheets for Reference {
         reference::environment(table, proposal.phase, proposal.locations, proposal.values, proposal.new_values)
     }
 
-    fn run(&self, table: &[u32], list: &List, answers: &mut [u32]) -> u32 {
-        match reference::run(table, list, answers.len()) {
+    fn run(&self, table: &[u32], list: &List, lent: Lent) -> u32 {
+        match reference::run(table, list, (lent.answers.len(), lent.locations.len(), lent.values.len())) {
             Ok(given) => {
-                answers[..given.len()].copy_from_slice(&given);
-                0
+                lent.answers[..given.answers.len()].copy_from_slice(&given.answers);
+                lent.locations[..given.locations.len()].copy_from_slice(given.locations);
+                lent.values[..given.values.len()].copy_from_slice(given.values);
+                given.phase
             }
-            Err(row) => row,
+            Err(number) => REFUSED + number,
+        }
+    }
+
+    fn size(&self, table: &[u32]) -> u64 {
+        match reference::open(table) {
+            Ok(model) => (model.actions as u64) << 16 | (model.ranges.len() as u64) << 8 | model.automata.len() as u64,
+            Err(row) => row as u64 * ROW,
         }
     }
 }
@@ -123,8 +141,13 @@ impl Sheets for Library {
         numbers::environment(table, from.phase, from.locations, from.values, from.new_values)
     }
 
-    fn run(&self, table: &[u32], list: &List, answers: &mut [u32]) -> u32 {
+    fn run(&self, table: &[u32], list: &List, lent: Lent) -> u32 {
         let &List { phase, locations, values, actions, new_locations, new_values } = list;
-        numbers::run(table, phase, locations, values, actions, new_locations, new_values, answers)
+        let Lent { answers, locations: ends, values: end_values } = lent;
+        numbers::run(table, phase, locations, values, actions, new_locations, new_values, answers, ends, end_values)
+    }
+
+    fn size(&self, table: &[u32]) -> u64 {
+        numbers::size(table)
     }
 }

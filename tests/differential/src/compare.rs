@@ -8,7 +8,7 @@ use crate::watch::Watch;
 use std::ops::RangeInclusive;
 use std::time::{Duration, Instant};
 
-const CALLS: [&str; 6] = ["read", "write", "merge", "step", "environment", "run"];
+const CALLS: [&str; 7] = ["read", "write", "merge", "step", "environment", "run", "size"];
 
 /// The paper's rows that each of them can be refused by.
 const ROWS: [&[RangeInclusive<u32>]; CALLS.len()] =
@@ -129,14 +129,39 @@ impl<'a> Comparison<'a> {
         got
     }
 
-    /// A run's row, and the answers after it.
-    pub fn run(&mut self, table: &[u32], state: &State, listed: &Listed, answers: &[u32]) -> (u32, Vec<u32>) {
+    /// The numbers of a table.
+    pub fn size(&mut self, table: &[u32]) -> u64 {
+        let lent_table = Lent::new(table, self.next_margin());
+        let tried = self.tried;
+        let got = self.timed(6, || tried.size(lent_table.part()));
+        let expected = Reference.size(table);
+        self.row(6, calls::row(expected));
+        self.note(6, differs(&got, &expected).or(lent_table.difference(table)), || shown(table));
+        got
+    }
+
+    /// A run's answer, and the answers and the state after it.
+    pub fn run(&mut self, table: &[u32], state: &State, listed: &Listed, answers: &[u32]) -> (u32, Vec<u32>, State) {
+        self.run_into(table, state, listed, answers, [state.locations.len(), state.values.len()])
+    }
+
+    /// The same with so much room for the locations and the values at the end.
+    pub fn run_into(
+        &mut self,
+        table: &[u32],
+        state: &State,
+        listed: &Listed,
+        answers: &[u32],
+        room: [usize; 2],
+    ) -> (u32, Vec<u32>, State) {
         let margin = self.next_margin();
         let words = [table, &state.locations, &listed.actions, &listed.locations];
         let values = [&state.values, &listed.values];
         let lent_words = words.map(|list| Lent::new(list, margin));
         let lent_values = values.map(|list| Lent::new(list, margin));
         let mut lent = Lent::new(answers, margin);
+        let (mut expected_locations, mut expected_values) = (vec![0xAAAA_AAAA; room[0]], vec![0x5555_5555; room[1]]);
+        let (mut ends, mut end_values) = (Lent::new(&expected_locations, margin), Lent::new(&expected_values, margin));
         let list = List {
             phase: state.phase,
             locations: lent_words[1].part(),
@@ -146,17 +171,23 @@ impl<'a> Comparison<'a> {
             new_values: lent_values[1].part(),
         };
         let tried = self.tried;
-        let got = self.timed(5, || tried.run(lent_words[0].part(), &list, lent.part_mut()));
+        let memory = calls::Lent { answers: lent.part_mut(), locations: ends.part_mut(), values: end_values.part_mut() };
+        let got = self.timed(5, || tried.run(lent_words[0].part(), &list, memory));
         let mut expected_answers = answers.to_vec();
-        let expected = Reference.run(table, &listed.from(state), &mut expected_answers);
-        self.row(5, expected);
-        self.listed += if expected == 0 { listed.actions.len() as u64 } else { 0 };
+        let memory =
+            calls::Lent { answers: &mut expected_answers, locations: &mut expected_locations, values: &mut expected_values };
+        let expected = Reference.run(table, &listed.from(state), memory);
+        self.row(5, expected.saturating_sub(REFUSED));
+        self.listed += if expected < REFUSED { listed.actions.len() as u64 } else { 0 };
         let found = differs(&(got as u64), &(expected as u64))
             .or(lent.difference(&expected_answers))
+            .or(ends.difference(&expected_locations))
+            .or(end_values.difference(&expected_values))
             .or(lent_words.iter().zip(words).find_map(|(lent, list)| lent.difference(list)))
             .or(lent_values.iter().zip(values).find_map(|(lent, list)| lent.difference(list)));
-        self.note(5, found, || format!("{state:?} {listed:?}, room for {}, {}", answers.len(), shown(table)));
-        (got, lent.part().to_vec())
+        self.note(5, found, || format!("{state:?} {listed:?}, room for {} and {room:?}, {}", answers.len(), shown(table)));
+        let end = State { phase: got, locations: ends.part().to_vec(), values: end_values.part().to_vec() };
+        (got, lent.part().to_vec(), end)
     }
 
     /// A law that must hold of the tried answers themselves.

@@ -1,4 +1,4 @@
-//! What a round puts to the six calls: a sheet drawn from its seed, damage of it, and runs over it.
+//! What a round puts to the seven calls: a sheet drawn from its seed, damage of it, and runs over it.
 use crate::calls;
 use crate::compare::Comparison;
 use crate::generate::*;
@@ -53,6 +53,7 @@ pub fn round(comparison: &mut Comparison, seed: u64) {
     }
     let out = written(comparison, &mut random, &table, false);
     comparison.law("writing after reading gives the text", out.as_deref() == Some(&text), || String::from_utf8_lossy(&text).into());
+    comparison.size(&table);
     judged(comparison, &mut random, &model, &table);
     runs::lists(comparison, &mut random, &model, &table);
     damaged_tables(comparison, &mut random, &model, &table);
@@ -247,6 +248,7 @@ fn faulty_tables(comparison: &mut Comparison, random: &mut Random, model: &Model
 fn on_any_table(comparison: &mut Comparison, random: &mut Random, model: &Model, table: &[u32]) {
     let (answer, out) = comparison.write(table, &vec![0; TEXT_BYTES]);
     comparison.merge(table, &vec![0; TEXT_BYTES]);
+    comparison.size(table);
     for _ in 0..2 {
         let from = state(random, model);
         let proposed = proposal(random, model, &from);

@@ -25,9 +25,10 @@ impl Told {
         }
     }
 
-    fn try_as_one(&self, comparison: &mut Comparison, table: &[u32]) {
-        let (row, answers) = comparison.run(table, &self.from, &self.list, &vec![5; self.answers.len()]);
-        comparison.law("a run answers as the judges do", row == 0 && answers == self.answers, || {
+    /// One call answers as the single ones did, and ends where they have led.
+    fn try_as_one(&self, comparison: &mut Comparison, table: &[u32], end: &State) {
+        let (_, answers, ended) = comparison.run(table, &self.from, &self.list, &vec![5; self.answers.len()]);
+        comparison.law("a run answers as the judges do", ended == *end && answers == self.answers, || {
             format!("{:?} {:?}", self.from, self.list)
         });
     }
@@ -55,9 +56,9 @@ pub fn run(comparison: &mut Comparison, random: &mut Random, model: &Model, tabl
         }
         here = moved(here, &proposed, answer);
     }
-    told_here.try_as_one(comparison, table);
+    told_here.try_as_one(comparison, table, &here);
     if let Some(merged) = merged {
-        told_there.try_as_one(comparison, merged);
+        told_there.try_as_one(comparison, merged, &there);
         comparison.runs += 1;
         comparison.law("runs are alike", alike && joined(&here) == there, || format!("{here:?} {there:?}"));
     }
@@ -87,13 +88,17 @@ fn translation(proposed: &Proposed, there: &State, variables: usize) -> Proposed
     }
 }
 
-/// Lists in one call: good ones with more and less room for the answers, and faulty ones.
+/// Lists in one call: good ones with more and less room for the answers and for the end, and faulty ones.
 pub fn lists(comparison: &mut Comparison, random: &mut Random, model: &Model, table: &[u32]) {
     let from = state(random, model);
     let list = list(random, model, &from);
     let count = list.actions.len();
     for room in [count, count + 1, count + 9, count.saturating_sub(1), 0] {
         comparison.run(table, &from, &list, &vec![0xEEEE_EEEE; room]);
+    }
+    let (n, v) = (from.locations.len(), from.values.len());
+    for room in [[n + 1, v + 1], [n + 20, v], [n, v + 50], [n - 1, v], [n, v.saturating_sub(1)], [0, 0]] {
+        comparison.run_into(table, &from, &list, &vec![2; count], room);
     }
     for other in wrong_lengths(&list) {
         comparison.run(table, &from, &other, &vec![0; count + 1]);

@@ -1,5 +1,5 @@
 //! The reference on the cases that the paper states itself, and the harness on calls that are wrong.
-use differential::calls::{self, Reference, Sheets};
+use differential::calls::{self, Lent, Reference, Sheets};
 use differential::compare::Comparison;
 use differential::generate::{self, Random};
 use differential::reference::judge::{step_of, Proposal, REFUSED};
@@ -42,22 +42,24 @@ fn on_that_oven() {
     assert_eq!(step(&unshared, 0, ([0, 0], 0), 1, ([1, 0], 0)), 0);
 }
 
-/// A list on the oven from location 0 of both and value 0, and what is then in the place of six answers.
-fn run(phase: u32, actions: &[u32], new_locations: &[u32], new_values: &[i32]) -> (u32, [u32; 6]) {
-    let mut answers = [9; 6];
+/// A list on the oven from location 0 of both and value 0, and what is then in the place of six answers and of the state at the end.
+fn run(phase: u32, actions: &[u32], new_locations: &[u32], new_values: &[i32]) -> (u32, [u32; 6], [u32; 2], [i32; 1]) {
+    let (mut answers, mut locations, mut values) = ([9; 6], [9; 2], [9; 1]);
     let list = List { phase, locations: &[0, 0], values: &[0], actions, new_locations, new_values };
-    (Reference.run(&table_of(OVEN), &list, &mut answers), answers)
+    let lent = Lent { answers: &mut answers, locations: &mut locations, values: &mut values };
+    (Reference.run(&table_of(OVEN), &list, lent), answers, locations, values)
 }
 
 #[test]
 fn only_a_yes_moves_a_run() {
     let answers = run(0, &[2, 1, ENVIRONMENT, ENVIRONMENT, 3], &[0, 0, 1, 0, 7, 7, 7, 7, 1, 0], &[1, 0, 1, 0, 0]);
-    assert_eq!(answers, (0, [1, 2, 0, 1, 124, 9]));
-    assert_eq!(run(0, &[1, 1], &[2, 0, 1, 0], &[0, 0]), (0, [122, 2, 9, 9, 9, 9]));
-    assert_eq!(run(1, &[], &[], &[]), (0, [9; 6]));
-    assert_eq!(run(1, &[1; 7], &[0; 14], &[0; 7]), (35, [9; 6]));
-    assert_eq!(run(1, &[1; 7], &[0; 14], &[0; 8]), (21, [9; 6]));
-    assert_eq!(run(2, &[1; 7], &[0; 14], &[0; 8]), (20, [9; 6]));
+    assert_eq!(answers, (1, [1, 2, 0, 1, 124, 9], [1, 0], [0]));
+    assert_eq!(run(0, &[1, 1], &[2, 0, 1, 0], &[0, 0]), (1, [122, 2, 9, 9, 9, 9], [1, 0], [0]));
+    assert_eq!(run(0, &[1], &[2, 0], &[0]), (0, [122, 9, 9, 9, 9, 9], [0, 0], [0]));
+    assert_eq!(run(1, &[], &[], &[]), (1, [9; 6], [0, 0], [0]));
+    assert_eq!(run(1, &[1; 7], &[0; 14], &[0; 7]), (202, [9; 6], [9; 2], [9]));
+    assert_eq!(run(1, &[1; 7], &[0; 14], &[0; 8]), (201, [9; 6], [9; 2], [9]));
+    assert_eq!(run(2, &[1; 7], &[0; 14], &[0; 8]), (120, [9; 6], [9; 2], [9]));
 }
 
 #[test]
@@ -134,6 +136,8 @@ enum Wrong {
     Mark,
     Rest,
     Still,
+    End,
+    Size,
 }
 
 impl Sheets for Wrong {
@@ -170,13 +174,16 @@ impl Sheets for Wrong {
         Reference.environment(table, proposal)
     }
 
-    fn run(&self, table: &[u32], list: &List, answers: &mut [u32]) -> u32 {
-        let row = Reference.run(table, list, answers);
+    fn run(&self, table: &[u32], list: &List, lent: Lent) -> u32 {
+        let Lent { answers, locations, values } = lent;
+        let answer = Reference.run(table, list, Lent { answers, locations, values });
         let count = list.actions.len();
         match self {
-            Wrong::Rest if row == 0 && count < answers.len() => answers[count] = 0,
+            Wrong::Rest if answer < REFUSED && count < answers.len() => answers[count] = 0,
+            // The state at the end is that of the beginning.
+            Wrong::End if answer < REFUSED => values[..list.values.len()].copy_from_slice(list.values),
             // The last proposal is judged from where the run began.
-            Wrong::Still if row == 0 && count > 0 => {
+            Wrong::Still if answer < REFUSED && count > 0 => {
                 let (n, v) = (list.new_locations.len() / count, list.new_values.len() / count);
                 let last = List {
                     actions: &list.actions[count - 1..],
@@ -184,17 +191,27 @@ impl Sheets for Wrong {
                     new_values: &list.new_values[v * (count - 1)..],
                     ..*list
                 };
-                Reference.run(table, &last, &mut answers[count - 1..]);
+                let lent = Lent { answers: &mut answers[count - 1..], locations: &mut [0; 16], values: &mut [0; 48] };
+                Reference.run(table, &last, lent);
             }
             _ => {}
         }
-        row
+        answer
+    }
+
+    fn size(&self, table: &[u32]) -> u64 {
+        let answer = Reference.size(table);
+        if matches!(self, Wrong::Size) && calls::row(answer) == 0 {
+            answer & !0xFF_0000
+        } else {
+            answer
+        }
     }
 }
 
 #[test]
 fn wrong_calls_are_noticed() {
-    for wrong in [Wrong::Answer, Wrong::Table, Wrong::Buffer, Wrong::Mark, Wrong::Rest, Wrong::Still] {
+    for wrong in [Wrong::Answer, Wrong::Table, Wrong::Buffer, Wrong::Mark, Wrong::Rest, Wrong::Still, Wrong::End, Wrong::Size] {
         let mut comparison = Comparison::new(&wrong);
         comparison.quiet = true;
         rounds::fixed(&mut comparison);

@@ -1,5 +1,5 @@
 -- `judge::run` meets its contract: each way out is a law of RunLaws.
-use Rattle.judge.proofs.RunLaws.{run-room, run-laws}
+use Rattle.judge.proofs.RunLaws.{run-bad, bad-answers, bad-locations, bad-values, run-out, out-answers, out-locations, out-values, run-done, done-answers, done-locations, done-values}
 use borrow.Author.Needs.{needs}
 use Rattle.judge.proofs.run.Statement.{statement}
 use Rattle.judge.proofs.run.Tie as tie
@@ -10,11 +10,8 @@ check-requires c κs = search needs
 enum-known-row : tie.Need-enum-known-row
 enum-known-row c = search needs
 
-refused-requires : tie.Need-refused-requires
-refused-requires c κs = search needs
-
 returns : tie.Need-returns
-returns c = search (needs, run-laws)
+returns c = (search (needs, run-bad), (search (needs, bad-answers), (search (needs, bad-locations), search (needs, bad-values))))
 
 enum-told : tie.Need-enum-told
 enum-told c = search needs
@@ -25,26 +22,29 @@ begun-requires c κs = search needs
 enum-known-begun : tie.Need-enum-known-begun
 enum-known-begun c = search needs
 
-refused-requires-2 : tie.Need-refused-requires-2
-refused-requires-2 c κs = search needs
-
 enum-known-begun-2 : tie.Need-enum-known-begun-2
 enum-known-begun-2 c = search needs
 
 of-requires : tie.Need-of-requires
 of-requires c κs = search needs
 
-all-requires : tie.Need-all-requires
-all-requires c κs = search (needs, run-room)
+listed-requires : tie.Need-listed-requires
+listed-requires c κs = search needs
 
 returns-2 : tie.Need-returns-2
-returns-2 c = search (needs, run-laws)
+returns-2 c = (search (needs, run-out), (search (needs, out-answers), (search (needs, out-locations), search (needs, out-values))))
 
 same-length : tie.Need-same-length
 same-length c = search needs
 
+same-length-2 : tie.Need-same-length-2
+same-length-2 c = search needs
+
+same-length-3 : tie.Need-same-length-3
+same-length-3 c = search needs
+
 returns-3 : tie.Need-returns-3
-returns-3 c = search (needs, run-laws)
+returns-3 c = (search (needs, run-done), (search (needs, done-answers), (search (needs, done-locations), search (needs, done-values))))
 
 pub run-spec : {M : Type 1} → statement M
 run-spec =
@@ -52,15 +52,15 @@ run-spec =
     (tie.spec
     check-requires
     enum-known-row
-    refused-requires
     returns
     enum-told
     begun-requires
     enum-known-begun
-    refused-requires-2
     enum-known-begun-2
     of-requires
-    all-requires
+    listed-requires
     returns-2
     same-length
+    same-length-2
+    same-length-3
     returns-3)

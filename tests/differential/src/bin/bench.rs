@@ -133,8 +133,10 @@ impl Subject {
             new_values: &new_values,
         };
         let mut answers = [0; LISTED];
+        let (mut end_locations, mut end_values) = (self.locations.clone(), values.clone());
         let whole = time(|| {
-            black_box(sheets.run(&self.table, &list, &mut answers));
+            let lent = calls::Lent { answers: &mut answers, locations: &mut end_locations, values: &mut end_values };
+            black_box(sheets.run(&self.table, &list, lent));
         });
         assert!(answers.iter().all(|answer| is_yes(*answer)), "{}: {answers:?}", self.name);
         whole / LISTED as f64

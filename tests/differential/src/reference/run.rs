@@ -17,32 +17,50 @@ pub struct List<'a> {
     pub new_values: &'a [i32],
 }
 
-/// The answers, for which there is so much room; or the row that refuses the list as a whole.
-pub fn run(table: &[u32], list: &List, room: usize) -> Result<Vec<u32>, u32> {
+/// What a list is refused with beside rows: its lengths do not fit together; there is no place for each answer; or none for each
+/// location or value at the end.
+pub const UNEVEN: u32 = 101;
+pub const ANSWERS_SHORT: u32 = 102;
+pub const END_SHORT: u32 = 103;
+
+/// How many answers, locations and values there is room for.
+pub type Rooms = (usize, usize, usize);
+
+/// What a run gives: the answers, and the state at the end.
+pub struct Given<'a> {
+    pub answers: Vec<u32>,
+    pub phase: u32,
+    pub locations: &'a [u32],
+    pub values: &'a [i32],
+}
+
+/// The run; or the row that refuses the table, the phase or the beginning, or a fault of the list.
+pub fn run<'a>(table: &[u32], list: &List<'a>, rooms: Rooms) -> Result<Given<'a>, u32> {
     let model = open(table)?;
-    if let Some(row) = list_refusal(&model, list) {
-        return Err(row);
+    match beginning_refusal(&model, list).or_else(|| list_fault(&model, list, rooms)) {
+        Some(number) => Err(number),
+        None => Ok(given(&model, list)),
     }
-    if room < list.actions.len() {
-        return Err(35);
-    }
-    Ok(answers(&model, list))
 }
 
-/// Rows 20 to 23, of the state where it begins; 21 also of the proposals' lists.
-fn list_refusal(model: &Model, list: &List) -> Option<u32> {
+/// Rows 20 to 23 of the state where it begins.
+fn beginning_refusal(model: &Model, list: &List) -> Option<u32> {
     let &List { phase, locations, values, .. } = list;
-    let beginning = refusal(model, &Proposal { phase, locations, values, new_locations: locations, new_values: values });
-    let count = list.actions.len();
-    let fits = list.new_locations.len() == count * model.automata.len() && list.new_values.len() == count * model.ranges.len();
-    match beginning {
-        Some(20) => Some(20),
-        row if fits => row,
-        _ => Some(21),
-    }
+    refusal(model, &Proposal { phase, locations, values, new_locations: locations, new_values: values })
 }
 
-fn answers(model: &Model, list: &List) -> Vec<u32> {
+fn list_fault(model: &Model, list: &List, (answers, locations, values): Rooms) -> Option<u32> {
+    let (count, automata, variables) = (list.actions.len(), model.automata.len(), model.ranges.len());
+    if list.new_locations.len() != count * automata || list.new_values.len() != count * variables {
+        return Some(UNEVEN);
+    }
+    if answers < count {
+        return Some(ANSWERS_SHORT);
+    }
+    (locations < automata || values < variables).then_some(END_SHORT)
+}
+
+fn given<'a>(model: &Model, list: &List<'a>) -> Given<'a> {
     let (automata, variables) = (model.automata.len(), model.ranges.len());
     let (mut phase, mut locations, mut values) = (list.phase, list.locations, list.values);
     let mut answers = Vec::new();
@@ -58,5 +76,5 @@ fn answers(model: &Model, list: &List) -> Vec<u32> {
         }
         answers.push(answer);
     }
-    answers
+    Given { answers, phase, locations, values }
 }

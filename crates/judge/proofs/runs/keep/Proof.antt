@@ -1,0 +1,56 @@
+-- `judge::runs::keep` meets its contract: the laws of RunCodeLaws on room and on what is kept.
+use Rattle.judge.proofs.RunCodeLaws.{kept-locations, kept-values, keep-laws}
+use Rattle.judging.proofs.CodeLaws.{shown-fits, shown-whole}
+use Rattle.judging.proofs.TakenLaws.{automata-fit, automata-whole}
+use borrow.Author.Needs.{needs}
+use Rattle.judge.proofs.runs.keep.Statement.{statement}
+use Rattle.judge.proofs.runs.keep.Tie as tie
+
+automata-requires : tie.Need-automata-requires
+automata-requires c κs = search needs
+
+shown-requires : tie.Need-shown-requires
+shown-requires c κs = search needs
+
+array-share-prefix-locations : tie.Need-array-share-prefix-locations
+array-share-prefix-locations c = search (needs, automata-fit)
+
+slice-aggregate-put-words : tie.Need-slice-aggregate-put-words
+slice-aggregate-put-words c = search (needs, automata-whole)
+
+put-words-requires : tie.Need-put-words-requires
+put-words-requires c κs = search (needs, keep-laws)
+
+array-share-prefix-values : tie.Need-array-share-prefix-values
+array-share-prefix-values c = search (needs, shown-fits)
+
+slice-aggregate-put-values : tie.Need-slice-aggregate-put-values
+slice-aggregate-put-values c = search (needs, shown-whole)
+
+put-values-requires : tie.Need-put-values-requires
+put-values-requires c κs = search (needs, keep-laws)
+
+same-length : tie.Need-same-length
+same-length c = search needs
+
+same-length-2 : tie.Need-same-length-2
+same-length-2 c = search needs
+
+returns : tie.Need-returns
+returns c = (search needs, (search (needs, kept-locations), search (needs, kept-values)))
+
+pub keep-spec : {M : Type 1} → statement M
+keep-spec =
+    tie.close
+    (tie.spec
+    automata-requires
+    shown-requires
+    array-share-prefix-locations
+    slice-aggregate-put-words
+    put-words-requires
+    array-share-prefix-values
+    slice-aggregate-put-values
+    put-values-requires
+    same-length
+    same-length-2
+    returns)

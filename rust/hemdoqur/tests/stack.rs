@@ -1,0 +1,163 @@
+//! The stack that include/hemdoqur.h gives each function is enough, on sheets that are as deep and as large as there are.
+use hemdoqur::*;
+use std::thread::Builder;
+
+const HEADER: &str = include_str!("../../../include/hemdoqur.h");
+
+/// The bytes that the header gives a function.
+fn stack(function: &str) -> usize {
+    let name = format!("#define SHEET_STACK_{function} ");
+    HEADER.lines().find_map(|line| line.strip_prefix(&name)?.parse().ok()).expect("the header gives the stack")
+}
+
+/// What a thread's beginning and the test itself need.
+const OWN: usize = 8 * 1024;
+
+/// Calls in a thread with that stack.
+fn within(function: &str, calls: impl FnOnce() + Send + 'static) {
+    Builder::new().stack_size(stack(function) + OWN).spawn(calls).expect("a thread").join().expect("no call fails");
+}
+
+const HEAD: &str = "format=1\nactions=63\nvariables=1\nvariable=0,1\nautomata=16\n";
+
+/// Sixteen automata, each with these predicates and two edges by action 1, which all take together.
+fn sixteen(predicate: &str, update: &str, compose: &str) -> String {
+    let edges = format!("edge=0,1,0,{update}\nedge=0,1,0,eq n0 v0\n");
+    let automaton = format!("sync=1\nlocations=1\ninit={predicate}\ninv={predicate}\nedges=2\n{edges}");
+    format!("{HEAD}{}compose={compose}\n", automaton.repeat(16))
+}
+
+/// Compositions of 64 nodes: a chain to the left, and one to the right.
+fn deep_trees() -> [String; 2] {
+    let leaves: Vec<String> = (0..16).map(|k| format!("a{k}")).collect();
+    let left = format!("{}{}{}", "syn 1 ".repeat(33), "par ".repeat(15), leaves.join(" "));
+    let right: String = leaves[..15].iter().map(|leaf| format!("par {leaf} ")).collect();
+    [left, format!("{}{right}a15", "syn 1 ".repeat(33))]
+}
+
+/// Predicates of depth 24, each nested in another way.
+fn deep_predicates() -> Vec<String> {
+    vec![
+        format!("{}all 0", "not ".repeat(23)),
+        format!("{}all 0", "imp all 0 ".repeat(23)),
+        format!("{}all 0", "all 1 ".repeat(23)),
+        format!("{}any 0", "any 1 ".repeat(23)),
+        format!("eq {}v0 0", "add v0 ".repeat(22)),
+        format!("eq {}v0 0", "if any 0 v0 ".repeat(22)),
+        format!("{}eq v0 0{}", "eq if ".repeat(11), " 0 v0 0".repeat(11)),
+    ]
+}
+
+/// One automaton with 510 edges: merged it has 4,092 nodes, and one edge more would break row 34.
+fn most_merged_edges() -> String {
+    let edges = "edge=0,1,0,all 0\n".repeat(510);
+    format!(
+        "format=1\nactions=1\nvariables=0\nautomata=1\nsync=\nlocations=1\ninit=all 0\ninv=all 0\nedges=510\n{edges}compose=a0\n"
+    )
+}
+
+/// One automaton under 63 `syn`, the deepest tree that there is, with a predicate that is as deep as can be merged.
+fn deepest_tree() -> String {
+    let deep = format!("{}eq v0 0{}", "eq if ".repeat(10), " 0 v0 0".repeat(10));
+    let automaton = format!("sync=\nlocations=1\ninit={deep}\ninv={deep}\nedges=1\nedge=0,1,0,not {deep}\n");
+    format!("format=1\nactions=1\nvariables=1\nvariable=0,1\nautomata=1\n{automaton}compose={}a0\n", "syn 1 ".repeat(63))
+}
+
+fn good_texts() -> Vec<String> {
+    let [left, right] = deep_trees();
+    let mut texts = vec![sixteen("all 0", "all 0", &left), sixteen("all 0", "all 0", &right), most_merged_edges(), deepest_tree()];
+    texts.extend(deep_predicates().iter().map(|predicate| sixteen(predicate, predicate, &left)));
+    texts
+}
+
+/// Lines that nest as deep as a text can.
+fn bad_texts() -> Vec<String> {
+    let words = ["not ", "imp all 0 ", "all 512 ", "eq if ", "eq add "];
+    words.iter().map(|word| format!("{HEAD}sync=\nlocations=1\ninit={}all 0\n", word.repeat(60_000 / word.len()))).collect()
+}
+
+fn table_of(text: &str) -> Vec<u32> {
+    let mut table = vec![0; TABLE_WORDS];
+    assert_eq!(read(text.as_bytes(), &mut table), Ok(()), "{text}");
+    table
+}
+
+fn tables() -> Vec<Vec<u32>> {
+    good_texts().iter().map(|text| table_of(text)).collect()
+}
+
+/// A state of each table.
+fn lists(table: &[u32]) -> (Vec<u32>, Vec<i32>) {
+    let size = size(table).expect("a good table");
+    (vec![0; size.automata], vec![0; size.variables])
+}
+
+#[test]
+fn reading() {
+    let (good, bad) = (good_texts(), bad_texts());
+    let mut table = vec![0; TABLE_WORDS];
+    within("READ", move || {
+        assert!(good.iter().all(|text| read(text.as_bytes(), &mut table).is_ok()));
+        assert!(bad.iter().all(|text| read(text.as_bytes(), &mut table).is_err()));
+    });
+}
+
+#[test]
+fn writing() {
+    let tables = tables();
+    let mut out = vec![0; TEXT_BYTES];
+    within("WRITE", move || assert!(tables.iter().all(|table| write(table, &mut out).is_ok())));
+}
+
+#[test]
+fn merging() {
+    let mut out = vec![0; TEXT_BYTES];
+    assert_eq!(merge(&table_of(&most_merged_edges()), &mut out).map(|merged| merged.edges), Ok(510));
+    let tables = tables();
+    within("MERGE", move || {
+        let merged = tables.iter().filter(|table| merge(table, &mut out).is_ok()).count();
+        assert_eq!(merged, 2, "the one with 510 edges and the deepest tree; the others have too many edges merged");
+    });
+}
+
+#[test]
+fn sizes() {
+    let tables = tables();
+    within("SIZE", move || assert!(tables.iter().all(|table| size(table).is_ok())));
+}
+
+#[test]
+fn steps() {
+    let cases: Vec<_> = tables().into_iter().map(|table| (lists(&table), table)).collect();
+    within("STEP", move || {
+        for ((locations, values), table) in &cases {
+            let from = State { phase: 0, locations, values };
+            assert!(step(table, &from, 1, locations, values).is_ok());
+        }
+    });
+}
+
+#[test]
+fn environment_steps() {
+    let cases: Vec<_> = tables().into_iter().map(|table| (lists(&table), table)).collect();
+    within("ENVIRONMENT", move || {
+        for ((locations, values), table) in &cases {
+            assert!(environment(table, &State { phase: 0, locations, values }, values).is_ok());
+        }
+    });
+}
+
+#[test]
+fn runs() {
+    let cases: Vec<_> = tables().into_iter().map(|table| (lists(&table), table)).collect();
+    within("RUN", move || {
+        for ((locations, values), table) in &cases {
+            let from = State { phase: 0, locations, values };
+            let (new_locations, new_values) = (locations.repeat(2), values.repeat(2));
+            let list = Proposals { actions: &[1, ENVIRONMENT], locations: &new_locations, values: &new_values };
+            let (mut locations, mut values) = (locations.clone(), values.clone());
+            let room = Room { answers: &mut [0; 2], locations: &mut locations, values: &mut values };
+            assert!(run(table, &from, &list, room).is_ok());
+        }
+    });
+}
