@@ -66,8 +66,8 @@ unfoldable pub mergedEdges : MergeAnswer → ℕ
 mergedEdges (M.Merged n edges) = edges
 mergedEdges (M.Refused row) = 0
 
--- a run's: the phase at its end, or 100 + the row that refuses it. The list's own faults have numbers that no row has. (The answers'
--- numbers are `answerNumber` of crate judging.)
+-- a run's: the phase at its end, or 100 + the row that refuses it. The list's own faults have numbers that no row has.
+-- (The answers' numbers are `answerNumber` of crate judging.)
 unfoldable pub runNumber : RunAnswer → ℕ
 runNumber (ran r) = phaseNumber (r .end .phase)
 runNumber (notRun row) = 100 + row
@@ -104,5 +104,6 @@ countedNumber (S.Counts actions variables automata) = actions * 2 ^ 16 + variabl
 countedNumber (S.Refused row) = row * 2 ^ 32
 
 unfoldable pub Few : Counted → Type 0
-Few (S.Counts actions variables automata) = (actions ≤ maxActions) × (variables ≤ maxVariables) × (automata ≤ maxAutomata)
+Few (S.Counts actions variables automata) =
+    (actions ≤ maxActions) × (variables ≤ maxVariables) × (automata ≤ maxAutomata)
 Few (S.Refused row) = Unit {0}

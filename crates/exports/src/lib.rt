@@ -1,4 +1,5 @@
-// The reader, the writer, the merger and the judges for C and Rust: every answer is one number, and those of a run are a list of them.
+// The reader, the writer, the merger and the judges for C and Rust: every answer is one number, and those of a run
+// are a list of them.
 //
 // A slice is a pointer and a length there. Nothing is kept between calls.
 mod numbers;
@@ -14,7 +15,8 @@ ghost use Rattle.format.specs.Writer.{writeAnswer, bufferAfter};
 ghost use Rattle.judging.specs.Answers.{answerNumber};
 ghost use Rattle.exports.specs.Numbers.{readNumber, writeNumber, mergeNumber, sizeNumber};
 
-// Reads a text into the table's first 8192 words: 0, or 2^32 times the row that refuses plus its line, when the table is as it was.
+// Reads a text into the table's first 8192 words: 0, or 2^32 times the row that refuses plus its line, when the table
+// is as it was.
 #[no_mangle]
 pub extern "C" fn sheet_read(text: &[u8], table: &mut [u32]) -> u64
     ensures { λ r. ⌜ r ≡ readNumber (readAnswer (now (text .entry)) (length (now (table .entry)))) ⌝ }
@@ -23,8 +25,8 @@ pub extern "C" fn sheet_read(text: &[u8], table: &mut [u32]) -> u64
     numbers::read_number(text::read(text, table))
 }
 
-// How many actions, variables and automata the table's sheet has: 2^16 times the first plus 2^8 times the second plus the third; or 2^32
-// times the row that refuses the table.
+// How many actions, variables and automata the table's sheet has: 2^16 times the first plus 2^8 times the second plus
+// the third; or 2^32 times the row that refuses the table.
 #[no_mangle]
 pub extern "C" fn sheet_size(table: &[u32]) -> u64
     ensures { λ r. ⌜ r ≡ sizeNumber (openTable (now (table .entry))) ⌝ }
@@ -43,7 +45,8 @@ pub extern "C" fn sheet_step(
     new_locations: &[u32],
     new_values: &[i32],
 ) -> u32
-    ensures { λ r. ⌜ r ≡ answerNumber (stepAnswer (now (table .entry)) phase (now (locations .entry)) (now (values .entry)) action (now («new_locations» .entry)) (now («new_values» .entry))) ⌝ }
+    ensures { λ r. ⌜ r ≡ answerNumber (stepAnswer (now (table .entry)) phase (now (locations .entry))
+        (now (values .entry)) action (now («new_locations» .entry)) (now («new_values» .entry))) ⌝ }
 {
     judge::number(judge::step(
         table,
@@ -65,7 +68,8 @@ pub extern "C" fn sheet_environment(
     values: &[i32],
     new_values: &[i32],
 ) -> u32
-    ensures { λ r. ⌜ r ≡ answerNumber (environmentAnswer (now (table .entry)) phase (now (locations .entry)) (now (values .entry)) (now («new_values» .entry))) ⌝ }
+    ensures { λ r. ⌜ r ≡ answerNumber (environmentAnswer (now (table .entry)) phase (now (locations .entry))
+        (now (values .entry)) (now («new_values» .entry))) ⌝ }
 {
     judge::number(judge::environment(table, phase, locations, values, new_values))
 }
@@ -74,16 +78,19 @@ pub extern "C" fn sheet_environment(
 #[no_mangle]
 pub extern "C" fn sheet_write(table: &[u32], out: &mut [u8]) -> u64
     ensures { λ r. ⌜ r ≡ writeNumber (writeAnswer (now (table .entry)) (length (now (out .entry)))) ⌝ }
-    ensures { λ _. ⌜ now (out .exit) ≡ bufferAfter (writeAnswer (now (table .entry)) (length (now (out .entry)))) (now (out .entry)) ⌝ }
+    ensures { λ _. ⌜ now (out .exit) ≡ bufferAfter (writeAnswer (now (table .entry)) (length (now (out .entry))))
+        (now (out .entry)) ⌝ }
 {
     numbers::write_number(writer::write(table, out))
 }
 
-// Writes the text of the merged automaton: 2^17 times its edges plus its length, or 2^32 times the row that refuses, when `out` is as it was.
+// Writes the text of the merged automaton: 2^17 times its edges plus its length, or 2^32 times the row that refuses,
+// when `out` is as it was.
 #[no_mangle]
 pub extern "C" fn sheet_merge(table: &[u32], out: &mut [u8]) -> u64
     ensures { λ r. ⌜ r ≡ mergeNumber (mergeAnswer (now (table .entry)) (length (now (out .entry)))) ⌝ }
-    ensures { λ _. ⌜ now (out .exit) ≡ mergeAfter (mergeAnswer (now (table .entry)) (length (now (out .entry)))) (now (out .entry)) ⌝ }
+    ensures { λ _. ⌜ now (out .exit) ≡ mergeAfter (mergeAnswer (now (table .entry)) (length (now (out .entry))))
+        (now (out .entry)) ⌝ }
 {
     numbers::merge_number(merge::merge(table, out))
 }

@@ -19,6 +19,7 @@ use Rattle.table.specs.declared.Checked.the-variants as C
 use Rattle.judging.specs.declared.Phase.{Phase}
 use Rattle.judging.specs.declared.Phase.the-variants.{Start, Running}
 use Rattle.judging.specs.declared.State.{State}
+use Rattle.judge.specs.declared.Ran.{Ran}
 use Rattle.judge.specs.declared.Ran.the-variants.{Ended, Uneven, AnswersShort, EndShort}
 use Rattle.judge.specs.declared.runs.Turn.{Turn}
 use Rattle.judging.specs.declared.Admitted.{Admitted}
@@ -34,7 +35,7 @@ use Rattle.judging.proofs.CodeLaws.{shown-whole}
 use Rattle.judging.proofs.TakenLaws.{automata-whole}
 use Rattle.judging.specs.Calls.{thenLists, thenPhase, environmentOn, stepOn}
 use Rattle.judge.specs.RunAnswer.{environmentMark, inFront}
-use Rattle.judge.specs.RunWords.{listsFit, endFits, startChecked, begunOn, judgedOn, proposedOn, movedTo, onward, Gone, turnOn, goOn, Left, listedOn, Leaves}
+use Rattle.judge.specs.RunWords.{listsFit, endFits, startChecked, begunOn, judgedOn, proposedOn, movedTo, onward, Gone, turnOn, goOn, Left, ranOn, listedOn, Leaves}
 
 -- `times`
 pub times-none : (total n count : ℕ) → n ≡ 0 → eqb total 0 ≡ eqb total (n * count)
@@ -342,6 +343,15 @@ kept-values w n list old new e f = rw (← e) f
 
 pub ruleset keep-laws = (room-for-locations, room-for-values)
 
+-- `ended`
+pub ended-is : (w : List ℕ) (s : State) (actions ls : List ℕ) (vs : List ℤ) (answers locations : List ℕ) (values : List ℤ) (end : State) (new l : List ℕ)
+    (v : List ℤ) (p : Phase) → end ≡ goOn w (automataShown w) (variablesShown w) s answers 0 actions ls vs .state
+    → new ≡ goOn w (automataShown w) (variablesShown w) s answers 0 actions ls vs .answers → p ≡ end .phase
+    → l ≡ inFront (take (automataShown w) (end .locations)) locations → v ≡ inFront (take (variablesShown w) (end .values)) values
+    → Leaves (ranOn w s actions ls vs answers locations values) (Ended p) new l v
+unfolding ranOn
+ended-is w s actions ls vs answers locations values end new l v p e f g h i = record { is = rw (g, h, i, e, f) }
+
 -- `listed`
 pub end-has-room : (w : List ℕ) (l v : ℕ) (b : Bool) → b ≡ endFits w l v → not b ≡ false → endFits w l v ≡ true
 end-has-room w l v b f g = sym f ∙ not-false b g
@@ -375,12 +385,10 @@ module _ (w : List ℕ) (s : State) (actions ls : List ℕ) (vs : List ℤ) (ans
             let x : endFits w (length locations) (length values) ≡ false = sym f ∙ not-true b g in
             record { is = rw (even, listedOn, room, listedOn, x, listedOn) }
 
-        pub listed-ran : not b ≡ false → (end : State) (new l : List ℕ) (v : List ℤ) (p : Phase)
-            → end ≡ goOn w (automataShown w) (variablesShown w) s answers 0 actions ls vs .state
-            → new ≡ goOn w (automataShown w) (variablesShown w) s answers 0 actions ls vs .answers → p ≡ end .phase
-            → l ≡ inFront (take (automataShown w) (end .locations)) locations → v ≡ inFront (take (variablesShown w) (end .values)) values
-            → Leaves left (Ended p) new l v
+        pub listed-ran : not b ≡ false → (r : Ran) (new l : List ℕ) (v : List ℤ) → Leaves (ranOn w s actions ls vs answers locations values) r new l v
+            → Leaves left r new l v
         unfolding listedOn
-        listed-ran g end new l v p i j k n o = record { is = rw (even, listedOn, room, listedOn, end-has-room w (length locations) (length values) b f g, listedOn, k, n, o, i, j) }
+        listed-ran g r new l v d =
+            record { is = rw (even, listedOn, room, listedOn, end-has-room w (length locations) (length values) b f g, listedOn) (d .is) }
 
 pub ruleset listed-laws = (listed-uneven, listed-short, listed-no-end, listed-ran)

@@ -37,7 +37,7 @@ use Rattle.judging.specs.Settled.{variablesShown}
 use Rattle.judging.specs.Taken.{automataShown}
 use Rattle.judging.specs.Calls.{thenLists, thenPhase}
 use Rattle.judge.specs.RunAnswer.{environmentMark, proposalOf, proposalsOf, RunAnswer, notRun, uneven, answersShort, endShort, ran, isUneven, lacksEnd, runFrom, runAnswer, ranOf, inFront, lentAfter, answersAfter, locationsAfter, valuesAfter}
-use Rattle.judge.specs.RunWords.{listsFit, endFits, startChecked, begunOn, judgedOn, proposedOn, movedTo, Gone, turnOn, goOn, Left, touched, listedOn, Leaves}
+use Rattle.judge.specs.RunWords.{listsFit, endFits, startChecked, begunOn, judgedOn, proposedOn, movedTo, Gone, turnOn, goOn, Left, ranOn, listedOn, Leaves}
 use Rattle.judging.proofs.Filled.{filled-front, filled-twice}
 use Rattle.judging.proofs.RowLaws.{automata-in, variables-in, lengths-row, locations-row, values-row}
 use Rattle.judging.proofs.SettledLaws.{shown-is}
@@ -285,8 +285,8 @@ module _ (t : List ℕ) (phase : ℕ) (l : List ℕ) (k : List ℤ) (actions ls 
 
     -- the code's run
     run-exact : isUneven m actions ls vs ≡ false → length actions ≤ length old
-        → touched t (stateOf q l k) actions ls vs old oldl oldv ≡ leftOf (ran run-of)
-    unfolding ranOf answersAfter locationsAfter valuesAfter lentAfter inFront isUneven
+        → ranOn t (stateOf q l k) actions ls vs old oldl oldv ≡ leftOf (ran run-of)
+    unfolding ranOn ranOf answersAfter locationsAfter valuesAfter lentAfter inFront isUneven
     run-exact even room =
         let u = stands q l k in
         let sizes = not-false _ even in

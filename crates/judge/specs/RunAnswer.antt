@@ -1,5 +1,5 @@
--- A list of proposals put to the judges over one table, as a caller gives it: three lists, and room for the answers and for the state
--- at the end.
+-- A list of proposals put to the judges over one table, as a caller gives it: three lists, and room for the answers and
+-- for the state at the end.
 use mathlib.Core.Bool.{Bool, true, false, not, cond, _&&_}
 use mathlib.Core.List.{List, [], _∷_, _++_, map}
 use mathlib.Core.Option.{none, some}
@@ -29,25 +29,29 @@ proposalsOf n v [] locations values = []
 proposalsOf n v (action ∷ actions) locations values =
     proposalOf action (take n locations) (take v values) ∷ proposalsOf n v actions (drop n locations) (drop v values)
 
--- What a list is answered with as a whole: a row of the paper, of the table, the phase or the state that the run starts from; a fault of
--- the list itself, which no row speaks of; or its run.
+-- What a list is answered with as a whole: a row of the paper, of the table, the phase or the state that the run starts
+-- from; a fault of the list itself, which no row speaks of; or its run.
 pub data RunAnswer : Type 0 where
   notRun : (row : ℕ) → RunAnswer
-  -- not N locations and V values for each action; fewer places for answers than actions; not N places for the locations at the end,
-  -- or not V for the values
+  -- not N locations and V values for each action; fewer places for answers than actions; fewer than N places for the
+  -- locations at the end, or than V for the values
   uneven answersShort endShort : RunAnswer
   ran : Run Answer → RunAnswer
 
 -- the tests are true where the fault is there
 unfoldable pub isUneven : Model → (actions newLocations : List ℕ) (newValues : List ℤ) → Bool
 isUneven m actions newLocations newValues =
-    not (eqb (length newLocations) (length (m .automata) * length actions) && eqb (length newValues) (length (m .variables) * length actions))
+    not
+    (eqb (length newLocations) (length (m .automata) * length actions) &&
+    eqb (length newValues) (length (m .variables) * length actions))
 
 unfoldable pub lacksEnd : Model → (endLocations endValues : ℕ) → Bool
-lacksEnd m endLocations endValues = not (leb (length (m .automata)) endLocations && leb (length (m .variables)) endValues)
+lacksEnd m endLocations endValues =
+    not (leb (length (m .automata)) endLocations && leb (length (m .variables)) endValues)
 
 -- from state s: rows 21 to 23 of it; then the list's own faults in this order; then the run
-unfoldable pub runFrom : (table : List ℕ) → Model → State → (actions newLocations : List ℕ) (newValues : List ℤ) (answers endLocations endValues : ℕ) → RunAnswer
+unfoldable pub runFrom : (table : List ℕ) → Model → State → (actions newLocations : List ℕ) (newValues : List ℤ)
+    → (answers endLocations endValues : ℕ) → RunAnswer
 runFrom table m s actions newLocations newValues answers endLocations endValues =
     cond (row21 m s) (notRun 21)
     (cond (row22 m s) (notRun 22)
@@ -55,10 +59,13 @@ runFrom table m s actions newLocations newValues answers endLocations endValues 
     (cond (isUneven m actions newLocations newValues) uneven
     (cond (ltb answers (length actions)) answersShort
     (cond (lacksEnd m endLocations endValues) endShort
-    (ran (run (tableJudge table) s (proposalsOf (length (m .automata)) (length (m .variables)) actions newLocations newValues))))))))
+    (ran
+    (run (tableJudge table) s
+    (proposalsOf (length (m .automata)) (length (m .variables)) actions newLocations newValues))))))))
 
 -- the whole call: rows 18, 19 and 20 come first. The last three numbers are the lengths of the lent memory.
-unfoldable pub runAnswer : (table : List ℕ) (phase : ℕ) (locations : List ℕ) (values : List ℤ) (actions newLocations : List ℕ) (newValues : List ℤ) (answers endLocations endValues : ℕ) → RunAnswer
+unfoldable pub runAnswer : (table : List ℕ) (phase : ℕ) (locations : List ℕ) (values : List ℤ)
+    → (actions newLocations : List ℕ) (newValues : List ℤ) (answers endLocations endValues : ℕ) → RunAnswer
 runAnswer table phase locations values actions newLocations newValues answers endLocations endValues =
     elim (openTable table) [
       | unopened row ↦ notRun row
@@ -66,7 +73,8 @@ runAnswer table phase locations values actions newLocations newValues answers en
           elim (phaseOf phase) [
             | none ↦ notRun 20
             | some p ↦
-                runFrom table m (record { phase = p; locations = locations; values = values }) actions newLocations newValues answers endLocations endValues
+                runFrom table m (record { phase = p; locations = locations; values = values }) actions
+                newLocations newValues answers endLocations endValues
           ]
     ]
 
@@ -78,7 +86,8 @@ ranOf answersShort = AnswersShort
 ranOf endShort = EndShort
 ranOf (ran r) = Ended (phaseFor (r .end .phase))
 
--- Lent memory afterwards. What a run gives stands at its front, and the rest is as it was; a list that is not run leaves it all as it was.
+-- Lent memory afterwards. What a run gives stands at its front, and the rest is as it was; a list that is not run leaves
+-- it all as it was.
 unfoldable pub inFront : {A : Type 0} → (new old : List A) → List A
 inFront new old = new ++ drop (length new) old
 

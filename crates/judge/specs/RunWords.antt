@@ -28,7 +28,8 @@ use Rattle.judge.specs.RunAnswer.{environmentMark, inFront}
 
 -- the proposals' lists: so many locations and values for `count` actions
 unfoldable pub listsFit : (words : List ℕ) (count locations values : ℕ) → Bool
-listsFit words count locations values = eqb locations (automataIn words * count) && eqb values (variablesIn words * count)
+listsFit words count locations values =
+    eqb locations (automataIn words * count) && eqb values (variablesIn words * count)
 
 -- the places for the state at the end
 unfoldable pub endFits : (words : List ℕ) (locations values : ℕ) → Bool
@@ -106,15 +107,16 @@ pub record Left : Type 0 where
   pub values : List ℤ
 
 module _ (words : List ℕ) (s : State) (actions ls : List ℕ) (vs : List ℤ) (answers locations : List ℕ) (values : List ℤ) where
-  -- the memory as it was
+  -- a fault: the memory as it was
   abbrev pub untouched : Ran → Left
   untouched r = record { ran = r; answers = answers; locations = locations; values = values }
 
+  -- the run
   abbrev pub gone : Gone
   gone = goOn words (automataShown words) (variablesShown words) s answers 0 actions ls vs
 
-  abbrev pub touched : Left
-  touched =
+  unfoldable pub ranOn : Left
+  ranOn =
       record {
         ran = Ended (gone .state .phase);
         answers = gone .answers;
@@ -130,7 +132,8 @@ module _ (words : List ℕ) (s : State) (actions ls : List ℕ) (vs : List ℤ) 
         | true ↦
             elim (leb (length actions) (length answers)) [
               | false ↦ untouched AnswersShort
-              | true ↦ elim (endFits words (length locations) (length values)) [ false ↦ untouched EndShort | true ↦ touched ]
+              | true ↦
+                  elim (endFits words (length locations) (length values)) [ false ↦ untouched EndShort | true ↦ ranOn ]
             ]
       ]
 

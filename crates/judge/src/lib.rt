@@ -1,4 +1,5 @@
-// The judges: is a proposed step of the composition allowed? One by one, or a list of proposals over one check of the table.
+// The judges: is a proposed step of the composition allowed? One by one, or a list of proposals over one check of the
+// table.
 mod runs;
 
 use judging::Admitted;
@@ -16,8 +17,9 @@ ghost use Rattle.model.specs.Table.{openTable};
 ghost use Rattle.judge.specs.RunAnswer.{runAnswer, ranOf, answersAfter, locationsAfter, valuesAfter};
 ghost use Rattle.judge.specs.TableSize.{sizeOf};
 
-// The phase that a run ends in; or the row that refuses the table, the phase or the state that it starts from; or a fault of the list:
-// not one location for each automaton and one value for each variable at each proposal, no place for each answer, no place for the state.
+// The phase that a run ends in; or the row that refuses the table, the phase or the state that it starts from; or a
+// fault of the list: not one location for each automaton and one value for each variable at each proposal, no place
+// for each answer, no place for the state.
 pub enum Ran {
     Ended(Phase),
     Refused(u32),
@@ -26,9 +28,10 @@ pub enum Ran {
     EndShort,
 }
 
-// Puts a list of proposals to the judges, over one check of the table. For each: its action, or 4294967295 for the environment judge;
-// its locations, which that judge does not read; its values. A yes moves the run to the proposed state. The answers' numbers go into
-// `answers`, the locations and values at the end into the other two, and what follows them is as it was.
+// Puts a list of proposals to the judges, over one check of the table. For each: its action, or 4294967295 for the
+// environment judge; its locations, which that judge does not read; its values. A yes moves the run to the proposed
+// state. The answers' numbers go into `answers`, the locations and values at the end into the other two, and what
+// follows them is as it was.
 pub fn run(
     table: &[u32],
     phase: u32,
@@ -41,10 +44,22 @@ pub fn run(
     end_locations: &mut [u32],
     end_values: &mut [i32],
 ) -> Ran
-    ensures { λ r. ⌜ r ≡ ranOf (runAnswer (now (table .entry)) phase (now (locations .entry)) (now (values .entry)) (now (actions .entry)) (now («new_locations» .entry)) (now («new_values» .entry)) (length (now (answers .entry))) (length (now («end_locations» .entry))) (length (now («end_values» .entry)))) ⌝ }
-    ensures { λ _. ⌜ now (answers .exit) ≡ answersAfter (runAnswer (now (table .entry)) phase (now (locations .entry)) (now (values .entry)) (now (actions .entry)) (now («new_locations» .entry)) (now («new_values» .entry)) (length (now (answers .entry))) (length (now («end_locations» .entry))) (length (now («end_values» .entry)))) (now (answers .entry)) ⌝ }
-    ensures { λ _. ⌜ now («end_locations» .exit) ≡ locationsAfter (runAnswer (now (table .entry)) phase (now (locations .entry)) (now (values .entry)) (now (actions .entry)) (now («new_locations» .entry)) (now («new_values» .entry)) (length (now (answers .entry))) (length (now («end_locations» .entry))) (length (now («end_values» .entry)))) (now («end_locations» .entry)) ⌝ }
-    ensures { λ _. ⌜ now («end_values» .exit) ≡ valuesAfter (runAnswer (now (table .entry)) phase (now (locations .entry)) (now (values .entry)) (now (actions .entry)) (now («new_locations» .entry)) (now («new_values» .entry)) (length (now (answers .entry))) (length (now («end_locations» .entry))) (length (now («end_values» .entry)))) (now («end_values» .entry)) ⌝ }
+    ensures { λ r. ⌜ r ≡ ranOf (runAnswer (now (table .entry)) phase (now (locations .entry)) (now (values .entry))
+        (now (actions .entry)) (now («new_locations» .entry)) (now («new_values» .entry))
+        (length (now (answers .entry))) (length (now («end_locations» .entry))) (length (now («end_values» .entry))))
+        ⌝ }
+    ensures { λ _. ⌜ now (answers .exit) ≡ answersAfter (runAnswer (now (table .entry)) phase (now (locations .entry))
+        (now (values .entry)) (now (actions .entry)) (now («new_locations» .entry)) (now («new_values» .entry))
+        (length (now (answers .entry))) (length (now («end_locations» .entry))) (length (now («end_values» .entry))))
+        (now (answers .entry)) ⌝ }
+    ensures { λ _. ⌜ now («end_locations» .exit) ≡ locationsAfter (runAnswer (now (table .entry)) phase
+        (now (locations .entry)) (now (values .entry)) (now (actions .entry)) (now («new_locations» .entry))
+        (now («new_values» .entry)) (length (now (answers .entry))) (length (now («end_locations» .entry)))
+        (length (now («end_values» .entry)))) (now («end_locations» .entry)) ⌝ }
+    ensures { λ _. ⌜ now («end_values» .exit) ≡ valuesAfter (runAnswer (now (table .entry)) phase
+        (now (locations .entry)) (now (values .entry)) (now (actions .entry)) (now («new_locations» .entry))
+        (now («new_values» .entry)) (length (now (answers .entry))) (length (now («end_locations» .entry)))
+        (length (now («end_values» .entry)))) (now («end_values» .entry)) ⌝ }
 {
     if let Checked::Refused(row) = table::check(table) {
         return Ran::Refused(row);

@@ -15,8 +15,9 @@ ghost use Rattle.model.specs.Runs.{phaseNumber};
 ghost use Rattle.judging.specs.Answers.{phaseIs};
 ghost use Rattle.judging.specs.Settled.{variablesShown};
 ghost use Rattle.judging.specs.Taken.{automataShown};
+ghost use Rattle.judge.specs.declared.Ran.the-variants.{Ended};
 ghost use Rattle.judge.specs.RunAnswer.{environmentMark, inFront};
-ghost use Rattle.judge.specs.RunWords.{listsFit, endFits, startChecked, begunOn, judgedOn, proposedOn, movedTo, onward, turnOn, goOn, listedOn, Leaves};
+ghost use Rattle.judge.specs.RunWords.{listsFit, endFits, startChecked, begunOn, judgedOn, proposedOn, movedTo, onward, turnOn, goOn, ranOn, listedOn, Leaves};
 
 // Is the total n times the count? The product is not made: it might not fit.
 fn times(total: usize, n: usize, count: usize) -> bool
@@ -92,7 +93,8 @@ pub fn phase_number(phase: Phase) -> u32
 
 // The answer to one proposal, from the state that the run is in.
 fn judged(words: &[u32], s: State, action: u32, new_locations: &[u32], new_values: &[i32]) -> Answer
-    ensures { λ r. ⌜ r ≡ judgedOn (now (words .entry)) s action (now («new_locations» .entry)) (now («new_values» .entry)) ⌝ }
+    ensures { λ r. ⌜ r ≡ judgedOn (now (words .entry)) s action (now («new_locations» .entry))
+        (now («new_values» .entry)) ⌝ }
 {
     let n = judging::automata(words);
     let v = judging::shown(words);
@@ -144,7 +146,8 @@ struct Turn {
 }
 
 fn put(words: &[u32], s: State, action: u32, new_locations: &[u32], new_values: &[i32]) -> Turn
-    ensures { λ r. ⌜ r ≡ turnOn (now (words .entry)) s action (now («new_locations» .entry)) (now («new_values» .entry)) ⌝ }
+    ensures { λ r. ⌜ r ≡ turnOn (now (words .entry)) s action (now («new_locations» .entry))
+        (now («new_values» .entry)) ⌝ }
 {
     let answer = judged(words, s, action, new_locations, new_values);
     let number = judging::number(answer);
@@ -175,8 +178,12 @@ fn all(
     answers: &mut [u32],
 ) -> State
     requires { ⌜ length (now actions) ≤ length (now answers) ⌝ }
-    ensures { λ r. ⌜ r ≡ goOn (now (words .entry)) (automataShown (now (words .entry))) (variablesShown (now (words .entry))) start (now (answers .entry)) 0 (now (actions .entry)) (now («new_locations» .entry)) (now («new_values» .entry)) .state ⌝ }
-    ensures { λ _. ⌜ now (answers .exit) ≡ goOn (now (words .entry)) (automataShown (now (words .entry))) (variablesShown (now (words .entry))) start (now (answers .entry)) 0 (now (actions .entry)) (now («new_locations» .entry)) (now («new_values» .entry)) .answers ⌝ }
+    ensures { λ r. ⌜ r ≡ goOn (now (words .entry)) (automataShown (now (words .entry))) (variablesShown
+        (now (words .entry))) start (now (answers .entry)) 0 (now (actions .entry)) (now («new_locations» .entry))
+        (now («new_values» .entry)) .state ⌝ }
+    ensures { λ _. ⌜ now (answers .exit) ≡ goOn (now (words .entry)) (automataShown (now (words .entry)))
+        (variablesShown (now (words .entry))) start (now (answers .entry)) 0 (now (actions .entry))
+        (now («new_locations» .entry)) (now («new_values» .entry)) .answers ⌝ }
 {
     let n = judging::automata(words);
     let v = judging::shown(words);
@@ -233,8 +240,10 @@ fn put_values(list: &[i32], lent: &mut [i32])
 fn keep(words: &[u32], s: State, end_locations: &mut [u32], end_values: &mut [i32]) -> Phase
     requires { ⌜ endFits (now words) (length (now «end_locations»)) (length (now «end_values»)) ≡ true ⌝ }
     ensures { λ r. ⌜ r ≡ s .phase ⌝ }
-    ensures { λ _. ⌜ now («end_locations» .exit) ≡ inFront (take (automataShown (now (words .entry))) (s .locations)) (now («end_locations» .entry)) ⌝ }
-    ensures { λ _. ⌜ now («end_values» .exit) ≡ inFront (take (variablesShown (now (words .entry))) (s .values)) (now («end_values» .entry)) ⌝ }
+    ensures { λ _. ⌜ now («end_locations» .exit) ≡ inFront (take (automataShown (now (words .entry))) (s .locations))
+        (now («end_locations» .entry)) ⌝ }
+    ensures { λ _. ⌜ now («end_values» .exit) ≡ inFront (take (variablesShown (now (words .entry))) (s .values))
+        (now («end_values» .entry)) ⌝ }
 {
     let n = judging::automata(words);
     let v = judging::shown(words);
@@ -245,7 +254,29 @@ fn keep(words: &[u32], s: State, end_locations: &mut [u32], end_values: &mut [i3
     s.phase
 }
 
-// A list from the state that its run starts in: a fault of its own; or the run, with the answers and the end in lent memory.
+// The run of a list that has no fault: the phase at its end; the answers and the rest of the end are in lent memory.
+fn ended(
+    words: &[u32],
+    start: State,
+    actions: &[u32],
+    new_locations: &[u32],
+    new_values: &[i32],
+    answers: &mut [u32],
+    end_locations: &mut [u32],
+    end_values: &mut [i32],
+) -> Phase
+    requires { ⌜ length (now actions) ≤ length (now answers) ⌝ }
+    requires { ⌜ endFits (now words) (length (now «end_locations»)) (length (now «end_values»)) ≡ true ⌝ }
+    ensures { λ r. ⌜ Leaves (ranOn (now (words .entry)) start (now (actions .entry)) (now («new_locations» .entry))
+        (now («new_values» .entry)) (now (answers .entry)) (now («end_locations» .entry)) (now («end_values» .entry)))
+        (Ended r) (now (answers .exit)) (now («end_locations» .exit)) (now («end_values» .exit)) ⌝ }
+{
+    let end = all(words, start, actions, new_locations, new_values, answers);
+    keep(words, end, end_locations, end_values)
+}
+
+// A list from the state that its run starts in: a fault of its own; or the run, with the answers and the end in lent
+// memory.
 pub(crate) fn listed(
     words: &[u32],
     start: State,
@@ -256,7 +287,9 @@ pub(crate) fn listed(
     end_locations: &mut [u32],
     end_values: &mut [i32],
 ) -> Ran
-    ensures { λ r. ⌜ Leaves (listedOn (now (words .entry)) start (now (actions .entry)) (now («new_locations» .entry)) (now («new_values» .entry)) (now (answers .entry)) (now («end_locations» .entry)) (now («end_values» .entry))) r (now (answers .exit)) (now («end_locations» .exit)) (now («end_values» .exit)) ⌝ }
+    ensures { λ r. ⌜ Leaves (listedOn (now (words .entry)) start (now (actions .entry)) (now («new_locations» .entry))
+        (now («new_values» .entry)) (now (answers .entry)) (now («end_locations» .entry)) (now («end_values» .entry)))
+        r (now (answers .exit)) (now («end_locations» .exit)) (now («end_values» .exit)) ⌝ }
 {
     if !lengths_for(words, actions.len(), new_locations.len(), new_values.len()) {
         return Ran::Uneven;
@@ -267,6 +300,14 @@ pub(crate) fn listed(
     if !end_fits(words, end_locations.len(), end_values.len()) {
         return Ran::EndShort;
     }
-    let end = all(words, start, actions, new_locations, new_values, answers);
-    Ran::Ended(keep(words, end, end_locations, end_values))
+    Ran::Ended(ended(
+        words,
+        start,
+        actions,
+        new_locations,
+        new_values,
+        answers,
+        end_locations,
+        end_values,
+    ))
 }

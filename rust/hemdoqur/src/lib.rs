@@ -1,4 +1,22 @@
 //! The proved sheet functions for Rust. They keep nothing between calls, and every slice of any length and content is allowed.
+//!
+//! The crate links `libexports.a`, which `rt staticlib exports` makes for x86-64 Linux: that of the repository's target/staticlib, or
+//! of the folder that `HEMDOQUR_LIB` names. `include/hemdoqur.h` says how much stack each function needs.
+//!
+//! A host reads a text, asks for the `size` of the sheet, and makes its lists of locations and values by it:
+//!
+//! ```no_run
+//! use hemdoqur::{read, size, step, State, TABLE_WORDS};
+//!
+//! fn opens(text: &[u8]) -> Result<bool, hemdoqur::Refusal> {
+//!     let mut table = [0; TABLE_WORDS];
+//!     read(text, &mut table)?;
+//!     let size = size(&table)?;
+//!     let (locations, values) = ([0; hemdoqur::AUTOMATA], [0; hemdoqur::VARIABLES]);
+//!     let from = State { phase: 0, locations: &locations[..size.automata], values: &values[..size.variables] };
+//!     Ok(step(&table, &from, 1, from.locations, from.values)?.is_some())
+//! }
+//! ```
 #![no_std]
 mod judge;
 pub mod numbers;

@@ -19,11 +19,8 @@ end-fits-requires c κs = search needs
 returns-3 : tie.Need-returns-3
 returns-3 c = search (needs, listed-laws)
 
-all-requires : tie.Need-all-requires
-all-requires c κs = search needs
-
-keep-requires : tie.Need-keep-requires
-keep-requires c κs = search (needs, end-has-room)
+ended-requires : tie.Need-ended-requires
+ended-requires c κs = search (needs, end-has-room)
 
 same-length : tie.Need-same-length
 same-length c = search needs
@@ -46,8 +43,7 @@ listed-spec =
     returns-2
     end-fits-requires
     returns-3
-    all-requires
-    keep-requires
+    ended-requires
     same-length
     same-length-2
     same-length-3
