@@ -11,6 +11,7 @@ pub mod EntryLines
 pub mod FaultLaws
 pub mod TreeFaults
 pub mod Exact
+pub mod Smallest
 pub mod Refusals
 pub mod FitsLaws
 pub mod Given

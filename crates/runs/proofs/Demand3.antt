@@ -21,7 +21,7 @@ use Rattle.format.proofs.Exact.{accepted-then}
 use Rattle.format.proofs.TextRuns.{table-read, runs-alike-texts, runs-alike-program}
 use Rattle.runs.specs.Demand.{ByRules, RunsAsOne}
 use Rattle.runs.proofs.Answers.{answer-by-rules}
-use Rattle.runs.proofs.Points.{run-state}
+use Rattle.runs.proofs.Points.{run-length, answer-is, run-state}
 use Rattle.runs.proofs.Moves.{moves-alike}
 use Rattle.runs.proofs.Tables.{text-opens, merged-opens, program-opens}
 
@@ -50,7 +50,10 @@ module _ (text : Bytes) (m : Model) (lent : List ℕ) (reads : readAnswer text (
     opens = text-opens text m lent reads;
     opens-merged = opens';
     alike = alike ps;
-    by-rules = λ before p after e. text-by-rules _ p;
+    answered = run-length (tableJudge (tableAfter text lent)) ps s;
+    by-rules = λ before p after e given x later q l.
+        let whole = ap (λ (qs : List Proposal). run (tableJudge (tableAfter text lent)) s qs .answers) (sym e) ∙ q in
+        subst (ByRules m _ p) (answer-is (tableJudge (tableAfter text lent)) before p after s given x later whole l) (text-by-rules _ p);
     moves = λ before after e. moves-alike m text-lawful _ _ (text-state before s g) (alike before .end);
   }
 

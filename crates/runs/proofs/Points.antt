@@ -1,6 +1,6 @@
 -- The points of a run: what comes before and after each, and that the run stands at a state there.
 use Prim.Native.Nat.{suc}
-use mathlib.Core.Path.{_≡_, refl, ap, _∙_}
+use mathlib.Core.Path.{_≡_, refl, sym, ap, _∙_}
 use mathlib.Core.List.{List, [], _∷_, _++_}
 use lib.ListN.{length, getD}
 use lib.Seq.{getD-at}
@@ -36,6 +36,13 @@ module _ (judge : Judge) where
   answer-at before p after s default =
       ap (λ (l : List Answer). getD l (length before) default) (run-answers before (p ∷ after) s)
       ∙ getD-at (run judge s before .answers) _ _ default (length before) (run-length before s)
+
+  -- so what stands in its place in the run's list of answers is that
+  pub answer-is : (before : List Proposal) (p : Proposal) (after : List Proposal) (s : State) (given : List Answer) (x : Answer) (later : List Answer)
+      → run judge s (before ++ p ∷ after) .answers ≡ given ++ x ∷ later → length given ≡ length before
+      → judge (run judge s before .end) p ≡ x
+  answer-is before p after s given x later e l =
+      sym (answer-at before p after s x) ∙ ap (λ (xs : List Answer). getD xs (length before) x) e ∙ getD-at given x later x (length before) l
 
 -- along a run a state stays a state
 pub run-state : (m : Model) (ps : List Proposal) (s : State) → IsState m s → IsState m (run (modelJudge m) s ps .end)

@@ -78,9 +78,13 @@ pub record RunsAsOne (m : Model) (table table' : List ℕ) (s : State) (ps : Lis
   pub opens-merged : openTable table' ≡ opened (linear m)
   -- the merged run gets the same answers, and ends beside the composition's
   pub alike : RunsAlike m (tableJudge table) (tableJudge table') s ps
-  -- Each answer is the one that the rows and the rules give where the run stands. (The law answer-at: it is the run's own answer.)
+  -- the run has one answer for each proposal
+  pub answered : length (run (tableJudge table) s ps .answers) ≡ length ps
+  -- and its answer x to proposal p, which has as many before it, is the one that the rows and the rules give where the run stands
   pub by-rules : (before : List Proposal) (p : Proposal) (after : List Proposal) → ps ≡ before ++ p ∷ after
-      → let here = run (tableJudge table) s before .end in ByRules m here p (tableJudge table here p)
+      → (given : List Answer) (x : Answer) (later : List Answer) → run (tableJudge table) s ps .answers ≡ given ++ x ∷ later
+      → length given ≡ length before
+      → ByRules m (run (tableJudge table) s before .end) p x
   -- and at each point of the list both can do the same
   pub moves : (before after : List Proposal) → ps ≡ before ++ after
       → MovesAlike m (run (tableJudge table) s before .end) (mergedRun m (tableJudge table') (beside s) before .end)

@@ -1,0 +1,37 @@
+-- "Refused": which row refuses a text, said of the rows' conditions alone. The law refusal-first: the reader answers so.
+use Prim.Native.Nat.{ℕ, suc, _<_}
+use mathlib.Core.Bool.{Bool, true}
+use mathlib.Core.List.{List, [], _∷_, _++_, List·Memᴰ}
+use Rattle.model.specs.Lines.{Key, Reading, noted, thenDue}
+use Rattle.format.specs.Rows.{Line, entry, row2, row3, row4, row5, row6, row7, row8, row9, row10, row11, row12, row13, row14, row15, row16}
+
+-- rows by their numbers, each with whether its condition holds
+abbrev pub Conditions : Type 0
+Conditions = List (ℕ × Bool)
+
+-- no row's condition holds
+pub record Unbroken (rows : Conditions) : Type 0 where
+  pub none-holds : (row : ℕ) → List·Memᴰ (row, true) rows → ⊥
+
+-- this row's condition holds, and no smaller row's
+pub record Smallest (rows : Conditions) (row : ℕ) : Type 0 where
+  pub holds : List·Memᴰ (row, true) rows
+  pub none-smaller : (other : ℕ) → other < row → List·Memᴰ (other, true) rows → ⊥
+
+-- the rows of a line, by what was read before it and by the key that is due
+unfoldable pub lineRows : Reading → Key → Line → Conditions
+lineRows r k l =
+    (2, row2 k l) ∷ (3, row3 k l) ∷ (4, row4 k l) ∷ (5, row5 r k l) ∷ (6, row6 k l) ∷
+    (7, row7 r k l) ∷ (8, row8 k l) ∷ (9, row9 k l) ∷ (10, row10 r k l) ∷ (11, row11 r k l) ∷
+    (12, row12 r k l) ∷ (13, row13 k l) ∷ (14, row14 r k l) ∷ (15, row15 r k l) ∷ (16, row16 k l) ∷ []
+
+-- Reading the lines, from what has been read and with what is due, stops with a row at the n-th of them: that line is extra or
+-- lacking (row 2), or the row is the smallest whose condition holds there; and at the lines before it no row's condition holds.
+pub data Stops : Reading → List Key → List Line → (row n : ℕ) → Type 0 where
+  extra : {r : Reading} {l : Line} {ls : List Line} → Stops r [] (l ∷ ls) 2 1
+  lacking : {r : Reading} {k : Key} {ks : List Key} → Stops r (k ∷ ks) [] 2 1
+  faulty : {r : Reading} {k : Key} {ks : List Key} {l : Line} {ls : List Line} {row : ℕ} → Smallest (lineRows r k l) row
+      → Stops r (k ∷ ks) (l ∷ ls) row 1
+  later : {r : Reading} {k : Key} {ks : List Key} {l : Line} {ls : List Line} {row n : ℕ} → Unbroken (lineRows r k l)
+      → Stops (noted r (entry k l)) (thenDue (entry k l) ++ ks) ls row n
+      → Stops r (k ∷ ks) (l ∷ ls) row (suc n)
