@@ -1,5 +1,5 @@
--- "Refused", rows 2 to 16 as a line of the text breaks them: `true` is broken. A row decides only where no smaller row is broken,
--- so it may take for granted that none is: what it says of other lines plays no part.
+-- "Refused", rows 2 to 16 as a line of the text breaks them: `true` is broken. A row decides only where no smaller row is
+-- broken, so it may take for granted that none is: what it says of other lines plays no part.
 use Prim.Native.Nat.{ℕ, _+_}
 use mathlib.Core.Bool.{Bool, true, false, not, _&&_, _||_}
 use mathlib.Core.List.{List, [], _∷_, map}

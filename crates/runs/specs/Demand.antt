@@ -80,9 +80,11 @@ pub record RunsAsOne (m : Model) (table table' : List ℕ) (s : State) (ps : Lis
   pub alike : RunsAlike m (tableJudge table) (tableJudge table') s ps
   -- the run has one answer for each proposal
   pub answered : length (run (tableJudge table) s ps .answers) ≡ length ps
-  -- and its answer x to proposal p, which has as many before it, is the one that the rows and the rules give where the run stands
+  -- and its answer x to proposal p, with as many answers before it as proposals, is the one that the rows and the rules give
+  -- where the run stands
   pub by-rules : (before : List Proposal) (p : Proposal) (after : List Proposal) → ps ≡ before ++ p ∷ after
-      → (given : List Answer) (x : Answer) (later : List Answer) → run (tableJudge table) s ps .answers ≡ given ++ x ∷ later
+      → (given : List Answer) (x : Answer) (later : List Answer)
+      → run (tableJudge table) s ps .answers ≡ given ++ x ∷ later
       → length given ≡ length before
       → ByRules m (run (tableJudge table) s before .end) p x
   -- and at each point of the list both can do the same
