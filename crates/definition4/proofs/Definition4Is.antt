@@ -207,7 +207,7 @@ opens : (t : List ℕ) (m : Model) → row18 (length t) ≡ false → modelOf t 
 unfolding openTable
 opens t m e p = rw (e, openTable, p)
 
-opened-of : (t : List ℕ) (m : Model) → openTable t ≡ opened m → modelOf t ≡ some m
+pub opened-of : (t : List ℕ) (m : Model) → openTable t ≡ opened m → modelOf t ≡ some m
 unfolding openTable
 opened-of t m h = go (row18 (length t)) refl (modelOf t) refl
   where
@@ -299,7 +299,7 @@ module _ (t : List ℕ) (b : ℕ) where
       go false e none p = refuses 19 (first-19 e p) (answer-unopened t b 19 (rw (e, openTable, p)))
       go false e (some m) p = ends-model m e p
 
-no-merge : (row edges : ℕ) (text : Bytes) → unmerged row ≡ merged text edges → ⊥
+pub no-merge : (row edges : ℕ) (text : Bytes) → unmerged row ≡ merged text edges → ⊥
 no-merge row edges text h = let z : _≡_ {A = ℕ} 0 1 = cc in omega arith
 
 -- The merger gives a text and a count exactly if the table opens as a model, none of rows 31 to 34 refuses the model and the

@@ -1,0 +1,9 @@
+pub mod Decided
+pub mod Memory
+pub mod Reading
+pub mod Writing
+pub mod Judging
+pub mod TextToText
+pub mod Demand1
+pub mod Ordered
+pub mod Demand2
