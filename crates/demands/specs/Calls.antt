@@ -26,10 +26,13 @@ use Rattle.demands.specs.Rows.{FirstFault, TextFault, tableRows, writerR
 
 -- Lent memory after an acceptance: the first places have what was to go there, every other place what it had.
 pub record PutInto {A : Type 0} (lent content after : List A) : Type 0 where
-  -- there are so many places
+  -- the memory has so many places
   pub room : length content ≤ length lent
+  -- the first ones have the content
   pub placed : take (length content) after ≡ content
+  -- the others have what they had
   pub others : drop (length content) after ≡ drop (length content) lent
+  -- and there are as many as before
   pub same-length : length after ≡ length lent
 
 -- text::read
@@ -93,8 +96,7 @@ pub record TextCall (text lent : Bytes) : Type 0 where
   pub accepted-puts : (bytes edges : ℕ) → outcome text (length lent) ≡ Outcome.Merged bytes edges
       → (text' : Bytes) × (length text' ≡ bytes) × PutInto lent text' (outcomeAfter text lent)
 
--- The judges get no memory that they could write to. A step's call, by its rows, its answer, and when the rules allow
--- the step.
+-- judge::step, by its rows, its answer, and when the rules allow the step; it gets no memory that it could write to
 pub record StepCall (rows : Conditions) (answer : Answer) (Allowed : (mark : Bool) → Type 0) : Type 0 where
   -- a row is answered exactly when its condition holds and no smaller row's does
   pub refused-exactly : (row : ℕ) → (answer ≡ J.refused row) ↔ Smallest rows row
@@ -105,7 +107,7 @@ pub record StepCall (rows : Conditions) (answer : Answer) (Allowed : (mark : Boo
   -- no exactly when they allow it with none
   pub no-exactly : (answer ≡ no) ↔ (Unbroken rows × ((mark : Bool) → Allowed mark → ⊥))
 
--- an environment step's call
+-- judge::environment likewise
 pub record EnvironmentCall (rows : Conditions) (answer : Answer) (Allowed : Type 0) : Type 0 where
   -- a row is answered exactly when its condition holds and no smaller row's does
   pub refused-exactly : (row : ℕ) → (answer ≡ J.refused row) ↔ Smallest rows row
@@ -113,32 +115,40 @@ pub record EnvironmentCall (rows : Conditions) (answer : Answer) (Allowed : Type
   pub judged-exactly : ((answer ≡ no) ⊎ (answer ≡ yes)) ↔ Unbroken rows
   -- yes exactly when the rules allow the change
   pub yes-exactly : (answer ≡ yes) ↔ (Unbroken rows × Allowed)
+  -- no exactly when they do not
   pub no-exactly : (answer ≡ no) ↔ (Unbroken rows × (Allowed → ⊥))
 
 -- the rules allow something from the state that a call gives, of the sheet whose table it is
 pub record FromState (table : List ℕ) (phase : ℕ) (locations : List ℕ) (values : List ℤ)
     (Allow : Model → State → Type 0) : Type 0 where
+  -- the table's sheet
   pub model : Model
   pub opens : openTable table ≡ opened model
+  -- the phase that the number names
   pub in-phase : Phase
   pub names : phaseOf phase ≡ some in-phase
+  -- they allow it there
   pub allow : Allow model (record { phase = in-phase; locations = locations; values = values })
 
 -- Demand 1, for every input, damaged texts and tables included.
 pub record EveryCallAnswers : Type 0 where
+  -- a text is read into a table
   pub reads : (text : Bytes) (lent : List ℕ) → ReadCall text lent
+  -- a table's text is written into a buffer
   pub writes : (table : List ℕ) (lent : Bytes) → WriteCall table lent
+  -- its merged text is
   pub merges : (table : List ℕ) (lent : Bytes) → MergeCall table lent
+  -- the merged text of a text is
   pub linearizes : (text lent : Bytes) → TextCall text lent
-  -- merge::output and the program print a refusal with its row and line, where there is one
+  -- the program (merge::output) prints a refusal with its row and line, where there is one
   pub prints : (text : Bytes) (row line : ℕ) → TextFault text maxBytes row line → programOutput text ≡ refusal row line
-  -- judge::step
+  -- a step is judged
   pub judges-steps : (table : List ℕ) (phase : ℕ) (locations : List ℕ) (values : List ℤ)
       → (action : ℕ) (locations' : List ℕ) (values' : List ℤ)
       → StepCall (tableRows (stepRows phase locations values action locations' values') table)
       (stepAnswer table phase locations values action locations' values')
       (λ mark. FromState table phase locations values (λ m s. Step m s action (reached locations' values') mark))
-  -- judge::environment
+  -- an environment step is judged
   pub judges-environment : (table : List ℕ) (phase : ℕ) (locations : List ℕ) (values values' : List ℤ)
       → EnvironmentCall (tableRows (environmentRows phase locations values values') table)
       (environmentAnswer table phase locations values values')

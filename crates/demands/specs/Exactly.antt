@@ -25,24 +25,29 @@ use Rattle.demands.specs.Order.{EdgesInOrder}
 
 -- A text and a count of edges are those that merging sheet m gives.
 pub record IsMergedText (m : Model) (text : Bytes) (edges : ℕ) : Type 0 where
-  -- it is the text of a sheet, and the reader accepts it so
+  -- it is the text of a sheet
   pub sheet : Model
   pub spelled : text ≡ textOf sheet
+  -- as which the reader accepts it
   pub readable : readAnswer text tableWords ≡ accepted sheet
   -- the sheet is the linearization of m by Definition 4
   pub definition-4 : IsLinearization m sheet
-  -- the edges of its one automaton stand in the paper's order and multiplicity, and are so many
+  -- with its one automaton
   pub automaton : Automaton
   pub one : sheet .automata ≡ automaton ∷ []
+  -- whose edges stand in the paper's order, equal ones as often as they come about
   pub in-order : EdgesInOrder m (automaton .edges)
+  -- and are so many
   pub counted : edges ≡ length (automaton .edges)
 
--- Of a buffer, the first `bytes` bytes are a merged text; so its length is the one reported.
+-- A buffer with a merged text in it, of the length and with the count of edges that are reported.
 pub record MergedInto (m : Model) (bytes edges : ℕ) (after : Bytes) : Type 0 where
+  -- the first `bytes` bytes are the text
   pub is-merged : IsMergedText m (take bytes after) edges
+  -- which has this length
   pub its-length : length (take bytes after) ≡ bytes
 
--- Demand 2.
+-- Demand 2: texts, tables and merged texts.
 pub record ReadsAndWritesExactly : Type 0 where
   -- the reader accepts exactly the texts of sheets within the limits, if the table has room
   pub accepts : (text : Bytes) (table : ℕ) (m : Model)

@@ -12,9 +12,11 @@ use Rattle.model.specs.Rules.{Taker}
 use Rattle.model.specs.Moves.{alone}
 use Rattle.model.specs.Linear.{mergedEdge}
 
--- The pairs of xs and ys with the left slowest: by its number in a list each stands there once.
+-- zs are the pairs of xs and ys with the left slowest.
 pub record LeftSlowest (xs ys zs : List (List Taker)) : Type 0 where
+  -- each pair stands there once
   pub count : length zs ≡ length xs * length ys
+  -- that of place i of the left and place j of the right behind i whole rounds of the right
   pub places : (i j : ℕ) → i < length xs → j < length ys → getD zs (i * length ys + j) [] ≡ getD xs i [] ++ getD ys j []
 
 -- one side's, if the other side's set lacks the action
@@ -35,10 +37,14 @@ module _ (m : Model) (a : ℕ) where
     in-turn : {c d : Tree} {xs ys : List (List Taker)} → (inSet m a c && inSet m a d) ≡ false
         → InOrder c xs → InOrder d ys
         → InOrder (par c d) (ifLacking (inSet m a d) xs ++ ifLacking (inSet m a c) ys)
+    -- of a `syn` those of what stands under it
     in-syn : {list : List ℕ} {c : Tree} {xs : List (List Taker)} → InOrder c xs → InOrder (syn list c) xs
 
--- the merged edges: by action from 0 up, and equal ones as often as they come about
+-- the merged edges, equal ones as often as they come about
 pub record EdgesInOrder (m : Model) (edges : List Edge) : Type 0 where
+  -- for each action the takers of its moves
   pub takers : (action : ℕ) → List (List Taker)
+  -- in order
   pub in-order : (action : ℕ) → InOrder m action (m .tree) (takers action)
+  -- an edge for each of them, by action from 0 up to A
   pub by-action : edges ≡ flatMap (λ a. map (mergedEdge m a) (takers a)) (countUp 0 (suc (m .actions)))
