@@ -40,7 +40,7 @@ use Rattle.entry.specs.Outcome.{answered, written}
 use Rattle.entry.specs.Composition.{blank, treeIn, treeFault, treeWords, treeRead, treeAfter, partOf, composeFault, composeRead, composeAfter}
 use Rattle.entry.proofs.FormLaws.{row2-by}
 use Rattle.entry.proofs.Joined.{next-then, put-then}
-use Rattle.entry.proofs.Outcomes.{breaks, holds, then-same, answered-fault, answered-sound, written-fault, written-sound}
+use Rattle.entry.proofs.Outcomes.{breaks, not-broken, then-same, answered-fault, answered-sound, written-fault, written-sound}
 use Rattle.entry.proofs.SyncLaws.{few-items}
 
 -- rows 13, 14 and 16 by the answer of `nodes::read`
@@ -76,7 +76,7 @@ module _ (N : ℕ) (s : Bytes) (words : List ℕ) (at : ℕ) where
     module _ (f : x .formed ≡ true) where
       module _ (g : x .ordered ≡ false) where
         ordered-fault : treeFault N s ≡ some 14
-        ordered-fault = rows ∙ holds 13 _ _ (ap not f) ∙ breaks 14 _ _ (ap not g)
+        ordered-fault = rows ∙ not-broken 13 _ _ (ap not f) ∙ breaks 14 _ _ (ap not g)
 
         pub ordered-read : Fault 14 ≡ treeRead N s at
         ordered-read = tree-read-fault 14 ordered-fault
@@ -88,7 +88,7 @@ module _ (N : ℕ) (s : Bytes) (words : List ℕ) (at : ℕ) where
         module _ (h : 64 < x .nodes) where
           large-fault : treeFault N s ≡ some 16
           unfolding isTooLarge
-          large-fault = rows ∙ holds 13 _ _ (ap not f) ∙ holds 14 _ _ (ap not g) ∙ breaks 16 _ none (lt-ltb 64 (x .nodes) h)
+          large-fault = rows ∙ not-broken 13 _ _ (ap not f) ∙ not-broken 14 _ _ (ap not g) ∙ breaks 16 _ none (lt-ltb 64 (x .nodes) h)
 
           pub large-read : Fault 16 ≡ treeRead N s at
           large-read = tree-read-fault 16 large-fault
@@ -99,7 +99,7 @@ module _ (N : ℕ) (s : Bytes) (words : List ℕ) (at : ℕ) where
         module _ (h : x .nodes ≤ 64) (p : ℕ) (hp : p ≡ nextPlace at 1) where
           none-broken : treeFault N s ≡ none
           unfolding isTooLarge
-          none-broken = rows ∙ holds 13 _ _ (ap not f) ∙ holds 14 _ _ (ap not g) ∙ holds 16 _ none (le-ltb 64 (x .nodes) h)
+          none-broken = rows ∙ not-broken 13 _ _ (ap not f) ∙ not-broken 14 _ _ (ap not g) ∙ not-broken 16 _ none (le-ltb 64 (x .nodes) h)
 
           its-words : treeWords N s ≡ x .nodes ∷ take (x .next) new
           unfolding treeWords treeIn
@@ -158,7 +158,7 @@ module _ (s : Bytes) (ended : Bool) (c : Counts) (words : List ℕ) (at : ℕ) w
       module _ (g : n ≡ false) where
         numbers-fault : composeFault s ended c ≡ some 3
         unfolding composeFault
-        numbers-fault = holds 2 _ _ (sym hm ∙ f) ∙ breaks 3 _ _ (ap not (numbers-by ∙ g))
+        numbers-fault = not-broken 2 _ _ (sym hm ∙ f) ∙ breaks 3 _ _ (ap not (numbers-by ∙ g))
 
         pub numbers-read : Fault 3 ≡ composeRead s ended c at
         numbers-read = line-read-fault 3 numbers-fault
@@ -173,7 +173,7 @@ module _ (s : Bytes) (ended : Bool) (c : Counts) (words : List ℕ) (at : ℕ) w
         module _ (h : l ≡ false) where
           lists-fault : composeFault s ended c ≡ some 5
           unfolding composeFault
-          lists-fault = holds 2 _ _ (sym hm ∙ f) ∙ holds 3 _ _ (ap not (numbers-by ∙ g)) ∙ breaks 5 _ _ (ap not (lists-by ∙ h))
+          lists-fault = not-broken 2 _ _ (sym hm ∙ f) ∙ not-broken 3 _ _ (ap not (numbers-by ∙ g)) ∙ breaks 5 _ _ (ap not (lists-by ∙ h))
 
           pub lists-read : Fault 5 ≡ composeRead s ended c at
           lists-read = line-read-fault 5 lists-fault
@@ -185,7 +185,7 @@ module _ (s : Bytes) (ended : Bool) (c : Counts) (words : List ℕ) (at : ℕ) w
           rest-fault : composeFault s ended c ≡ treeFault (c .automata) v
           unfolding composeFault
           rest-fault =
-              holds 2 _ _ (sym hm ∙ f) ∙ holds 3 _ _ (ap not (numbers-by ∙ g)) ∙ holds 5 _ _ (ap not (lists-by ∙ h)) ∙
+              not-broken 2 _ _ (sym hm ∙ f) ∙ not-broken 3 _ _ (ap not (numbers-by ∙ g)) ∙ not-broken 5 _ _ (ap not (lists-by ∙ h)) ∙
               ap (treeFault (c .automata)) (sym hv)
 
           pub rest-read : (q : LineRead) → q ≡ treeRead (c .automata) v at → q ≡ composeRead s ended c at
@@ -202,7 +202,7 @@ module _ (s : Bytes) (ended : Bool) (c : Counts) (words : List ℕ) (at : ℕ) w
 
 pub ruleset composition-laws = (form-read, form-after, numbers-read, numbers-after, lists-read, lists-after, rest-read, rest-after)
 
--- Where row 3 holds, no list has a number above 63, so that A and the cap of A ask the same.
+-- Where row 3 is not broken, no list has a number above 63, so that A and the cap of A ask the same.
 module _ (A : ℕ) where
   list-capped : (before t : Bytes) → sound before t ≡ true → listSound (capped A) before t ≡ listSound A before t
   unfolding items
@@ -270,13 +270,13 @@ module _ (N A : ℕ) (s : Bytes) (three : sounds [] (tokens s) ≡ true) (five :
           let o : not (its .ordered) ≡ isDisordered N t = ap not (read-ordered N A s blank three five t e) ∙ Bool·not-not (isDisordered N t) in
           let n : its .nodes ≡ length (readNodes (tokens s)) =
           read-count N A s blank three five t e ∙ sym (read-size N A s blank three five t e) in
-          holds 13 _ _ (ap not f) ∙
+          not-broken 13 _ _ (ap not f) ∙
           ap (λ (b : Bool). broken 14 b (broken 16 (isTooLarge (its .nodes)) none))
           (o ∙ ap (λ (x : Option Tree). isDisordered N (treeOr x)) (sym e)) ∙
           ap (λ (k : ℕ). broken 14 (isDisordered N (treeOr (treeSpelled s))) (broken 16 (isTooLarge k) none)) n ∙
-          sym (holds 13 _ _ (ap lacks e))
+          sym (not-broken 13 _ _ (ap lacks e))
 
-  -- the words, where the rows of the tree hold too
+  -- the words, where the rows of the tree are not broken either
   tree-words : rowsOfTree N s ≡ none → treeWords N s ≡ wordsOf (treeOr (treeSpelled s))
   unfolding treeWords treeIn lacks orElse
   tree-words h = go (treeSpelled s) refl

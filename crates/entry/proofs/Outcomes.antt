@@ -1,4 +1,4 @@
--- Rows in their order: a later row is asked only where the earlier ones hold.
+-- Rows in their order: a later row is asked only where the earlier ones are not broken.
 use Prim.Native.Nat.{ℕ}
 use mathlib.Core.Path.{_≡_, refl, ap}
 use mathlib.Core.Bool.{Bool, true, false}
@@ -12,9 +12,9 @@ pub breaks : (n : ℕ) (b : Bool) (rest : Option ℕ) → b ≡ true → broken 
 unfolding broken
 breaks n b rest h = rw h
 
-pub holds : (n : ℕ) (b : Bool) (rest : Option ℕ) → b ≡ false → broken n b rest ≡ rest
+pub not-broken : (n : ℕ) (b : Bool) (rest : Option ℕ) → b ≡ false → broken n b rest ≡ rest
 unfolding broken
-holds n b rest h = rw h
+not-broken n b rest h = rw h
 
 pub then-same : (n : ℕ) (b : Bool) (x y : Option ℕ) → (b ≡ false → x ≡ y) → broken n b x ≡ broken n b y
 unfolding broken

@@ -35,7 +35,7 @@ use Rattle.entry.specs.Form.{valueAfter, misformed, fieldsOf}
 use Rattle.entry.specs.Sync.{syncListed, syncFault, syncRead, syncAfter}
 use Rattle.entry.proofs.FormLaws.{row2-by}
 use Rattle.entry.proofs.Joined.{next-then, put-then}
-use Rattle.entry.proofs.Outcomes.{breaks, holds, then-same, answered-fault, answered-sound, written-fault, written-sound}
+use Rattle.entry.proofs.Outcomes.{breaks, not-broken, then-same, answered-fault, answered-sound, written-fault, written-sound}
 
 -- `sync`
 module _ (s : Bytes) (ended : Bool) (c : Counts) (words : List ℕ) (at : ℕ) where
@@ -69,7 +69,7 @@ module _ (s : Bytes) (ended : Bool) (c : Counts) (words : List ℕ) (at : ℕ) w
       rows : syncFault s ended c ≡ broken 3 (not (l .sound)) (broken 5 (not (l .rising)) none)
       unfolding syncFault
       rows =
-          holds 2 _ _ (sym hm ∙ f) ∙
+          not-broken 2 _ _ (sym hm ∙ f) ∙
           ap (λ (x : Listed). broken 3 (not (x .sound)) (broken 5 (not (x .rising)) none)) listed
 
       module _ (g : l .sound ≡ false) where
@@ -85,7 +85,7 @@ module _ (s : Bytes) (ended : Bool) (c : Counts) (words : List ℕ) (at : ℕ) w
       module _ (g : l .sound ≡ true) where
         module _ (h : l .rising ≡ false) where
           rising-fault : syncFault s ended c ≡ some 5
-          rising-fault = rows ∙ holds 3 _ _ (ap not g) ∙ breaks 5 _ _ (ap not h)
+          rising-fault = rows ∙ not-broken 3 _ _ (ap not g) ∙ breaks 5 _ _ (ap not h)
 
           pub rising-read : Fault 5 ≡ syncRead s ended c at
           rising-read = read-fault 5 rising-fault
@@ -95,7 +95,7 @@ module _ (s : Bytes) (ended : Bool) (c : Counts) (words : List ℕ) (at : ℕ) w
 
         module _ (h : l .rising ≡ true) (p : ℕ) (hp : p ≡ nextPlace at 1) where
           none-broken : syncFault s ended c ≡ none
-          none-broken = rows ∙ holds 3 _ _ (ap not g) ∙ holds 5 _ none (ap not h)
+          none-broken = rows ∙ not-broken 3 _ _ (ap not g) ∙ not-broken 5 _ none (ap not h)
 
           pub set-read : (q : ℕ) → q ≡ nextPlace p 1 → Sound 0 0 q ≡ syncRead s ended c at
           unfolding syncRead

@@ -22,7 +22,7 @@ use Rattle.entry.specs.Outcome.{answered, written}
 abbrev pub blank : List ℕ
 blank = replicate 192 0
 
--- The tree of N automata that `part` spells, where rows 3 and 5 hold.
+-- The tree of N automata that `part` spells, where rows 3 and 5 are not broken.
 unfoldable pub treeIn : (N : ℕ) (part : Bytes) → Composition
 treeIn N part = compositionOf N part blank
 

@@ -12,6 +12,7 @@ ghost use mathlib.Core.List.{_∷_};
 ghost use Prim.Native.Nat.{suc, _≤_};
 ghost use lib.ListN.{length, take};
 ghost use Rattle.model.specs.Bounds.{maxNodes};
+ghost use Rattle.words.specs.Scratch.{Scratch};
 ghost use Rattle.entry.specs.Append.{nextPlace, put};
 ghost use Rattle.entry.specs.Edge.{fieldIn, endsIn, astray, valueRead, afterValue, edgeRead, edgeAfter};
 
@@ -94,6 +95,7 @@ fn read_value(
     sorts: &mut [bool; 32768],
 ) -> LineRead
     ensures { λ r. ⌜ (r ≡ valueRead counts (now (words .entry)) (now (value .entry)) at) × (now (words .exit) ≡ afterValue counts (now (words .entry)) (now (value .entry)) at) ⌝ }
+    ensures { λ _. ⌜ Scratch (now (scratch .entry)) (now (scratch .exit)) × Scratch (now (sorts .entry)) (now (sorts .exit)) ⌝ }
 {
     let Ends::Are(from, action, to) = read_ends(value) else {
         return LineRead::Fault(3);
@@ -121,6 +123,7 @@ pub fn edge(
     sorts: &mut [bool; 32768],
 ) -> LineRead
     ensures { λ r. ⌜ (r ≡ edgeRead (now (line .entry)) ended counts (now (words .entry)) at) × (now (words .exit) ≡ edgeAfter (now (line .entry)) ended counts (now (words .entry)) at) ⌝ }
+    ensures { λ _. ⌜ Scratch (now (scratch .entry)) (now (scratch .exit)) × Scratch (now (sorts .entry)) (now (sorts .exit)) ⌝ }
 {
     if form::misformed(line, ended, b"edge=", 4) {
         return LineRead::Fault(2);

@@ -11,6 +11,7 @@ use lines::Counts;
 use lines::Key;
 use model::Model;
 ghost use mathlib.Core.Path.{_≡_};
+ghost use Rattle.words.specs.Scratch.{Scratch};
 ghost use Rattle.entry.specs.Line.{lineRead, lineAfter};
 
 // Sound: the line's number if it counts something, the nodes of its predicate, and the place of the next word. Fault: the smallest row that it breaks.
@@ -19,8 +20,8 @@ pub enum LineRead {
     Fault(u32),
 }
 
-// The line's bytes without the LF, and whether an LF ended it; `words` is the table so far, `at` the place of its next word, `scratch` is for a predicate's words,
-// and `sorts` for their sorts. Of these two nothing is asked, and nothing is said.
+// The line's bytes without the LF, and whether an LF ended it; `words` is the table so far, `at` the place of its next word, `scratch`
+// is for a predicate's words, and `sorts` for their sorts: scratch memory both.
 pub fn read(
     line: &[u8],
     ended: bool,
@@ -32,6 +33,7 @@ pub fn read(
     sorts: &mut [bool; 32768],
 ) -> LineRead
     ensures { λ r. ⌜ (r ≡ lineRead (now (line .entry)) ended key counts (now (words .entry)) at) × (now (words .exit) ≡ lineAfter (now (line .entry)) ended key counts (now (words .entry)) at) ⌝ }
+    ensures { λ _. ⌜ Scratch (now (scratch .entry)) (now (scratch .exit)) × Scratch (now (sorts .entry)) (now (sorts .exit)) ⌝ }
 {
     match key {
         Key::Format => number::format(line, ended, words, at),

@@ -10,6 +10,7 @@ ghost use mathlib.Core.List.{_∷_};
 ghost use Prim.Native.Nat.{suc, _≤_};
 ghost use lib.ListN.{length, take};
 ghost use Rattle.model.specs.Bounds.{maxNodes};
+ghost use Rattle.words.specs.Scratch.{Scratch};
 ghost use Rattle.entry.specs.Append.{nextPlace, put};
 ghost use Rattle.entry.specs.Predicate.{told, extentFault, nodesFault, predicateFault, PredicateRead, locationRead, locationAfter};
 
@@ -48,6 +49,7 @@ fn judged(
     sorts: &mut [bool; 32768],
 ) -> Nodes
     ensures { λ r. ⌜ r ≡ told (length (now (nodes .entry))) (nodesFault old counts (now (words .entry)) (now (nodes .entry))) ⌝ }
+    ensures { λ _. ⌜ Scratch (now (sorts .entry)) (now (sorts .exit)) ⌝ }
 {
     let n = nodes.len();
     let v = counts.variables;
@@ -83,6 +85,7 @@ pub fn predicate(
     sorts: &mut [bool; 32768],
 ) -> Nodes
     ensures { λ r. ⌜ PredicateRead (now (part .entry)) (predicateFault (now (part .entry)) old counts (now (words .entry))) (now (scratch .exit)) r ⌝ }
+    ensures { λ _. ⌜ Scratch (now (scratch .entry)) (now (scratch .exit)) × Scratch (now (sorts .entry)) (now (sorts .exit)) ⌝ }
 {
     if !words::numbers_sound(part) {
         return Nodes::Unsound(3);
@@ -116,6 +119,7 @@ pub fn location(
     sorts: &mut [bool; 32768],
 ) -> LineRead
     ensures { λ r. ⌜ (r ≡ locationRead (now (name .entry)) (now (line .entry)) ended counts (now (words .entry)) at) × (now (words .exit) ≡ locationAfter (now (name .entry)) (now (line .entry)) ended counts (now (words .entry)) at) ⌝ }
+    ensures { λ _. ⌜ Scratch (now (scratch .entry)) (now (scratch .exit)) × Scratch (now (sorts .entry)) (now (sorts .exit)) ⌝ }
 {
     if form::misformed(line, ended, name, 1) {
         return LineRead::Fault(2);

@@ -1,4 +1,4 @@
--- Tokens and numbers: where row 3 holds, the lists right after `syn` are judged as row 5 says.
+-- Tokens and numbers: where row 3 is not broken, the lists right after `syn` are judged as row 5 says.
 use Prim.Native.Nat.{ℕ}
 use mathlib.Core.Path.{_≡_, refl, sym, _∙_, ap}
 use mathlib.Core.Bool.{Bool, true, false, _&&_, and-false, _||_}
@@ -93,7 +93,7 @@ all-kept A before (t ∷ ts) h =
     ap (λ (v : Bool). elim v as (λ q. Bool) [ true ↦ listsKept A (same t (bytes "syn")) ts | false ↦ false ]) (one-kept A before t (i .0)) ∙
     ap (λ (v : Bool). elim (listSound A before t) as (λ q. Bool) [ true ↦ v | false ↦ false ]) (all-kept A t ts (i .1))
 
--- the law of `lists_sound`: row 5, where row 3 holds
+-- the law of `lists_sound`: row 5, where row 3 is not broken
 pub lists-sound : (A : ℕ) (s : Bytes) → sounds [] (tokens s) ≡ true → listsKept A false (tokens s) ≡ listsSound A [] (tokens s)
 unfolding same
 lists-sound A s h = all-kept A [] (tokens s) h

@@ -1,5 +1,5 @@
--- The laws of `read`: where rows 3 and 5 hold, its tokens walk like the nodes that they spell, and so the answer and the words
--- are those of the tree.
+-- The laws of `read`: where rows 3 and 5 are not broken, its tokens walk like the nodes that they spell, and so the answer and
+-- the words are those of the tree.
 use Prim.Native.Nat.{ℕ}
 use mathlib.Core.Path.{_≡_, refl, sym, _∙_, ap, subst}
 use mathlib.Core.Bool.{Bool, true, false, not, _&&_, true≢false, Bool·not-not, _||_}
@@ -88,7 +88,7 @@ listed-inv A b t ts h =
     let e : listSound A b t && listsSound A t ts ≡ true = sym (step-truth (listSound A b t) (listsSound A t ts)) ∙ h in
     (and-left (listSound A b t) (listsSound A t ts) e, and-right (listSound A b t) (listsSound A t ts) e)
 
--- tokens after `before`, where rows 3 and 5 hold, walk like their nodes
+-- tokens after `before`, where rows 3 and 5 are not broken, walk like their nodes
 abbrev Alike : (N A : ℕ) → Bytes → List Bytes → Type 0
 Alike N A before ts =
     sounds before ts ≡ true → listsSound A before ts ≡ true → (w : Walk) (out : List ℕ)
@@ -152,7 +152,7 @@ alike N A [] before p = alike-none N A before
 alike N A (t ∷ []) before p = alike-one N A before t p
 alike N A (t ∷ l ∷ ts) before p = alike-more N A before t l ts p (alike N A ts l) (alike N A (l ∷ ts) t)
 
--- the laws of `read`, where rows 3 and 5 hold
+-- the laws of `read`, where rows 3 and 5 are not broken
 module _ (N A : ℕ) (s : Bytes) (out : List ℕ) (row3 : sounds [] (tokens s) ≡ true) (row5 : listsSound A [] (tokens s) ≡ true) where
   by-nodes : outcome N s out ≡ walk N atFirst out (map nodeKind (readNodes (tokens s)))
   unfolding outcome

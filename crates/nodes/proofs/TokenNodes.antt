@@ -1,4 +1,4 @@
--- Where rows 3 and 5 hold, the kinds of the tokens are those of the nodes that they spell.
+-- Where rows 3 and 5 are not broken, the kinds of the tokens are those of the nodes that they spell.
 use Prim.Native.Nat.{ℕ, _<_}
 use mathlib.Core.Path.{_≡_, refl, sym, _∙_, ap, ap₂}
 use mathlib.Core.Bool.{Bool, true, false, _||_}

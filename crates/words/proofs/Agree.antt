@@ -1,4 +1,4 @@
--- Where row 3 holds, the codes are those of the words that `readWords` gives, up to the first stray one.
+-- Where row 3 is not broken, the codes are those of the words that `readWords` gives, up to the first stray one.
 use Prim.Native.Nat.{ℕ, _+_, _*_}
 use mathlib.Core.Path.{_≡_, refl, sym, _∙_, ap, subst}
 use mathlib.Core.Bool.{Bool, true, false}

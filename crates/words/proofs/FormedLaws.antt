@@ -7,7 +7,7 @@ use mathlib.Core.Option.{Option, none, some}
 use native.Mathlib.Omega.{arith}
 use native.Mathlib.Numerals.{add-one}
 use borrow.Author.Tests.{not-true, not-false, le-leb, lt-leb, ne-eqb}
-use lib.ListN.{length, getD, take, drop, set, drop-of-length-le}
+use lib.ListN.{length, getD, take, drop, set, length-set, drop-of-length-le}
 use lib.Seq.{getD-set-same, getD-set-other, drop-cons, length-take-le, getD-take}
 use lib.Dec.{leb, eqb}
 use mir.Syntax.{w64}
@@ -18,10 +18,12 @@ use Rattle.model.specs.Parse.{readPred}
 use Rattle.model.specs.Table.{kinds, wordOf}
 use Rattle.model.proofs.WordKinds.{kind-from}
 use Rattle.words.specs.Formed.{arityOf, takeOff, pushSort, sortStack, sole, stacked, stackAt, takenFrom, Below, Pushed}
+use Rattle.words.specs.Scratch.{Scratch}
 use Rattle.words.specs.declared.formed.Arity.{Arity}
 use Rattle.words.specs.declared.formed.Arity.the-variants.{Takes, Stray}
 use Rattle.words.specs.declared.formed.Height.{Height}
 use Rattle.words.specs.declared.formed.Height.the-variants.{Of, Off}
+use Rattle.words.proofs.ScratchLaws.{scratch-same}
 use Rattle.words.proofs.SortLaws.{formed-by-sorts, sorts-none}
 
 -- `arity_of`: the kinds by their ranges
@@ -206,7 +208,7 @@ stacked-put sorts h v l = rw (add-one h, getD-set-same sorts h v false l, stacke
 module _ (a x : Arity) (e : x ≡ a) (old : List Bool) (h : ℕ) where
   off : pushSort a (stacked old h) ≡ none → Pushed a old old h Off
   unfolding stackAt Below
-  off z = record { stack = sym z; low = tt }
+  off z = record { stack = sym z; low = tt; kept = record { long = refl } }
 
   pub step-stray : x ≡ Stray → Pushed a old old h Off
   unfolding pushSort
@@ -243,6 +245,7 @@ module _ (a x : Arity) (e : x ≡ a) (old : List Bool) (h : ℕ) where
             record {
               stack = ap some (stacked-put old top sort (omega (arith, step-top))) ∙ sym (pushed-on (Of top) z);
               low = omega (arith, step-top);
+              kept = record { long = length-set old top sort };
             }
 
 pub ruleset step-laws = (step-stray, step-preds, step-exprs, step-on)
@@ -255,6 +258,10 @@ unfolding sole stacked
 sole-is sorts zero = refl
 sole-is sorts (suc zero) = refl
 sole-is sorts (suc (suc h)) = rw (ne-eqb (suc (suc h)) 1 (λ e. omega arith))
+
+-- the stack is as long as before
+pub scratch-pushed : (old sorts new : List Bool) (a : Arity) (height : ℕ) (r : Height) → Scratch old sorts → Pushed a sorts new height r → Scratch old new
+scratch-pushed old sorts new a height r s p = record { long = p .kept .long ∙ s .long }
 
 -- `well_formed`: what the loop keeps. The sorts of the words from i on are on the stack, and they are not more than those words.
 pub record Sorted (words : List ℕ) (n : ℕ) (sorts : List Bool) (height i : ℕ) : Type 0 where
@@ -311,4 +318,4 @@ module _ (words : List ℕ) (n : ℕ) where
         pub formed-end : i ≡ 0 → (eqb height 1 && getD sorts 0 false) ≡ formed words n
         formed-end z = sole-is sorts height ∙ sym (by-sorts _ (rw z at (inv .stack)))
 
-pub ruleset formed-laws = (formed-many, formed-short, formed-start, formed-room, formed-off, formed-on, formed-end)
+pub ruleset formed-laws = (scratch-same, scratch-pushed, formed-many, formed-short, formed-start, formed-room, formed-off, formed-on, formed-end)

@@ -4,6 +4,7 @@ pub mod NumbersLaws
 pub mod CodeLaws
 pub mod ReadLaws
 pub mod SortLaws
+pub mod ScratchLaws
 pub mod FormedLaws
 pub mod Agree
 pub mod Answers

@@ -11,6 +11,7 @@ use Rattle.words.specs.declared.formed.Arity.{Arity}
 use Rattle.words.specs.declared.formed.Arity.the-variants.{Takes, Stray}
 use Rattle.words.specs.declared.formed.Height.{Height}
 use Rattle.words.specs.declared.formed.Height.the-variants.{Of, Off}
+use Rattle.words.specs.Scratch.{Scratch}
 
 -- so many predicates, then so many expressions are its operands; and is it a predicate itself?
 unfoldable pub arityOf : Word → Arity
@@ -73,3 +74,4 @@ Below n Off = Unit
 pub record Pushed (a : Arity) (old new : List Bool) (height : ℕ) (r : Height) : Type 0 where
   pub stack : stackAt new r ≡ pushSort a (stacked old height)
   pub low : Below (height + 1) r
+  pub kept : Scratch old new

@@ -1,5 +1,6 @@
 -- `edge` meets its contract: each way out is a law of EdgeLaws.
 use Rattle.entry.proofs.EdgeLaws.{edge-laws}
+use Rattle.words.proofs.ScratchLaws.{scratch-laws}
 use borrow.Author.Needs.{needs}
 use Rattle.entry.proofs.edge.edge.Statement.{statement}
 use Rattle.entry.proofs.edge.edge.Tie as tie
@@ -11,7 +12,7 @@ misformed-requires : tie.Need-misformed-requires
 misformed-requires c κs = search needs
 
 returns : tie.Need-returns
-returns c = search (needs, edge-laws)
+returns c = search (needs, edge-laws, scratch-laws)
 
 slice-aggregate-value : tie.Need-slice-aggregate-value
 slice-aggregate-value c = search needs
@@ -23,7 +24,7 @@ read-value-requires : tie.Need-read-value-requires
 read-value-requires c κs = search needs
 
 returns-2 : tie.Need-returns-2
-returns-2 c = search (needs, edge-laws)
+returns-2 c = search (needs, edge-laws, scratch-laws)
 
 pub edge-spec : {M : Type 1} → statement M
 edge-spec =

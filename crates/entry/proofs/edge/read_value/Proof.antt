@@ -1,5 +1,6 @@
 -- `read_value` meets its contract: each way out is a law of EdgeLaws.
 use Rattle.entry.proofs.EdgeLaws.{value-laws}
+use Rattle.words.proofs.ScratchLaws.{scratch-laws}
 use borrow.Author.Needs.{needs}
 use Rattle.entry.proofs.edge.read_value.Statement.{statement}
 use Rattle.entry.proofs.edge.read_value.Tie as tie
@@ -14,7 +15,7 @@ enum-told : tie.Need-enum-told
 enum-told c = search needs
 
 returns : tie.Need-returns
-returns c = search (needs, value-laws)
+returns c = search (needs, value-laws, scratch-laws)
 
 field-requires : tie.Need-field-requires
 field-requires c κs = search needs
@@ -29,7 +30,7 @@ astray-requires : tie.Need-astray-requires
 astray-requires c κs = search needs
 
 returns-2 : tie.Need-returns-2
-returns-2 c = search (needs, value-laws)
+returns-2 c = (search (needs, value-laws), search (needs, scratch-laws))
 
 append-edge-requires : tie.Need-append-edge-requires
 append-edge-requires c κs = search (needs, value-laws)
@@ -38,10 +39,10 @@ enum-known-nodes-2 : tie.Need-enum-known-nodes-2
 enum-known-nodes-2 c = search needs
 
 returns-3 : tie.Need-returns-3
-returns-3 c = search (needs, value-laws)
+returns-3 c = search (needs, value-laws, scratch-laws)
 
 returns-4 : tie.Need-returns-4
-returns-4 c = search (needs, value-laws)
+returns-4 c = search (needs, value-laws, scratch-laws)
 
 pub read-value-spec : {M : Type 1} → statement M
 read-value-spec =

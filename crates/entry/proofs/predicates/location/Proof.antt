@@ -1,5 +1,6 @@
 -- `location` meets its contract: each way out is a law of PredicateLaws.
 use Rattle.entry.proofs.PredicateLaws.{location-laws}
+use Rattle.words.proofs.ScratchLaws.{scratch-laws}
 use borrow.Author.Needs.{needs}
 use Rattle.entry.proofs.predicates.location.Statement.{statement}
 use Rattle.entry.proofs.predicates.location.Tie as tie
@@ -8,7 +9,7 @@ misformed-requires : tie.Need-misformed-requires
 misformed-requires c κs = search needs
 
 returns : tie.Need-returns
-returns c = search (needs, location-laws)
+returns c = search (needs, location-laws, scratch-laws)
 
 value-requires : tie.Need-value-requires
 value-requires c κs = search needs
@@ -26,10 +27,10 @@ enum-known-nodes-2 : tie.Need-enum-known-nodes-2
 enum-known-nodes-2 c = search needs
 
 returns-2 : tie.Need-returns-2
-returns-2 c = search (needs, location-laws)
+returns-2 c = search (needs, location-laws, scratch-laws)
 
 returns-3 : tie.Need-returns-3
-returns-3 c = search (needs, location-laws)
+returns-3 c = search (needs, location-laws, scratch-laws)
 
 pub location-spec : {M : Type 1} → statement M
 location-spec =

@@ -1,5 +1,6 @@
 -- `predicate` meets its contract: each way out is a law of PredicateLaws.
 use Rattle.entry.proofs.PredicateLaws.{predicate-laws}
+use Rattle.words.proofs.ScratchLaws.{scratch-laws}
 use borrow.Author.Needs.{needs}
 use Rattle.entry.proofs.predicates.predicate.Statement.{statement}
 use Rattle.entry.proofs.predicates.predicate.Tie as tie
@@ -8,7 +9,7 @@ numbers-sound-requires : tie.Need-numbers-sound-requires
 numbers-sound-requires c κs = search needs
 
 returns : tie.Need-returns
-returns c = search (needs, predicate-laws)
+returns c = search (needs, predicate-laws, scratch-laws)
 
 read-requires : tie.Need-read-requires
 read-requires c κs = search needs
@@ -29,13 +30,13 @@ enum-told-2 : tie.Need-enum-told-2
 enum-told-2 c = search needs
 
 returns-2 : tie.Need-returns-2
-returns-2 c = search (needs, predicate-laws)
+returns-2 c = (search (needs, predicate-laws), search (needs, scratch-laws))
 
 returns-3 : tie.Need-returns-3
-returns-3 c = search (needs, predicate-laws)
+returns-3 c = search (needs, predicate-laws, scratch-laws)
 
 returns-4 : tie.Need-returns-4
-returns-4 c = search (needs, predicate-laws)
+returns-4 c = search (needs, predicate-laws, scratch-laws)
 
 pub predicate-spec : {M : Type 1} → statement M
 predicate-spec =

@@ -1,13 +1,14 @@
--- The sorts of the words from i on are on the stack.
+-- The sorts of the words from i on are on the stack, which is as long as at first.
 use Prim.Native.Nat.{_≤_}
 use lib.ListN.{length}
+use Rattle.words.specs.Scratch.{Scratch}
 use Rattle.words.proofs.FormedLaws.{Sorted, formed-laws}
 use borrow.Author.Needs.{needs}
 use Rattle.words.proofs.formed.well_formed.Statement.{statement}
 use Rattle.words.proofs.formed.well_formed.Tie as tie
 
 abbrev Inv-loop : tie.InvT-loop
-Inv-loop words n sorts₀ height₀ i₀ sorts height i = (n ≤ 32768) × (n ≤ length words) × Sorted words n sorts height i
+Inv-loop words n sorts₀ height₀ i₀ sorts height i = (n ≤ 32768) × (n ≤ length words) × Sorted words n sorts height i × Scratch sorts₀ sorts
 
 abbrev μ-loop : tie.MeasureT-loop
 μ-loop words n sorts₀ height₀ i₀ sorts height i = i
