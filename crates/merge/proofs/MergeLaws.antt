@@ -21,7 +21,7 @@ use Rattle.format.specs.Merger.{MergeAnswer as Answer, unmerged, merged, mergeM
 use Rattle.writer.specs.declared.WriteAnswer.{WriteAnswer}
 use Rattle.writer.specs.declared.WriteAnswer.the-variants as W
 use Rattle.writer.specs.Answer.{wordsAnswer, copyAnswer, given, Answered}
-use Rattle.writer.proofs.SheetText.{fitting-text}
+use Rattle.writer.proofs.SheetText.{words-text}
 use Rattle.merging.specs.declared.Linearization.{Linearization}
 use Rattle.merging.specs.Linearize.{refusedBy, mergedTo}
 use Rattle.linear.specs.Linearization.{linearModel, linearizationOf, linearization}
@@ -149,8 +149,8 @@ module _ (t : List ℕ) (l : Linearization) (e : l ≡ linearization t) (h : l .
       let s = sheet-of t m (f .opens) in
       let law = linear-lawful m (s .lawful) (f .unrefused) in
       let stands : ws ≡ tableOf (linear m) ++ [] = ew ∙ f .table ∙ sym (append-nil (tableOf (linear m))) in
-      let spelled = fitting-text (linear m) law ws _ (table-sheet ws [] (linear m) stands) 65536 (omega arith) in
-      let b : Answered (copyAnswer (textOf (linear m)) (length old)) old new w = subst (λ (x : Bytes). Answered (copyAnswer x (length old)) old new w) spelled a in
+      let spelled = words-text (linear m) law ws _ (table-sheet ws [] (linear m) stands) 65536 (omega arith) old in
+      let b : Answered (copyAnswer (textOf (linear m)) (length old)) old new w = subst (λ (x : F.WriteAnswer). Answered x old new w) spelled a in
       let r = said-of m t (f .opens) (f .unrefused) old new w b in
       (ap (reportedOf w) (f .edges) ∙ r .0, r .1)
 

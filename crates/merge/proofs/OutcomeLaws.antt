@@ -1,15 +1,14 @@
 -- Each way out of the code of `linearize` and `output`.
-use mathlib.Core.Path.{_≡_, refl, sym, ap, _∙_, subst}
+use mathlib.Core.Path.{_≡_, refl, sym, ap, ap₂, _∙_, subst}
 use mathlib.Core.Bool.{Bool, true, false}
-use mathlib.Core.List.{List, [], _∷_, _++_, append-assoc, append-nil}
-use mathlib.Core.Option.{Option, none, some}
+use mathlib.Core.List.{List, [], _++_, append-assoc, append-nil}
 use Prim.Native.Nat.{ℕ, zero, suc, _+_, _%_, _≤_, _<_}
 use native.Mathlib.Omega.{arith}
-use native.Mathlib.Nat.{mod-eq-of-lt}
+use native.Mathlib.Nat.{mod-eq-of-lt, mod-lt}
 use lib.ListN.{length, take, drop, replicate, length-append, length-replicate, drop-of-length-le}
-use lib.Seq.{take-at}
+use lib.Seq.{take-at, drop-append-add, drop-drop}
 use lib.Dec.{leb}
-use borrow.Author.Tests.{leb-true, leb-false}
+use borrow.Author.Tests.{le-leb}
 use Rattle.model.specs.Bounds.{maxBytes, tableWords}
 use Rattle.model.specs.Model.{Model}
 use Rattle.model.specs.Table.{tableOf}
@@ -23,18 +22,19 @@ use Rattle.format.specs.Program.{refusal, mergeOutput, programOutput}
 use Rattle.format.proofs.FitsLaws.{decimal-width}
 use Rattle.scan.specs.declared.answer.Written.{Written}
 use Rattle.scan.specs.declared.answer.Written.the-variants.{To, Full}
+use Rattle.scan.specs.Write.{fits, writtenTo, after, Wrote}
 use Rattle.text.specs.declared.ReadAnswer.{ReadAnswer}
 use Rattle.text.specs.declared.ReadAnswer.the-variants as R
 use Rattle.text.specs.Read.{readOf}
 use Rattle.text.proofs.LineBound.{refusal-line}
-use Rattle.writer.specs.Growing.{held, more, Grew}
-use Rattle.writer.proofs.GrowingLaws.{held-in, held-past, held-full, more-fits, grew-then}
 use Rattle.merge.specs.declared.MergeAnswer.{MergeAnswer}
 use Rattle.merge.specs.declared.MergeAnswer.the-variants as A
 use Rattle.merge.specs.declared.Outcome.{Outcome}
 use Rattle.merge.specs.declared.Outcome.the-variants.{Merged, Refused}
+use Rattle.merge.specs.declared.program.Printed.{Printed}
 use Rattle.merge.specs.Answers.{mergeOf}
 use Rattle.merge.specs.Outcome.{passedOn, outcome, outcomeAfter, placeOf}
+use Rattle.merge.specs.Printed.{printed, Put, Stands}
 
 -- `passed_on`
 pub passed-text : (a : MergeAnswer) (n edges : ℕ) → a ≡ A.Merged n edges → Merged n edges ≡ passedOn a
@@ -105,14 +105,6 @@ module _ (text : Bytes) (a : ReadAnswer) (e : a ≡ readOf (readAnswer text (len
 
 pub ruleset linearize-laws = (linearize-refused, linearize-untouched, linearize-merged, linearize-written)
 
--- `refusal`
-pub refusal-is : (row line k : ℕ) (old m1 m2 m3 m4 new : Bytes) (a b c d r : Written) → Grew (bytes "refused=") (To 0) old m1 a → Grew (decimal row) a m1 m2 b → Grew (bytes ",") b m2 m3 c
-    → k ≡ line % 4294967296 → Grew (decimal k) c m3 m4 d → Grew (bytes "\n") d m4 new r → Grew (refusal row (line % 4294967296)) (To 0) old new r
-unfolding refusal
-refusal-is row line k old m1 m2 m3 m4 new a b c d r p q s e u v =
-    let t : Grew (decimal (line % 4294967296)) c m3 m4 d = subst (λ (n : ℕ). Grew (decimal n) c m3 m4 d) e u in
-    grew-then (bytes "refused=") _ (To 0) a r old m1 new p (grew-then (decimal row) _ a b r m1 m2 new q (grew-then (bytes ",") _ b c r m2 m3 new s (grew-then _ (bytes "\n") c d r m3 m4 new t v)))
-
 -- `place`
 pub place-to : (w : Written) (n : ℕ) → w ≡ To n → n ≡ placeOf w
 unfolding placeOf
@@ -124,17 +116,79 @@ place-full w e = sym (ap placeOf e)
 
 pub ruleset place-laws = (place-to, place-full)
 
+-- `put` and `digits`
+pub put-by : (t : Bytes) (at : ℕ) (old new : Bytes) (w : Written) (n : ℕ) → Wrote t at old new w → n ≡ placeOf w → Put t at old new n
+put-by t at old new w n x e = record { end = e ∙ ap placeOf (x .answer); memory = x .memory; long = x .long }
+
+-- `refusal`: a text is written on behind what stands in the first bytes
+stands-none : (old : Bytes) → Stands [] old old 0
+unfolding withText
+stands-none old = record { end = refl; memory = refl; long = refl }
+
+stands-then : (t u old mid new : Bytes) (n k : ℕ) → Stands t old mid n → Put u n mid new k → length t + length u ≤ length old → Stands (t ++ u) old new k
+unfolding writtenTo after fits placeOf withText
+stands-then t u old mid new n k s x room =
+    let n-is = s .end in
+    let mid-long = s .long in
+    let h : n + length u ≤ length mid = omega arith in
+    let f : leb (n + length u) (length mid) ≡ true = le-leb (n + length u) (length mid) h in
+    let both = length-append t u in
+    let r : writtenTo u n mid ≡ To (n + length u) = rw (f, writtenTo) in
+    let m : new ≡ (take n mid ++ u) ++ drop (n + length u) mid = x .memory ∙ rw (f, after) in
+    let first : take n mid ≡ t = ap (take n) (s .memory) ∙ take-at t (drop (length t) old) n (sym n-is) in
+    let rest : drop (n + length u) mid ≡ drop (length (t ++ u)) old =
+    ap (λ (i : ℕ). drop (i + length u) mid) n-is ∙
+    ap (drop (length t + length u)) (s .memory) ∙
+    drop-append-add t (drop (length t) old) (length u) ∙
+    drop-drop (length u) (length t) old ∙
+    ap (λ (i : ℕ). drop i old) (sym both) in
+    record {
+      end = x .end ∙ ap placeOf r ∙ ap (λ (i : ℕ). i + length u) n-is ∙ sym both;
+      memory = m ∙ ap₂ (λ (a b : Bytes). (a ++ u) ++ b) first rest;
+      long = x .long ∙ mid-long;
+    }
+
+-- it is short: a number of 32 bits has at most ten digits
+pub refusal-is : (row line k : ℕ) (old m1 m2 m3 m4 new : Bytes) (a b c d r : ℕ) → 30 ≤ length old → row < 4294967296 → Put (bytes "refused=") 0 old m1 a → Put (decimal row) a m1 m2 b
+    → Put (bytes ",") b m2 m3 c → k ≡ line % 4294967296 → Put (decimal k) c m3 m4 d → Put (bytes "\n") d m4 new r → Stands (refusal row (line % 4294967296)) old new r
+unfolding refusal
+refusal-is row line k old m1 m2 m3 m4 new a b c d r room low p q s e t z =
+    let row-short = decimal-width 9 row (omega arith) in
+    let k-low : k < 4294967296 = subst (λ (n : ℕ). n < 4294967296) (sym e) (mod-lt line (omega arith)) in
+    let k-short = decimal-width 9 k (omega arith) in
+    let t1 = bytes "refused=" in
+    let t2 = t1 ++ decimal row in
+    let t3 = t2 ++ bytes "," in
+    let t4 = t3 ++ decimal k in
+    let l2 = length-append t1 (decimal row) in
+    let l3 = length-append t2 (bytes ",") in
+    let l4 = length-append t3 (decimal k) in
+    let s1 = stands-then [] t1 old old m1 0 a (stands-none old) p (omega arith) in
+    let s2 = stands-then t1 (decimal row) old m1 m2 a b s1 q (omega arith) in
+    let s3 = stands-then t2 (bytes ",") old m2 m3 b c s2 s (omega arith) in
+    let s4 = stands-then t3 (decimal k) old m3 m4 c d s3 t (omega arith) in
+    let s5 = stands-then t4 (bytes "\n") old m4 new d r s4 z (omega arith) in
+    let right : t4 ++ bytes "\n" ≡ refusal row k = joined-right t1 (decimal row) (bytes ",") (decimal k) (bytes "\n") in
+    subst (λ (b : Bytes). Stands b old new r) (right ∙ ap (refusal row) e) s5
+  where
+    joined-right : (a b c d e : Bytes) → (((a ++ b) ++ c) ++ d) ++ e ≡ a ++ (b ++ (c ++ (d ++ e)))
+    joined-right a b c d e = simp append-assoc
+
 -- `output`: the outcome for a buffer of 65,536 bytes, and the program's output: a text, or a refusal
 record Printing (text new : Bytes) (n : ℕ) : Type 0 where
-  prints : take n new ≡ programOutput text
+  size : n ≡ length (programOutput text)
+  memory : new ≡ withText (programOutput text) (replicate 65536 0)
   within : n ≤ length new
 
 record Refusing (text new : Bytes) (row line : ℕ) : Type 0 where
   prints : programOutput text ≡ refusal row line
   short : line ≤ maxBytes + 1
-  room : length new ≡ 65536
+  same : new ≡ replicate 65536 0
 
-module _ (text zeros : Bytes) (long : length zeros ≡ 65536) where
+module _ (text zeros : Bytes) (are : zeros ≡ replicate 65536 0) where
+  long : length zeros ≡ 65536
+  long = ap length are ∙ length-replicate {A = ℕ} 65536 0
+
   prints-text : (m : Model) → readAnswer text tableWords ≡ Reader.accepted m → (t : Bytes) (edges : ℕ) → mergeAnswer (tableOf m) (length zeros) ≡ merged t edges
       → Printing text (outcomeAfter text zeros) (length t)
   unfolding outcomeAfter mergeAfter withText programOutput mergeOutput
@@ -143,20 +197,21 @@ module _ (text zeros : Bytes) (long : length zeros ≡ 65536) where
       let whole = ap length after in
       let parts = length-append t (drop (length t) zeros) in
       let h : mergeAnswer (tableOf m) maxBytes ≡ merged t edges = ap (mergeAnswer (tableOf m)) (sym long) ∙ g in
-      record { prints = ap (take (length t)) after ∙ take-at t (drop (length t) zeros) (length t) refl ∙ sym (rw (f, programOutput, h, mergeOutput)); within = omega arith }
+      let is : t ≡ programOutput text = sym (rw (f, programOutput, h, mergeOutput)) in
+      record { size = ap length is; memory = after ∙ ap₂ withText is are; within = omega arith }
 
   prints-row : (m : Model) → readAnswer text tableWords ≡ Reader.accepted m → (row : ℕ) → mergeAnswer (tableOf m) (length zeros) ≡ unmerged row → Refusing text (outcomeAfter text zeros) row 0
   unfolding outcomeAfter mergeAfter programOutput mergeOutput
   prints-row m f row g =
       let h : mergeAnswer (tableOf m) maxBytes ≡ unmerged row = ap (mergeAnswer (tableOf m)) (sym long) ∙ g in
       let after : outcomeAfter text zeros ≡ zeros = rw (f, outcomeAfter, g, mergeAfter) in
-      record { prints = rw (f, programOutput, h, mergeOutput); short = omega arith; room = ap length after ∙ long }
+      record { prints = rw (f, programOutput, h, mergeOutput); short = omega arith; same = after ∙ are }
 
   prints-line : (row line : ℕ) → readAnswer text tableWords ≡ Reader.refused row line → Refusing text (outcomeAfter text zeros) row line
   unfolding outcomeAfter programOutput
   prints-line row line f =
       let after : outcomeAfter text zeros ≡ zeros = rw (f, outcomeAfter) in
-      record { prints = rw (f, programOutput); short = refusal-line text tableWords row line f; room = ap length after ∙ long }
+      record { prints = rw (f, programOutput); short = refusal-line text tableWords row line f; same = after ∙ are }
 
   -- which of them, by the outcome
   in-text : (n edges : ℕ) → outcome text (length zeros) ≡ Merged n edges → Printing text (outcomeAfter text zeros) n
@@ -198,74 +253,42 @@ module _ (text zeros : Bytes) (long : length zeros ≡ 65536) where
       go (Reader.refused x y) f = both x y (sym (rw (f, outcome)) ∙ e) (prints-line x y f)
       go (Reader.accepted m) f = in-model m f (mergeAnswer (tableOf m) (length zeros)) refl
 
--- a refusal is short
-refusal-short : (row line : ℕ) → row < 4294967296 → line < 4294967296 → length (refusal row line) ≤ 30
-unfolding refusal
-refusal-short row line h k =
-    let r = decimal-width 9 row (omega arith) in
-    let l = decimal-width 9 line (omega arith) in
-    let a = length-append (decimal row) (bytes "," ++ (decimal line ++ bytes "\n")) in
-    let b = length-append (decimal line) (bytes "\n") in
-    omega arith
-
--- what has grown from the start of a buffer with room for it
-grown-whole : (t old new : Bytes) (w : Written) → Grew t (To 0) old new w → length t ≤ length old → (take (placeOf w) new ≡ t) × (placeOf w ≤ length new)
-unfolding placeOf
-grown-whole t old new w g room = go w refl
-  where
-    whole : held w new ≡ some t
-    whole = g .text ∙ ap (λ (o : Option Bytes). more (length old) o t) (held-in 0 old (omega arith)) ∙ more-fits (length old) [] t (omega arith)
-
-    go : (x : Written) → w ≡ x → (take (placeOf x) new ≡ t) × (placeOf x ≤ length new)
-    go Full e = let s : none ≡ some t = sym (held-full new) ∙ ap (λ (y : Written). held y new) (sym e) ∙ whole in let z : _≡_ {A = ℕ} 0 1 = cc in absurd (omega arith)
-    go (To n) e = in-buffer (leb n (length new)) refl
-      where
-        there : held (To n) new ≡ some t
-        there = ap (λ (y : Written). held y new) (sym e) ∙ whole
-
-        in-buffer : (b : Bool) → leb n (length new) ≡ b → (take n new ≡ t) × (n ≤ length new)
-        in-buffer true f =
-            let h = leb-true n (length new) f in
-            let s : some (take n new) ≡ some t = sym (held-in n new h) ∙ there in
-            (cc, h)
-        in-buffer false f =
-            let h = leb-false n (length new) f in
-            let s : none ≡ some t = sym (held-past n new h) ∙ there in
-            let z : _≡_ {A = ℕ} 0 1 = cc in
-            absurd (omega arith)
+-- the whole of what `output` answers
+printed-by : (text new : Bytes) (n : ℕ) → n ≡ length (programOutput text) → new ≡ withText (programOutput text) (replicate 65536 0) → _≡_ {A = Printed} (record { bytes = new; length = n }) (printed (programOutput text))
+unfolding printed
+printed-by text new n e f = rw (e, f)
 
 module _ (text : Bytes) (o : Outcome) (e : o ≡ outcome text (length {A = ℕ} (replicate 65536 0))) (new : Bytes) (g : new ≡ outcomeAfter text (replicate 65536 0)) where
-  bytes-long : length {A = ℕ} (replicate 65536 0) ≡ 65536
-  bytes-long = length-replicate {A = ℕ} 65536 0
-
   module _ (n edges : ℕ) (f : o ≡ Merged n edges) where
     printing : Printing text new n
-    printing = subst (λ (b : Bytes). Printing text b n) (sym g) (in-text text (replicate 65536 0) bytes-long n edges (sym e ∙ f))
+    printing = subst (λ (b : Bytes). Printing text b n) (sym g) (in-text text (replicate 65536 0) refl n edges (sym e ∙ f))
 
-    pub output-text : take n new ≡ programOutput text
-    output-text = printing .prints
+    pub output-text : _≡_ {A = Printed} (record { bytes = new; length = n }) (printed (programOutput text))
+    output-text = printed-by text new n (printing .size) (printing .memory)
 
     pub output-within : n ≤ length new
     output-within = printing .within
 
-  module _ (row line : ℕ) (f : o ≡ Refused row line) (low : row < 4294967296) (end : Bytes) (w : Written) (grew : Grew (refusal row (line % 4294967296)) (To 0) new end w) where
+  module _ (row line : ℕ) (f : o ≡ Refused row line) where
     refusing : Refusing text new row line
-    refusing = subst (λ (b : Bytes). Refusing text b row line) (sym g) (in-row text (replicate 65536 0) bytes-long row line (sym e ∙ f))
+    refusing = subst (λ (b : Bytes). Refusing text b row line) (sym g) (in-row text (replicate 65536 0) refl row line (sym e ∙ f))
 
-    spelled : (take (placeOf w) end ≡ programOutput text) × (placeOf w ≤ length end)
-    spelled =
-        let s = refusing .short in
-        let r = refusing .room in
-        let k : line < 4294967296 = omega arith in
-        let fits = refusal-short row line low k in
-        let grown : Grew (refusal row line) (To 0) new end w = subst (λ (i : ℕ). Grew (refusal row i) (To 0) new end w) (mod-eq-of-lt k) grew in
-        let x = grown-whole (refusal row line) new end w grown (omega arith) in
-        (x .0 ∙ sym (refusing .prints), x .1)
+    module _ (end : Bytes) (n : ℕ) (s : Stands (refusal row (line % 4294967296)) new end n) where
+      spelled : Printing text end n
+      unfolding withText
+      spelled =
+          let short = refusing .short in
+          let k : line < 4294967296 = omega arith in
+          let is : refusal row (line % 4294967296) ≡ programOutput text = ap (refusal row) (mod-eq-of-lt k) ∙ sym (refusing .prints) in
+          let whole = ap length (s .memory) in
+          let parts = length-append (refusal row (line % 4294967296)) (drop (length (refusal row (line % 4294967296))) new) in
+          let size = s .end in
+          record { size = size ∙ ap length is; memory = s .memory ∙ ap₂ withText is (refusing .same); within = omega arith }
 
-    pub output-refusal : (n : ℕ) → n ≡ placeOf w → take n end ≡ programOutput text
-    output-refusal n h = ap (λ (i : ℕ). take i end) h ∙ spelled .0
+      pub output-refusal : _≡_ {A = Printed} (record { bytes = end; length = n }) (printed (programOutput text))
+      output-refusal = printed-by text end n (spelled .size) (spelled .memory)
 
-    pub output-inside : (n : ℕ) → n ≡ placeOf w → n ≤ length end
-    output-inside n h = let x = spelled .1 in omega arith
+      pub output-inside : n ≤ length end
+      output-inside = spelled .within
 
 pub ruleset output-laws = (output-text, output-within, output-refusal, output-inside)

@@ -18,11 +18,11 @@ use Rattle.lines.specs.Due.{isEnd, dueFirst, dueAfter}
 use Rattle.outline.specs.Outline.{reach}
 use Rattle.scan.specs.declared.answer.Written.{Written}
 use Rattle.scan.specs.declared.answer.Written.the-variants.{To, Full}
-use Rattle.scan.specs.Write.{fits, after, Wrote}
+use Rattle.scan.specs.Write.{fits, writtenTo, after, Wrote}
 use Rattle.writer.specs.declared.WriteAnswer.the-variants as W
 use Rattle.writer.specs.Growing.{start, held, more, Grew}
 use Rattle.writer.specs.Text.{lineOf, sizeOf, linesFrom, sheetText}
-use Rattle.writer.specs.Answer.{fitting, Spelt, copyAnswer, given, Answered}
+use Rattle.writer.specs.Answer.{Spelt, copyAnswer, roomAnswer, given, Answered}
 use Rattle.writer.proofs.GrowingLaws.{held-in, held-past, held-full, more-none, more-more, more-fits, more-full}
 use Rattle.writer.proofs.ReadLaws.{reach-drop}
 
@@ -86,13 +86,17 @@ module _ (t old : List ℕ) where
 pub ruleset lines-laws = (lines-first, lines-spent, lines-over, lines-next)
 
 -- `spell`
-pub fitting-in : (room : ℕ) (t : Bytes) → length t ≤ room → fitting room t ≡ t
-unfolding fitting
-fitting-in room t h = rw (le-leb (length t) room h, fitting)
+written-in : (t old : Bytes) → length t ≤ length old → writtenTo t 0 old ≡ To (length t)
+unfolding writtenTo fits
+written-in t old h =
+    let f : leb (0 + length t) (length old) ≡ true = rw (zero-add (length t)) (le-leb (length t) (length old) h) in
+    rw (f, writtenTo) (ap To (zero-add (length t)))
 
-fitting-out : (room : ℕ) (t : Bytes) → room < length t → fitting room t ≡ []
-unfolding fitting
-fitting-out room t h = rw (lt-leb (length t) room h, fitting)
+written-out : (t old : Bytes) → length old < length t → writtenTo t 0 old ≡ Full
+unfolding writtenTo fits
+written-out t old h =
+    let f : leb (0 + length t) (length old) ≡ false = rw (zero-add (length t)) (lt-leb (length t) (length old) h) in
+    rw (f, writtenTo)
 
 from-start : (old t : Bytes) (b : Bool) → leb (length t) (length old) ≡ b → more (length old) (held start old) t ≡ elim b [ true ↦ some t | false ↦ none ]
 from-start old t true e =
@@ -103,33 +107,34 @@ from-start old t false e =
     ap (λ (o : Option Bytes). more (length old) o t) (held-in 0 old (omega arith)) ∙ more-full (length old) [] t h
 
 module _ (t old new : Bytes) (end : Written) (g : Grew t start old new end) where
-  no-room : held end new ≡ none → Spelt t old new 0
+  no-room : held end new ≡ none → Spelt t old new Full
   no-room e = go (leb (length t) (length old)) refl
     where
-      go : (b : Bool) → leb (length t) (length old) ≡ b → Spelt t old new 0
+      go : (b : Bool) → leb (length t) (length old) ≡ b → Spelt t old new Full
       go true f = absurd (none-some t (sym e ∙ g .text ∙ from-start old t true f))
       go false f =
-          let out = fitting-out (length old) t (leb-false (length t) (length old) f) in
-          record { text = sym out; size = rw out; within = omega arith; long = g .long }
+          let h = leb-false (length t) (length old) f in
+          record { answer = sym (written-out t old h); text = λ k. absurd (omega arith); long = g .long }
 
-  pub spell-full : end ≡ Full → Spelt t old new 0
+  pub spell-full : end ≡ Full → Spelt t old new Full
   spell-full e = no-room (ap (λ (w : Written). held w new) e ∙ held-full new)
 
   module _ (n : ℕ) (e : end ≡ To n) where
-    pub spell-past : length new < n → Spelt t old new 0
+    pub spell-past : length new < n → Spelt t old new Full
     spell-past h = no-room (ap (λ (w : Written). held w new) e ∙ held-past n new h)
 
-    pub spell-in : n ≤ length new → Spelt t old new n
+    pub spell-in : n ≤ length new → Spelt t old new (To n)
     spell-in h = go (leb (length t) (length old)) refl
       where
         is : some (take n new) ≡ more (length old) (held start old) t
         is = sym (ap (λ (w : Written). held w new) e ∙ held-in n new h) ∙ g .text
 
-        go : (b : Bool) → leb (length t) (length old) ≡ b → Spelt t old new n
+        go : (b : Bool) → leb (length t) (length old) ≡ b → Spelt t old new (To n)
         go true f =
             let u : take n new ≡ t = got (take n new) t (is ∙ from-start old t true f) in
-            let v = fitting-in (length old) t (leb-true (length t) (length old) f) in
-            record { text = u ∙ sym v; size = sym (length-take-le n new h) ∙ ap length (u ∙ sym v); within = h; long = g .long }
+            let l : n ≡ length t = sym (length-take-le n new h) ∙ ap length u in
+            let k = leb-true (length t) (length old) f in
+            record { answer = ap To l ∙ sym (written-in t old k); text = λ _. ap (λ (i : ℕ). take i new) (sym l) ∙ u; long = g .long }
         go false f = absurd (none-some (take n new) (sym (is ∙ from-start old t false f)))
 
 pub ruleset spell-laws = (spell-full, spell-past, spell-in)
@@ -152,22 +157,80 @@ module _ (t old : Bytes) where
       let b : new ≡ take 0 old ++ t ++ drop (0 + length t) old = w .memory ∙ rw (f, after) in
       rw (zero-add (length t)) at b
 
-pub text-long : (t room text : Bytes) (n : ℕ) → Spelt t room text n → n ≡ length (take n text)
-text-long t room text n s = sym (length-take-le n text (s .within))
+-- what was spelled, by the answer
+module _ (t room text : Bytes) (r : Written) (s : Spelt t room text r) where
+  spelt-out : r ≡ Full → length room < length t
+  spelt-out e = go (leb (length t) (length room)) refl
+    where
+      go : (b : Bool) → leb (length t) (length room) ≡ b → length room < length t
+      go true f =
+          let z : Full ≡ To (length t) = sym e ∙ s .answer ∙ written-in t room (leb-true (length t) (length room) f) in
+          let x : _≡_ {A = ℕ} 0 1 = cc in
+          absurd (omega arith)
+      go false f = leb-false (length t) (length room) f
 
-module _ (t room text : Bytes) (n : ℕ) (s : Spelt t room text n) (old : Bytes) where
-  pub deliver-short : length old < n → Answered (copyAnswer (fitting (length room) t) (length old)) old old (W.Refused 35)
-  unfolding given bufferAfter
-  deliver-short h =
-      let e = no-room-answer (fitting (length room) t) old (rw (s .size) at h) in
-      record { answer = ap given (sym e); memory = ap (λ (a : Answer). bufferAfter a old) (sym e); long = refl }
+  module _ (n : ℕ) (e : r ≡ To n) where
+    spelt-room : length t ≤ length room
+    spelt-room = go (leb (length t) (length room)) refl
+      where
+        go : (b : Bool) → leb (length t) (length room) ≡ b → length t ≤ length room
+        go true f = leb-true (length t) (length room) f
+        go false f =
+            let z : To n ≡ Full = sym e ∙ s .answer ∙ written-out t room (leb-false (length t) (length room) f) in
+            let x : _≡_ {A = ℕ} 0 1 = cc in
+            absurd (omega arith)
 
-  pub deliver-fits : n ≤ length old → (new : Bytes) (end : Written) → Wrote (take n text) 0 old new end → Answered (copyAnswer (fitting (length room) t) (length old)) old new (W.Written n)
-  unfolding given bufferAfter
-  deliver-fits h new end w =
-      let l : length (fitting (length room) t) ≤ length old = rw (s .size) at h in
-      let e = room-answer (fitting (length room) t) old l in
-      let c = copied-text (fitting (length room) t) old l new end (rw (s .text) at w) in
-      record { answer = ap W.Written (s .size) ∙ ap given (sym e); memory = c ∙ ap (λ (a : Answer). bufferAfter a old) (sym e); long = w .long }
+    spelt-size : n ≡ length t
+    spelt-size = let z : To n ≡ To (length t) = sym e ∙ s .answer ∙ written-in t room spelt-room in cc
 
-pub ruleset deliver-laws = (deliver-short, deliver-fits)
+    pub spelt-within : n ≤ length text
+    spelt-within = let a = spelt-room in let b = spelt-size in let c = s .long in omega arith
+
+    pub spelt-long : n ≡ length (take n text)
+    spelt-long = sym (length-take-le n text spelt-within)
+
+    spelt-text : take n text ≡ t
+    spelt-text = ap (λ (i : ℕ). take i text) spelt-size ∙ s .text spelt-room
+
+-- the answer and the buffer of `deliver`, by both rooms
+module _ (t : Bytes) (room : ℕ) (old : Bytes) where
+  short-of : length old < length t → roomAnswer room t (length old) ≡ unwritten 35
+  unfolding roomAnswer
+  short-of h = go (row35 room t) refl
+    where
+      go : (b : Bool) → row35 room t ≡ b → roomAnswer room t (length old) ≡ unwritten 35
+      go true f = rw (f, roomAnswer)
+      go false f = rw (f, roomAnswer) (no-room-answer t old h)
+
+  too-long : room < length t → roomAnswer room t (length old) ≡ unwritten 35
+  unfolding roomAnswer row35
+  too-long h = rw (lt-ltb room (length t) h, roomAnswer)
+
+  pub with-room : length t ≤ room → roomAnswer room t (length old) ≡ copyAnswer t (length old)
+  unfolding roomAnswer row35
+  with-room h = rw (le-ltb room (length t) h, roomAnswer)
+
+refused-35 : (a : Answer) (old : Bytes) → a ≡ unwritten 35 → Answered a old old (W.Refused 35)
+unfolding given bufferAfter
+refused-35 a old e = record { answer = ap given (sym e); memory = ap (λ (x : Answer). bufferAfter x old) (sym e); long = refl }
+
+module _ (t room text : Bytes) (r : Written) (s : Spelt t room text r) (old : Bytes) where
+  pub deliver-full : r ≡ Full → Answered (roomAnswer (length room) t (length old)) old old (W.Refused 35)
+  deliver-full e = refused-35 _ old (too-long t (length room) old (spelt-out t room text r s e))
+
+  module _ (n : ℕ) (e : r ≡ To n) where
+    pub deliver-short : length old < n → Answered (roomAnswer (length room) t (length old)) old old (W.Refused 35)
+    deliver-short h =
+        let l : length old < length t = rw (spelt-size t room text r s n e) at h in
+        refused-35 _ old (short-of t (length room) old l)
+
+    pub deliver-fits : n ≤ length old → (new : Bytes) (end : Written) → Wrote (take n text) 0 old new end → Answered (roomAnswer (length room) t (length old)) old new (W.Written n)
+    unfolding given bufferAfter
+    deliver-fits h new end w =
+        let size = spelt-size t room text r s n e in
+        let l : length t ≤ length old = rw size at h in
+        let a = with-room t (length room) old (spelt-room t room text r s n e) ∙ room-answer t old l in
+        let c = copied-text t old l new end (rw (spelt-text t room text r s n e) at w) in
+        record { answer = ap W.Written size ∙ ap given (sym a); memory = c ∙ ap (λ (x : Answer). bufferAfter x old) (sym a); long = w .long }
+
+pub ruleset deliver-laws = (spelt-within, spelt-long, deliver-full, deliver-short, deliver-fits)

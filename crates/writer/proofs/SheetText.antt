@@ -39,9 +39,9 @@ use Rattle.format.proofs.FitsLaws.{text-fits}
 use Rattle.writer.specs.Text.{rangeText, fieldText, edgeText, valueOf, keyText, lineOf, sizeOf, linesFrom, sheetText}
 use Rattle.writer.specs.declared.WriteAnswer.{WriteAnswer}
 use Rattle.writer.specs.declared.WriteAnswer.the-variants as W
-use Rattle.writer.specs.Answer.{fitting, Spelt, copyAnswer, given, Answered}
+use Rattle.writer.specs.Answer.{copyAnswer, roomAnswer, given, Answered}
 use Rattle.writer.proofs.TextLaws.{predicate-text, tree-text}
-use Rattle.writer.proofs.SheetLaws.{lines-end, lines-on, fitting-in}
+use Rattle.writer.proofs.SheetLaws.{lines-end, lines-on, with-room}
 
 -- four items with commas between them
 fields : (a b c t : Bytes) → (a ++ (comma ∷ [])) ++ (b ++ (comma ∷ [])) ++ (c ++ (comma ∷ [])) ++ t ≡ a ++ (comma ∷ (b ++ (comma ∷ (c ++ (comma ∷ (t ++ []))))))
@@ -190,22 +190,16 @@ module _ (m : Model) (h : Lawful m) (t rest : List ℕ) (stands : t ≡ sheetWor
       lines-text (lines m) atFirst dueAtFirst m dueFirst due-first (follow-lines m) (lawful-is m .1 h) 8193 (omega arith) rest
 
   -- and it fits
-  pub fitting-text : (room : ℕ) → 65536 ≤ room → fitting room (sheetText t) ≡ textOf m
-  fitting-text room big =
+  pub words-text : (room : ℕ) → 65536 ≤ room → (old : Bytes) → roomAnswer room (sheetText t) (length old) ≡ copyAnswer (textOf m) (length old)
+  words-text room big old =
       let l = text-fits m h in
       let k : length (textOf m) ≤ room = omega arith in
-      ap (fitting room) sheet-text ∙ fitting-in room (textOf m) k
+      ap (λ (b : Bytes). roomAnswer room b (length old)) sheet-text ∙ with-room (textOf m) room old k
 
-  -- so that is what `spell` leaves in the first bytes
-  pub spell-model : (old new : Bytes) (n : ℕ) → 65536 ≤ length old → Spelt (sheetText t) old new n → (n ≡ length (textOf m)) × (take n new ≡ textOf m)
-  spell-model old new n big s =
-      let e = fitting-text (length old) big in
-      (s .size ∙ ap length e, s .text ∙ e)
-
-pub opened-text : (t : List ℕ) (m : Model) → openTable t ≡ opened m → fitting 65536 (sheetText t) ≡ textOf m
-opened-text t m e =
+pub opened-text : (t : List ℕ) (m : Model) → openTable t ≡ opened m → (old : Bytes) → roomAnswer 65536 (sheetText t) (length old) ≡ copyAnswer (textOf m) (length old)
+opened-text t m e old =
     let s = sheet-of t m e in
-    fitting-text m (s .lawful) t (s .rest) (s .stands) 65536 (omega arith)
+    words-text m (s .lawful) t (s .rest) (s .stands) 65536 (omega arith) old
 
 -- `write`
 module _ (t old : List ℕ) (c : Checked) (e : c ≡ answered (openTable t)) where
@@ -221,7 +215,7 @@ module _ (t old : List ℕ) (c : Checked) (e : c ≡ answered (openTable t)) whe
           let z : _≡_ {A = ℕ} 0 1 = cc (ap answered p) in
           absurd (omega arith)
 
-  pub write-good : c ≡ Good → (new : Bytes) (r : WriteAnswer) → Answered (copyAnswer (fitting 65536 (sheetText t)) (length old)) old new r → Answered (writeAnswer t (length old)) old new r
+  pub write-good : c ≡ Good → (new : Bytes) (r : WriteAnswer) → Answered (roomAnswer 65536 (sheetText t) (length old)) old new r → Answered (writeAnswer t (length old)) old new r
   unfolding writeAnswer answered copyAnswer
   write-good f new r g = go (openTable t) refl
     where
@@ -230,7 +224,7 @@ module _ (t old : List ℕ) (c : Checked) (e : c ≡ answered (openTable t)) whe
           let z : _≡_ {A = ℕ} 0 1 = cc (ap answered p) in
           absurd (omega arith)
       go (opened m) p =
-          let h : Answered (copyAnswer (textOf m) (length old)) old new r = rw (opened-text t m p) at g in
+          let h : Answered (copyAnswer (textOf m) (length old)) old new r = rw (opened-text t m p old) at g in
           rw (p, writeAnswer) h
 
 pub ruleset write-laws = (write-refused, write-good)

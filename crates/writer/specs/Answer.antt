@@ -2,33 +2,33 @@
 use Prim.Native.Nat.{ℕ, _≤_}
 use mathlib.Core.Path.{_≡_}
 use mathlib.Core.Bool.{true, false}
-use mathlib.Core.List.{List, []}
+use mathlib.Core.List.{List}
 use lib.ListN.{length, take}
-use lib.Dec.{leb}
 use Rattle.format.specs.Bytes.{Bytes}
 use Rattle.format.specs.Writer.{row35, WriteAnswer as Answer, unwritten, written, bufferAfter}
+use Rattle.scan.specs.declared.answer.Written as S
+use Rattle.scan.specs.Write.{writtenTo}
 use Rattle.writer.specs.Text.{sheetText}
 use Rattle.writer.specs.declared.WriteAnswer.{WriteAnswer}
 use Rattle.writer.specs.declared.WriteAnswer.the-variants.{Written, Refused}
 
--- a text, if there is room for it
-unfoldable pub fitting : (room : ℕ) → Bytes → Bytes
-fitting room t = elim (leb (length t) room) [ true ↦ t | false ↦ [] ]
-
--- the first n bytes are the text t, if the buffer has room for it, and otherwise there are none
-pub record Spelt (t : Bytes) (old new : Bytes) (n : ℕ) : Type 0 where
-  pub text : take n new ≡ fitting (length old) t
-  pub size : n ≡ length (fitting (length old) t)
-  pub within : n ≤ length new
+-- the text t stands in the first bytes, and they end where the answer says; or Full, where the buffer has no room for it
+pub record Spelt (t : Bytes) (old new : Bytes) (r : S.Written) : Type 0 where
+  pub answer : r ≡ writtenTo t 0 old
+  pub text : length t ≤ length old → take (length t) new ≡ t
   pub long : length new ≡ length old
 
 -- row 35, or the text
 unfoldable pub copyAnswer : Bytes → (buffer : ℕ) → Answer
 copyAnswer text buffer = elim (row35 buffer text) [ true ↦ unwritten 35 | false ↦ written text ]
 
--- for words that are not checked: what they spell, if it is not longer than `room`
+-- the same where no buffer counts for more than `room` bytes: a text that is longer than that is refused by row 35 too
+unfoldable pub roomAnswer : (room : ℕ) → Bytes → (buffer : ℕ) → Answer
+roomAnswer room text buffer = elim (row35 room text) [ true ↦ unwritten 35 | false ↦ copyAnswer text buffer ]
+
+-- for words that are not checked: what they spell
 abbrev pub wordsAnswer : (room : ℕ) → List ℕ → (buffer : ℕ) → Answer
-wordsAnswer room ws buffer = copyAnswer (fitting room (sheetText ws)) buffer
+wordsAnswer room ws buffer = roomAnswer room (sheetText ws) buffer
 
 -- an answer as the code gives it
 unfoldable pub given : Answer → WriteAnswer

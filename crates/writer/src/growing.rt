@@ -5,7 +5,7 @@ ghost use Rattle.format.specs.Number as N;
 ghost use Rattle.model.specs.Table.{unbiased};
 ghost use Rattle.writer.specs.Growing.{Grew, between};
 
-pub fn put(s: &[u8], out: &mut [u8], at: Written) -> Written
+pub(crate) fn put(s: &[u8], out: &mut [u8], at: Written) -> Written
     ensures { λ r. ⌜ Grew (now (s .entry)) at (now (out .entry)) (now (out .exit)) r ⌝ }
 {
     match at {
@@ -14,7 +14,7 @@ pub fn put(s: &[u8], out: &mut [u8], at: Written) -> Written
     }
 }
 
-pub fn number(n: u32, out: &mut [u8], at: Written) -> Written
+pub(crate) fn number(n: u32, out: &mut [u8], at: Written) -> Written
     ensures { λ r. ⌜ Grew (N.decimal n) at (now (out .entry)) (now (out .exit)) r ⌝ }
 {
     match at {

@@ -6,14 +6,12 @@ mod read;
 mod sheet;
 mod words;
 
+use scan::Written;
 use table::Checked;
 ghost use lib.ListN.{length};
 ghost use Rattle.model.specs.Bounds.{maxBytes};
 ghost use Rattle.format.specs.Writer.{writeAnswer};
 ghost use Rattle.writer.specs.Answer.{Answered, wordsAnswer};
-pub use growing::number;
-pub use growing::put;
-pub use sheet::spell;
 
 // Refused has the row. Written has the length of the text.
 pub enum WriteAnswer {
@@ -24,12 +22,15 @@ pub enum WriteAnswer {
 // No sheet's text is longer.
 const BYTES: usize = model::Model::BYTES;
 
-// What the words spell, by way of a buffer for the text. Row 35 is decided by its length, and it is copied as the last act.
+// What the words spell, by way of a buffer for the text: row 35 where that or the lent one has no room for it. The text is copied
+// as the last act.
 fn deliver(table: &[u32], text: &mut [u8], out: &mut [u8]) -> WriteAnswer
     ensures { λ r. ⌜ Answered (wordsAnswer (length (now (text .entry))) (now (table .entry)) (length (now (out .entry))))
         (now (out .entry)) (now (out .exit)) r ⌝ }
 {
-    let n = spell(table, text);
+    let Written::To(n) = sheet::spell(table, text) else {
+        return WriteAnswer::Refused(35);
+    };
     if out.len() < n {
         return WriteAnswer::Refused(35);
     }
@@ -37,7 +38,8 @@ fn deliver(table: &[u32], text: &mut [u8], out: &mut [u8]) -> WriteAnswer
     WriteAnswer::Written(n)
 }
 
-// The same by way of a buffer of its own. On the table of a model this is its text or row 35; the table is not checked.
+// The same by way of a buffer of its own; the table is not checked. On the table of a model this is its text or row 35, since no sheet's
+// text is longer than that buffer. Other words may spell more, and row 35 then refuses them whatever is lent.
 pub fn write_words(table: &[u32], out: &mut [u8]) -> WriteAnswer
     ensures { λ r. ⌜ Answered (wordsAnswer maxBytes (now (table .entry)) (length (now (out .entry)))) (now (out .entry)) (now (out .exit)) r ⌝ }
 {

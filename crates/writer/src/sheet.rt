@@ -30,19 +30,19 @@ fn all_lines(table: &[u32], out: &mut [u8]) -> Written
     end
 }
 
-// The length of the table's text, which now stands in the first bytes; 0 where the buffer is too short for it. The words are
-// not checked: those of a table that is no model's have a text too, which says nothing.
-pub fn spell(table: &[u32], out: &mut [u8]) -> usize
+// The table's text into the first bytes, up to the place that is answered; or Full, and the bytes are anything. The words are not checked:
+// those of a table that is no model's have a text too, which says nothing.
+pub(crate) fn spell(table: &[u32], out: &mut [u8]) -> Written
     ensures { λ r. ⌜ Spelt (sheetText (now (table .entry))) (now (out .entry)) (now (out .exit)) r ⌝ }
 {
     let end = all_lines(table, out);
     match end {
         Written::To(n) => {
             if n <= out.len() {
-                return n;
+                return Written::To(n);
             }
-            0
+            Written::Full
         }
-        Written::Full => 0,
+        Written::Full => Written::Full,
     }
 }

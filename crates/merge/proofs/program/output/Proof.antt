@@ -22,9 +22,6 @@ slice-aggregate-refusal c = search needs
 refusal-requires : tie.Need-refusal-requires
 refusal-requires c κs = search needs
 
-place-requires : tie.Need-place-requires
-place-requires c κs = search needs
-
 returns : tie.Need-returns
 returns c = search (needs, output-laws)
 
@@ -41,6 +38,5 @@ output-spec =
     enum-known-outcome-2
     slice-aggregate-refusal
     refusal-requires
-    place-requires
     returns
     returns-2)

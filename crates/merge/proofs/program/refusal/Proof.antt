@@ -10,8 +10,8 @@ slice-aggregate-put c = search needs
 put-requires : tie.Need-put-requires
 put-requires c κs = search needs
 
-number-requires : tie.Need-number-requires
-number-requires c κs = search needs
+digits-requires : tie.Need-digits-requires
+digits-requires c κs = search needs
 
 slice-aggregate-put-2 : tie.Need-slice-aggregate-put-2
 slice-aggregate-put-2 c = search needs
@@ -19,11 +19,11 @@ slice-aggregate-put-2 c = search needs
 put-requires-2 : tie.Need-put-requires-2
 put-requires-2 c κs = search needs
 
-cast-number : tie.Need-cast-number
-cast-number c = search needs
+cast-digits : tie.Need-cast-digits
+cast-digits c = search needs
 
-number-requires-2 : tie.Need-number-requires-2
-number-requires-2 c κs = search needs
+digits-requires-2 : tie.Need-digits-requires-2
+digits-requires-2 c κs = search needs
 
 slice-aggregate-put-3 : tie.Need-slice-aggregate-put-3
 slice-aggregate-put-3 c = search needs
@@ -43,11 +43,11 @@ refusal-spec =
     (tie.spec
     slice-aggregate-put
     put-requires
-    number-requires
+    digits-requires
     slice-aggregate-put-2
     put-requires-2
-    cast-number
-    number-requires-2
+    cast-digits
+    digits-requires-2
     slice-aggregate-put-3
     put-requires-3
     same-length
