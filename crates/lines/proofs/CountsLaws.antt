@@ -136,7 +136,7 @@ counted-after r c (initLine p) h room begun =
       nodes = add-fits (c .nodes) (nodeCount p) (room .nodes) ∙ ap (λ (n : ℕ). n + nodeCount p) (h .nodes);
     }
 counted-after r c (invLine p) h room begun =
-    let l : Location = record { init = r .init; inv = p } in
+    let l : Location = record { init = r .latest; inv = p } in
     record {
       actions = h .actions;
       variables = h .variables;

@@ -76,15 +76,15 @@ thenDue (edgesLine n) = repeat n (edge ∷ [])
 thenDue (edgeLine e) = []
 thenDue (composeLine c) = []
 
--- what has been read: the model so far, the latest predicate (at an inv line that is the init before it), and the nodes of all
--- predicates so far
+-- what has been read: the model so far, the latest predicate of any line (at an inv line that is the init of its
+-- location), and the nodes of all predicates so far
 pub record Reading : Type 0 where
   pub model : Model
-  pub init : Pred
+  pub latest : Pred
   pub nodes : ℕ
 
 unfoldable pub atFirst : Reading
-atFirst = record { model = record { actions = 0; variables = []; automata = []; tree = leaf 0 }; init = all none; nodes = 0 }
+atFirst = record { model = record { actions = 0; variables = []; automata = []; tree = leaf 0 }; latest = all none; nodes = 0 }
 
 -- the automaton that is being read is the last one
 unfoldable pub lastOf : List Automaton → Automaton
@@ -104,13 +104,13 @@ unfoldable pub addEdge : Edge → Automaton → Automaton
 addEdge e x = record { sync = x .sync; locations = x .locations; edges = x .edges ++ e ∷ [] }
 
 unfoldable pub withModel : Reading → ℕ → List Range → List Automaton → Tree → Reading
-withModel r a vs xs c = record { model = record { actions = a; variables = vs; automata = xs; tree = c }; init = r .init; nodes = r .nodes }
+withModel r a vs xs c = record { model = record { actions = a; variables = vs; automata = xs; tree = c }; latest = r .latest; nodes = r .nodes }
 
 unfoldable pub withAutomata : Reading → List Automaton → Reading
 withAutomata r xs = withModel r (r .model .actions) (r .model .variables) xs (r .model .tree)
 
 unfoldable pub withPred : Reading → Pred → Reading
-withPred r p = record { model = r .model; init = p; nodes = r .nodes + nodeCount p }
+withPred r p = record { model = r .model; latest = p; nodes = r .nodes + nodeCount p }
 
 -- what a line adds
 unfoldable pub noted : Reading → Entry → Reading
@@ -123,7 +123,7 @@ noted r (syncLine list) = withAutomata r (r .model .automata ++ record { sync = 
 noted r (locationsLine n) = r
 noted r (initLine p) = withPred r p
 noted r (invLine p) =
-    withAutomata (withPred r p) (onLast (addLocation (record { init = r .init; inv = p })) (r .model .automata))
+    withAutomata (withPred r p) (onLast (addLocation (record { init = r .latest; inv = p })) (r .model .automata))
 noted r (edgesLine n) = r
 noted r (edgeLine e) = withAutomata (withPred r (e .update)) (onLast (addEdge e) (r .model .automata))
 noted r (composeLine c) = withModel r (r .model .actions) (r .model .variables) (r .model .automata) c
