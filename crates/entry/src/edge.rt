@@ -95,7 +95,8 @@ fn read_value(
     sorts: &mut [bool; 32768],
 ) -> LineRead
     ensures { λ r. ⌜ (r ≡ valueRead counts (now (words .entry)) (now (value .entry)) at) × (now (words .exit) ≡ afterValue counts (now (words .entry)) (now (value .entry)) at) ⌝ }
-    ensures { λ _. ⌜ Scratch (now (scratch .entry)) (now (scratch .exit)) × Scratch (now (sorts .entry)) (now (sorts .exit)) ⌝ }
+    ensures { λ _. ⌜ Scratch (now (scratch .entry)) (now (scratch .exit))
+        × Scratch (now (sorts .entry)) (now (sorts .exit)) ⌝ }
 {
     let Ends::Are(from, action, to) = read_ends(value) else {
         return LineRead::Fault(3);
@@ -123,7 +124,8 @@ pub fn edge(
     sorts: &mut [bool; 32768],
 ) -> LineRead
     ensures { λ r. ⌜ (r ≡ edgeRead (now (line .entry)) ended counts (now (words .entry)) at) × (now (words .exit) ≡ edgeAfter (now (line .entry)) ended counts (now (words .entry)) at) ⌝ }
-    ensures { λ _. ⌜ Scratch (now (scratch .entry)) (now (scratch .exit)) × Scratch (now (sorts .entry)) (now (sorts .exit)) ⌝ }
+    ensures { λ _. ⌜ Scratch (now (scratch .entry)) (now (scratch .exit))
+        × Scratch (now (sorts .entry)) (now (sorts .exit)) ⌝ }
 {
     if form::misformed(line, ended, b"edge=", 4) {
         return LineRead::Fault(2);

@@ -20,8 +20,8 @@ pub enum LineRead {
     Fault(u32),
 }
 
-// The line's bytes without the LF, and whether an LF ended it; `words` is the table so far, `at` the place of its next word, `scratch`
-// is for a predicate's words, and `sorts` for their sorts: scratch memory both.
+// The line's bytes without the LF, and whether an LF ended it; `words` is the table so far, `at` the place of its next
+// word, `scratch` is for a predicate's words, and `sorts` for their sorts: scratch memory both.
 pub fn read(
     line: &[u8],
     ended: bool,
@@ -33,7 +33,8 @@ pub fn read(
     sorts: &mut [bool; 32768],
 ) -> LineRead
     ensures { λ r. ⌜ (r ≡ lineRead (now (line .entry)) ended key counts (now (words .entry)) at) × (now (words .exit) ≡ lineAfter (now (line .entry)) ended key counts (now (words .entry)) at) ⌝ }
-    ensures { λ _. ⌜ Scratch (now (scratch .entry)) (now (scratch .exit)) × Scratch (now (sorts .entry)) (now (sorts .exit)) ⌝ }
+    ensures { λ _. ⌜ Scratch (now (scratch .entry)) (now (scratch .exit))
+        × Scratch (now (sorts .entry)) (now (sorts .exit)) ⌝ }
 {
     match key {
         Key::Format => number::format(line, ended, words, at),

@@ -85,7 +85,8 @@ pub fn predicate(
     sorts: &mut [bool; 32768],
 ) -> Nodes
     ensures { λ r. ⌜ PredicateRead (now (part .entry)) (predicateFault (now (part .entry)) old counts (now (words .entry))) (now (scratch .exit)) r ⌝ }
-    ensures { λ _. ⌜ Scratch (now (scratch .entry)) (now (scratch .exit)) × Scratch (now (sorts .entry)) (now (sorts .exit)) ⌝ }
+    ensures { λ _. ⌜ Scratch (now (scratch .entry)) (now (scratch .exit))
+        × Scratch (now (sorts .entry)) (now (sorts .exit)) ⌝ }
 {
     if !words::numbers_sound(part) {
         return Nodes::Unsound(3);
@@ -119,7 +120,8 @@ pub fn location(
     sorts: &mut [bool; 32768],
 ) -> LineRead
     ensures { λ r. ⌜ (r ≡ locationRead (now (name .entry)) (now (line .entry)) ended counts (now (words .entry)) at) × (now (words .exit) ≡ locationAfter (now (name .entry)) (now (line .entry)) ended counts (now (words .entry)) at) ⌝ }
-    ensures { λ _. ⌜ Scratch (now (scratch .entry)) (now (scratch .exit)) × Scratch (now (sorts .entry)) (now (sorts .exit)) ⌝ }
+    ensures { λ _. ⌜ Scratch (now (scratch .entry)) (now (scratch .exit))
+        × Scratch (now (sorts .entry)) (now (sorts .exit)) ⌝ }
 {
     if form::misformed(line, ended, name, 1) {
         return LineRead::Fault(2);

@@ -1,5 +1,5 @@
--- The laws of `read`: where rows 3 and 5 are not broken, its tokens walk like the nodes that they spell, and so the answer and
--- the words are those of the tree.
+-- The laws of `read`: where rows 3 and 5 are not broken, its tokens walk like the nodes that they spell, and so the
+-- answer and the words are those of the tree.
 use Prim.Native.Nat.{ℕ}
 use mathlib.Core.Path.{_≡_, refl, sym, _∙_, ap, subst}
 use mathlib.Core.Bool.{Bool, true, false, not, _&&_, true≢false, Bool·not-not, _||_}

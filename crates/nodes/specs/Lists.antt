@@ -1,4 +1,5 @@
--- The lists right after `syn`, as the code judges them. Where row 3 is not broken it is `listsSound`: the law lists-sound.
+-- The lists right after `syn`, as the code judges them. Where row 3 is not broken it is `listsSound`: the law
+-- lists-sound.
 use Prim.Native.Nat.{ℕ}
 use mathlib.Core.Bool.{Bool, true, false, _&&_}
 use mathlib.Core.List.{List, [], _∷_}

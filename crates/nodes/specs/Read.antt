@@ -1,5 +1,6 @@
--- The nodes of a composition, left to right. Where rows 3 and 5 are not broken the answer is that of rows 13, 14 and 16, and
--- the words are those of the tree: the laws read-formed, read-ordered, read-count and read-words of proofs/Meaning.
+-- The nodes of a composition, left to right. Where rows 3 and 5 are not broken the answer is that of rows 13, 14 and
+-- 16, and the words are those of the tree: the laws read-formed, read-ordered, read-count and read-words of
+-- proofs/Meaning.
 use Prim.Native.Nat.{ℕ, _+_, _-_, _≤_}
 use mathlib.Core.Path.{_≡_}
 use mathlib.Core.Bool.{true, false, _&&_, _||_}

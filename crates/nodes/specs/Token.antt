@@ -1,5 +1,5 @@
--- What a token of a composition is, as the code tells it. Where row 3 is not broken it is the node that the token spells: the
--- laws word-node and set-node.
+-- What a token of a composition is, as the code tells it. Where row 3 is not broken it is the node that the token
+-- spells: the laws word-node and set-node.
 use mathlib.Core.Bool.{Bool, true, false, _||_}
 use mathlib.Core.List.{List, [], _∷_}
 use lib.Dec.{eqb}

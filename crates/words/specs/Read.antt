@@ -1,5 +1,5 @@
--- The words of the tokens as codes, what `read` answers of them and what it leaves. Where row 3 is not broken they are the
--- codes of `readWords`, up to the first stray one: the laws read-all-words, read-stray-word and never-full.
+-- The words of the tokens as codes, what `read` answers of them and what it leaves. Where row 3 is not broken they are
+-- the codes of `readWords`, up to the first stray one: the laws read-all-words, read-stray-word and never-full.
 use Prim.Native.Nat.{ℕ}
 use mathlib.Core.Path.{_≡_}
 use mathlib.Core.Bool.{Bool, true, false}

@@ -12,7 +12,7 @@ use Rattle.writer.specs.Text.{sheetText}
 use Rattle.writer.specs.declared.WriteAnswer.{WriteAnswer}
 use Rattle.writer.specs.declared.WriteAnswer.the-variants.{Written, Refused}
 
--- the text t stands in the first bytes, and they end where the answer says; or Full, where the buffer has no room for it
+-- the text t stands in the first bytes, which end where the answer says; or Full, where there is no room for it
 pub record Spelt (t : Bytes) (old new : Bytes) (r : S.Written) : Type 0 where
   pub answer : r ≡ writtenTo t 0 old
   pub text : length t ≤ length old → take (length t) new ≡ t

@@ -22,8 +22,8 @@ pub enum WriteAnswer {
 // No sheet's text is longer.
 const BYTES: usize = model::Model::BYTES;
 
-// What the words spell, by way of a buffer for the text: row 35 where that or the lent one has no room for it. The text is copied
-// as the last act.
+// What the words spell, by way of a buffer for the text: row 35 where that or the lent one has no room for it. The text
+// is copied as the last act.
 fn deliver(table: &[u32], text: &mut [u8], out: &mut [u8]) -> WriteAnswer
     ensures { λ r. ⌜ Answered (wordsAnswer (length (now (text .entry))) (now (table .entry)) (length (now (out .entry))))
         (now (out .entry)) (now (out .exit)) r ⌝ }
@@ -38,8 +38,9 @@ fn deliver(table: &[u32], text: &mut [u8], out: &mut [u8]) -> WriteAnswer
     WriteAnswer::Written(n)
 }
 
-// The same by way of a buffer of its own; the table is not checked. On the table of a model this is its text or row 35, since no sheet's
-// text is longer than that buffer. Other words may spell more, and row 35 then refuses them whatever is lent.
+// The same by way of a buffer of its own; the table is not checked. On the table of a model this is its text or row 35,
+// since no sheet's text is longer than that buffer. Other words may spell more, and row 35 then refuses them whatever
+// is lent.
 pub fn write_words(table: &[u32], out: &mut [u8]) -> WriteAnswer
     ensures { λ r. ⌜ Answered (wordsAnswer maxBytes (now (table .entry)) (length (now (out .entry)))) (now (out .entry)) (now (out .exit)) r ⌝ }
 {

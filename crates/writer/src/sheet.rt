@@ -30,8 +30,8 @@ fn all_lines(table: &[u32], out: &mut [u8]) -> Written
     end
 }
 
-// The table's text into the first bytes, up to the place that is answered; or Full, and the bytes are anything. The words are not checked:
-// those of a table that is no model's have a text too, which says nothing.
+// The table's text into the first bytes, up to the place that is answered; or Full, and the bytes are anything. The
+// words are not checked: those of a table that is no model's have a text too, which says nothing.
 pub(crate) fn spell(table: &[u32], out: &mut [u8]) -> Written
     ensures { λ r. ⌜ Spelt (sheetText (now (table .entry))) (now (out .entry)) (now (out .exit)) r ⌝ }
 {
