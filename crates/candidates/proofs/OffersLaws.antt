@@ -20,6 +20,7 @@ use Rattle.model.specs.Rules.{State}
 use Rattle.model.specs.Table.{code, sheetWords}
 use Rattle.arithmetic.specs.Values.{Inside}
 use Rattle.evaluator.proofs.Meaning.{evaluate-lawful}
+use Rattle.evaluator.proofs.FewNodes.{update-nodes}
 use Rattle.outline.specs.Outline.{reach, countAt}
 use Rattle.search.specs.Search.{isCandidate, candidates}
 use Rattle.search.specs.Masks.{restMask, Offers}
@@ -59,9 +60,11 @@ module _ (w rest : List ℕ) (m : Model) (ok : Lawful m) (sheet : w ≡ sheetWor
   unfolding nodeCount
   update-said k h e i place r d =
       let ws = words (e .update) in
+      let there = item-in (m .automata) k nobody h in
       evaluate-lawful (m .variables) (s .values) (t .values) olds news (e .update) w place
       (rw d (take-at (map code ws) r (length ws) (simp length-map)))
-      (ok .automata (automaton m k) (item-in (m .automata) k nobody h) .edges e i .update)
+      (ok .automata (automaton m k) there .edges e i .update)
+      (update-nodes m ok (automaton m k) there e i)
 
   -- the masks of automaton k, and of all automata before it
   abbrev found : ℕ → List ℕ

@@ -1,2 +1,4 @@
 pub mod Steps
+pub mod NodeLaws
 pub mod Meaning
+pub mod FewNodes

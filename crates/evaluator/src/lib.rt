@@ -1,99 +1,49 @@
 // Predicates and expressions worked out from their table words: one word a node, kind + 16 * argument, in prefix order.
-// Predicates of a checked table nest at most 24 deep; on any other words the count of nodes left ends the calls.
+// Every call takes the count of nodes left, uses one for its own node and hands the rest on from operand to operand.
+// So on any words, whatever they are, no more nodes are read than were given.
+mod nodes;
+
+use crate::nodes::Gathered;
+use crate::nodes::Pair;
+use crate::nodes::Truth;
+use crate::nodes::Value;
 ghost use mathlib.Core.Path.{_≡_};
 ghost use mathlib.Core.Bool.{true, false};
-ghost use Rattle.evaluator.specs.Evaluate.{predicateAt, expressionAt, gather, evaluate};
+ghost use Rattle.evaluator.specs.Evaluate.{predicateAt, expressionAt, gather, implication, numbers, choice, evaluate};
 
-// What a predicate says, and where the words after it begin.
-pub struct Truth {
-    pub holds: bool,
-    pub next: usize,
-}
-
-// An expression's number, and where the words after it begin.
-pub struct Value {
-    pub number: i32,
-    pub next: usize,
-}
-
-// What a row of operands says: whether all hold, whether any does, and where the words after them begin.
-pub struct Gathered {
-    pub all: bool,
-    pub any: bool,
-    pub next: usize,
-}
-
-// The predicate at `at`, with nodes nested at most `left` deep.
+// The predicate at `at`, with `left` nodes left.
 fn predicate(words: &[u32], at: usize, left: usize, before: &[i32], after: &[i32]) -> Truth
     ensures { λ r. ⌜ r ≡ predicateAt (now (words .entry)) (now (before .entry)) (now (after .entry)) left at ⌝ }
 {
     if left == 0 {
-        return Truth {
-            holds: false,
-            next: at,
-        };
+        return nodes::no_truth(at, left);
     }
+    let rest = left - 1;
     if words.len() <= at {
-        return Truth {
-            holds: false,
-            next: at,
-        };
+        return nodes::no_truth(at, rest);
     }
     let w = words[at];
-    let kind = w % 16;
     let next = at + 1;
-    let below = left - 1;
-    match kind {
-        0 => {
-            let r = operands(words, next, arithmetic::index(w / 16), below, before, after);
-            Truth {
-                holds: r.all,
-                next: r.next,
-            }
-        }
-        1 => {
-            let r = operands(words, next, arithmetic::index(w / 16), below, before, after);
-            Truth {
-                holds: r.any,
-                next: r.next,
-            }
-        }
-        2 => {
-            let p = predicate(words, next, below, before, after);
-            Truth {
-                holds: !p.holds,
-                next: p.next,
-            }
-        }
-        3 => {
-            let p = predicate(words, next, below, before, after);
-            let q = predicate(words, p.next, below, before, after);
-            Truth {
-                holds: !p.holds | q.holds,
-                next: q.next,
-            }
-        }
-        4 => {
-            let x = expression(words, next, below, before, after);
-            let y = expression(words, x.next, below, before, after);
-            Truth {
-                holds: arithmetic::same(x.number, y.number),
-                next: y.next,
-            }
-        }
-        5 => {
-            let x = expression(words, next, below, before, after);
-            let y = expression(words, x.next, below, before, after);
-            Truth {
-                holds: arithmetic::at_most(x.number, y.number),
-                next: y.next,
-            }
-        }
-        _ => Truth { holds: false, next },
+    match w % 16 {
+        0 => nodes::all_hold(operands(words, next, arithmetic::index(w / 16), rest, before, after)),
+        1 => nodes::any_holds(operands(
+            words,
+            next,
+            arithmetic::index(w / 16),
+            rest,
+            before,
+            after,
+        )),
+        2 => nodes::negated(predicate(words, next, rest, before, after)),
+        3 => implication(words, next, rest, before, after),
+        4 => nodes::equal(numbers(words, next, rest, before, after)),
+        5 => nodes::ordered(numbers(words, next, rest, before, after)),
+        _ => nodes::no_truth(next, rest),
     }
 }
 
 // `count` predicates, one after the other, from `at` on. All are read, also when the answer is known, to find the end.
+// Where no node is left, no further predicate can stand there, so not all hold.
 fn operands(
     words: &[u32],
     at: usize,
@@ -102,90 +52,90 @@ fn operands(
     before: &[i32],
     after: &[i32],
 ) -> Gathered
-    ensures { λ r. ⌜ r ≡ gather (predicateAt (now (words .entry)) (now (before .entry)) (now (after .entry)) left) count at true false ⌝ }
+    ensures { λ r. ⌜ r ≡ gather (predicateAt (now (words .entry)) (now (before .entry)) (now (after .entry))) count left at true false ⌝ }
 {
-    let mut rest = count;
+    let mut due = count;
     let mut next = at;
+    let mut rest = left;
     let mut all = true;
     let mut any = false;
-    while rest != 0 {
-        let p = predicate(words, next, left, before, after);
+    while due != 0 {
+        if rest == 0 {
+            return Gathered {
+                all: false,
+                any,
+                next,
+                left: rest,
+            };
+        }
+        let p = predicate(words, next, rest, before, after);
         all = all & p.holds;
         any = any | p.holds;
         next = p.next;
-        rest -= 1;
+        rest = p.left;
+        due -= 1;
     }
-    Gathered { all, any, next }
+    Gathered {
+        all,
+        any,
+        next,
+        left: rest,
+    }
 }
 
-// The expression at `at`, with nodes nested at most `left` deep.
+// The two operands of `imp`.
+fn implication(words: &[u32], at: usize, left: usize, before: &[i32], after: &[i32]) -> Truth
+    ensures { λ r. ⌜ r ≡ implication (predicateAt (now (words .entry)) (now (before .entry)) (now (after .entry))) left at ⌝ }
+{
+    let p = predicate(words, at, left, before, after);
+    nodes::implied(p.holds, predicate(words, p.next, p.left, before, after))
+}
+
+// The expression at `at`, with `left` nodes left.
 fn expression(words: &[u32], at: usize, left: usize, before: &[i32], after: &[i32]) -> Value
     ensures { λ r. ⌜ r ≡ expressionAt (now (words .entry)) (now (before .entry)) (now (after .entry)) left at ⌝ }
 {
     if left == 0 {
-        return Value {
-            number: 0,
-            next: at,
-        };
+        return nodes::no_value(at, left);
     }
+    let rest = left - 1;
     if words.len() <= at {
-        return Value {
-            number: 0,
-            next: at,
-        };
+        return nodes::no_value(at, rest);
     }
     let w = words[at];
-    let kind = w % 16;
     let next = at + 1;
-    let below = left - 1;
-    match kind {
-        6 => Value {
-            number: arithmetic::number(w / 16),
-            next,
-        },
-        7 => Value {
-            number: arithmetic::variable(before, arithmetic::index(w / 16)),
-            next,
-        },
-        8 => Value {
-            number: arithmetic::variable(after, arithmetic::index(w / 16)),
-            next,
-        },
-        9 => {
-            let x = expression(words, next, below, before, after);
-            let y = expression(words, x.next, below, before, after);
-            Value {
-                number: arithmetic::sum(x.number, y.number),
-                next: y.next,
-            }
-        }
-        10 => {
-            let x = expression(words, next, below, before, after);
-            let y = expression(words, x.next, below, before, after);
-            Value {
-                number: arithmetic::difference(x.number, y.number),
-                next: y.next,
-            }
-        }
-        11 => {
-            let x = expression(words, next, below, before, after);
-            let y = expression(words, x.next, below, before, after);
-            Value {
-                number: arithmetic::product(x.number, y.number),
-                next: y.next,
-            }
-        }
-        12 => {
-            let p = predicate(words, next, below, before, after);
-            let x = expression(words, p.next, below, before, after);
-            let y = expression(words, x.next, below, before, after);
-            Value {
-                number: arithmetic::choose(p.holds, x.number, y.number),
-                next: y.next,
-            }
-        }
-        _ => Value { number: 0, next },
+    match w % 16 {
+        6 => nodes::constant(w / 16, next, rest),
+        7 => nodes::variable(before, w / 16, next, rest),
+        8 => nodes::variable(after, w / 16, next, rest),
+        9 => nodes::added(numbers(words, next, rest, before, after)),
+        10 => nodes::subtracted(numbers(words, next, rest, before, after)),
+        11 => nodes::multiplied(numbers(words, next, rest, before, after)),
+        12 => choice(words, next, rest, before, after),
+        _ => nodes::no_value(next, rest),
     }
+}
+
+// Two expressions, one after the other, from `at` on.
+fn numbers(words: &[u32], at: usize, left: usize, before: &[i32], after: &[i32]) -> Pair
+    ensures { λ r. ⌜ r ≡ numbers (expressionAt (now (words .entry)) (now (before .entry)) (now (after .entry))) left at ⌝ }
+{
+    let x = expression(words, at, left, before, after);
+    let y = expression(words, x.next, x.left, before, after);
+    Pair {
+        first: x.number,
+        second: y.number,
+        next: y.next,
+        left: y.left,
+    }
+}
+
+// The three operands of `if`.
+fn choice(words: &[u32], at: usize, left: usize, before: &[i32], after: &[i32]) -> Value
+    ensures { λ r. ⌜ r ≡ choice (predicateAt (now (words .entry)) (now (before .entry)) (now (after .entry))) (expressionAt (now (words .entry)) (now (before .entry)) (now (after .entry))) left at ⌝ }
+{
+    let p = predicate(words, at, left, before, after);
+    nodes::chosen(p.holds, numbers(words, p.next, p.left, before, after))
 }
 
 // Whether the predicate whose node words stand from `at` on holds, between the values before and after a step.

@@ -1,23 +1,23 @@
 -- On the words of a lawful model, what the code tests of two states is `settled` of the definitions.
 use mathlib.Core.Path.{_≡_, refl, ap, _∙_}
 use mathlib.Core.Bool.{Bool, true, false, _&&_}
-use mathlib.Core.List.{List, [], _∷_, _++_, map}
+use mathlib.Core.List.{List, [], _∷_, _++_, map, List·Memᴰ}
 use Prim.Native.Nat.{ℕ, _≤_, _<_}
 use native.Mathlib.Omega.{arith}
 use lib.ListN.{length, getD, take, drop, length-map}
 use lib.Seq.{take-at}
 use borrow.Author.Tests.{le-leb}
-use Rattle.model.specs.Basic.{sum}
 use Rattle.model.specs.Bounds.{maxNodes}
 use Rattle.model.specs.Predicate.{Pred, words, nodeCount}
 use Rattle.model.specs.Model.{Location, Model, nowhere, nobody, automaton, location}
-use Rattle.model.specs.Lawful.{locationNodes, automatonNodes, nodeTotal, LawfulPred, LawfulLocation, Lawful}
+use Rattle.model.specs.Lawful.{LawfulPred, LawfulLocation, Lawful}
 use Rattle.model.specs.Table.{code, predWords, sheetWords}
 use Rattle.model.specs.Rules as R
 use Rattle.model.specs.Judge.{inits, invs, initial, settled}
 use Rattle.model.proofs.Tests.{and-same}
 use Rattle.arithmetic.specs.Values.{Inside}
 use Rattle.evaluator.proofs.Meaning.{evaluate-lawful}
+use Rattle.evaluator.proofs.FewNodes.{init-nodes, inv-nodes}
 use Rattle.outline.specs.Outline.{reach, automatonAt}
 use Rattle.outline.proofs.OutlineLaws.{reached, first-location}
 use Rattle.outline.proofs.Standing.{init-stands, inv-stands, automaton-stands}
@@ -46,13 +46,19 @@ partOf Inv l = l .inv
 module _ (m : Model) (lawful : Lawful m) where
   -- a location's predicates are lawful, and have no more nodes than all of them
   module _ (k j : ℕ) (h : k < length (m .automata)) (i : j < length (automaton m k .locations)) where
-    lawful-location : LawfulLocation (m .variables) (location m k j)
-    lawful-location = lawful .automata (automaton m k) (item-in (m .automata) k nobody h) .locations (location m k j) (item-in (automaton m k .locations) j nowhere i)
+    in-sheet : List·Memᴰ (automaton m k) (m .automata)
+    in-sheet = item-in (m .automata) k nobody h
 
-    lawful-part : (part : Part) → LawfulPred (m .variables) (partOf part (location m k j))
+    in-automaton : List·Memᴰ (location m k j) (automaton m k .locations)
+    in-automaton = item-in (automaton m k .locations) j nowhere i
+
+    lawful-location : LawfulLocation (m .variables) (location m k j)
+    lawful-location = lawful .automata (automaton m k) in-sheet .locations (location m k j) in-automaton
+
+    lawful-part : (part : Part) → LawfulPred (m .variables) (partOf part (location m k j)) × (nodeCount (partOf part (location m k j)) ≤ maxNodes)
     unfolding partOf
-    lawful-part Init = lawful-location .init
-    lawful-part Inv = lawful-location .inv
+    lawful-part Init = (lawful-location .init, init-nodes m lawful (automaton m k) in-sheet (location m k j) in-automaton)
+    lawful-part Inv = (lawful-location .inv, inv-nodes m lawful (automaton m k) in-sheet (location m k j) in-automaton)
 
   module _ (t rest : List ℕ) (e : t ≡ sheetWords m ++ rest) where
     pub shown-is : variablesShown t ≡ length (m .variables)
@@ -61,13 +67,13 @@ module _ (m : Model) (lawful : Lawful m) where
 
     -- the predicate that stands at a place
     module _ (s : State) (u : R.State) (shows : Shows m s u) where
-      holds-at : (p : Pred) (at : ℕ) (more : List ℕ) → drop at t ≡ predWords p ++ more → LawfulPred (m .variables) p → partHolds t (s .values) at ≡ R.holdsIn u p
+      holds-at : (p : Pred) (at : ℕ) (more : List ℕ) → drop at t ≡ predWords p ++ more → LawfulPred (m .variables) p × (nodeCount p ≤ maxNodes) → partHolds t (s .values) at ≡ R.holdsIn u p
       unfolding partHolds predWords nodeCount
       holds-at p at more stands l =
           let nodes = map code (words p) in
           let d : drop (reach t at 1) t ≡ nodes ++ more = reached t at 1 (length (words p) ∷ []) (nodes ++ more) stands refl in
           let n : take (length (words p)) (drop (reach t at 1) t) ≡ nodes = ap (take (length (words p))) d ∙ take-at nodes more (length (words p)) (simp length-map) in
-          rw (shown-is, shows .values) (evaluate-lawful (m .variables) (u .values) (u .values) (shows .inside) (shows .inside) p t (reach t at 1) n l)
+          rw (shown-is, shows .values) (evaluate-lawful (m .variables) (u .values) (u .values) (shows .inside) (shows .inside) p t (reach t at 1) n (l .0) (l .1))
 
       -- the predicate of automaton k's location
       location-at : (part : Part) (k : ℕ) → k < length (m .automata) → locationHolds t part s (automatonAt t k) k ≡ R.holdsIn u (partOf part (location m k (R.at u k)))
@@ -77,7 +83,7 @@ module _ (m : Model) (lawful : Lawful m) where
           i : R.at u k < length (automaton m k .locations)
           i = shows .known k h
 
-          go : (p : Part) → LawfulPred (m .variables) (partOf p (location m k (R.at u k)))
+          go : (p : Part) → LawfulPred (m .variables) (partOf p (location m k (R.at u k))) × (nodeCount (partOf p (location m k (R.at u k))) ≤ maxNodes)
               → partHolds t (s .values) (partAt t p (automatonAt t k) (R.at u k)) ≡ R.holdsIn u (partOf p (location m k (R.at u k)))
           go Init l = holds-at (location m k (R.at u k) .init) _ _ (init-stands t _ (automaton m k .locations) (reach t (automatonAt t k) 3) (R.at u k) i (first-location t _ (automaton m k) (automatonAt t k) (automaton-stands t rest m k h e))) l
           go Inv l = holds-at (location m k (R.at u k) .inv) _ _ (inv-stands t _ (automaton m k .locations) (reach t (automatonAt t k) 3) (R.at u k) i (first-location t _ (automaton m k) (automatonAt t k) (automaton-stands t rest m k h e))) l
