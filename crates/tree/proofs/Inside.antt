@@ -1,5 +1,5 @@
 -- On a tree's words, membership is that of the tree's synchronising set.
-use mathlib.Core.Path.{_≡_, refl, sym, ap, _∙_}
+use mathlib.Core.Path.{_≡_, refl, sym, ap, ap₂, _∙_}
 use mathlib.Core.Bool.{true, _&&_}
 use mathlib.Core.List.{List, [], _∷_, _++_}
 use Prim.Native.Nat.{ℕ, _+_, _-_, _≤_}
@@ -40,15 +40,15 @@ module _ (w sets : List ℕ) (m : Model) (action A : ℕ) (few : A ≤ maxAction
   abbrev pub Agrees : ℕ → Type 0
   Agrees k = bit (getD sets k 0) action ≡ member action (automaton m k .sync)
 
-  inside : (c : Tree) (left at : ℕ) (rest : List ℕ) → treeSize c ≤ left → drop at w ≡ treeWords c ++ rest → treeRises A c ≡ true → Leaves Agrees c → memberAt w sets action left at ≡ membership (inSet m action c) (at + length (treeWords c))
+  inside : (c : Tree) (left at : ℕ) (rest : List ℕ) → treeSize c ≤ left → drop at w ≡ treeWords c ++ rest → treeRises A c ≡ true → Leaves Agrees c → memberAt w sets action left at ≡ membership (inSet m action c) (at + length (treeWords c)) (left - treeSize c)
   unfolding inSet treeRises Leaves
   inside (par c d) left at rest h e r g =
       let s = par-stands w at rest c d e in
       let z = size-par c d in
       let first = inside c (left - 1) (at + 1) (treeWords d ++ rest) (omega arith) (s .first) (and-left (treeRises A c) _ r) (g .0) in
-      let second = inside d (left - 1) (at + 1 + length (treeWords c)) rest (omega arith) (s .second) (and-right (treeRises A c) _ r) (g .1) in
+      let second = inside d (left - 1 - treeSize c) (at + 1 + length (treeWords c)) rest (omega arith) (s .second) (and-right (treeRises A c) _ r) (g .1) in
       sym (member-par w sets action left at (omega arith) (Par (at + 1)) (sym (s .node)) (at + 1) refl _ _ (sym first) (sym second))
-      ∙ ap (membership _) (omega (arith, length-par c d))
+      ∙ ap₂ (membership _) (omega (arith, length-par c d)) (omega arith)
   inside (syn list c) left at rest h e r g =
       let s = syn-stands w at rest list c e in
       let z = size-syn list c in
@@ -56,14 +56,14 @@ module _ (w sets : List ℕ) (m : Model) (action A : ℕ) (few : A ≤ maxAction
       let back = ap (member action) (sym (list-back A list few up)) in
       let rest-of = inside c (left - 1) (at + 3) rest (omega arith) (s .next) (and-right (rises A 0 list) _ r) g in
       sym (member-syn w sets action left at (omega arith) (Syn (lowBits list) (highBits list) (at + 3)) (sym (s .node)) (lowBits list) (highBits list) (at + 3) refl (member action list) back _ (sym rest-of))
-      ∙ ap (membership _) (omega (arith, length-syn list c))
+      ∙ ap₂ (membership _) (omega (arith, length-syn list c)) (omega arith)
   inside (leaf k) left at rest h e r g =
       let z = size-leaf k in
       sym (member-leaf w sets action left at (omega arith) (Leaf k (at + 1)) (sym (leaf-stands w at rest k e)) k (at + 1) refl (getD sets k 0) refl _ (sym g))
-      ∙ ap (λ l. membership (member action (automaton m k .sync)) (at + length l)) (sym (words-leaf k))
+      ∙ ap₂ (λ l n. membership (member action (automaton m k .sync)) (at + length l) n) (sym (words-leaf k)) (omega arith)
 
   -- the walk, and `in_set`
-  pub member-of : (c : Tree) (at : ℕ) → treeSize c ≤ maxTreeNodes → take (length (treeWords c)) (drop at w) ≡ treeWords c → treeRises A c ≡ true → Leaves Agrees c → memberAt w sets action maxTreeNodes at ≡ membership (inSet m action c) (at + length (treeWords c))
+  pub member-of : (c : Tree) (at : ℕ) → treeSize c ≤ maxTreeNodes → take (length (treeWords c)) (drop at w) ≡ treeWords c → treeRises A c ≡ true → Leaves Agrees c → memberAt w sets action maxTreeNodes at ≡ membership (inSet m action c) (at + length (treeWords c)) (maxTreeNodes - treeSize c)
   member-of c at small e r g = inside c maxTreeNodes at _ small (begins w (treeWords c) at e) r g
 
   pub in-set-of : (c : Tree) (at : ℕ) → treeSize c ≤ maxTreeNodes → take (length (treeWords c)) (drop at w) ≡ treeWords c → treeRises A c ≡ true → Leaves Agrees c → inSetAt w sets action at ≡ inSet m action c
