@@ -72,9 +72,9 @@ module _ (m : Model) (action root : ℕ) where
     others : (i : ℕ) → (i ≡ at - root → ⊥) → getD after i 0 ≡ getD below i 0
     long : length after ≡ 192
 
-  stored-is : (c : Tree) (at next : ℕ) (below after : List ℕ) → after ≡ stored root at (planOf m action c next) below → length below ≡ 192 → at - root < 192 → Stored c at below after
+  stored-is : (c : Tree) (at next left : ℕ) (below after : List ℕ) → after ≡ stored root at (planOf m action c next left) below → length below ≡ 192 → at - root < 192 → Stored c at below after
   unfolding stored
-  stored-is c at next below after e long room =
+  stored-is c at next left below after e long room =
       let v = cellOf (inSet m action c) (capped (moveCount m action c)) in
       let is : after ≡ set below (at - root) v = rw (lt-ltb (at - root) 192 room, stored) at e in
       record {
@@ -106,14 +106,14 @@ module _ (w sets counts : List ℕ) (m : Model) (action A : ℕ) (few : A ≤ ma
       let middle = at + 1 + length (treeWords c) in
       let first = fills c (left - 1) (at + 1) (treeWords d ++ rest) cells (omega arith) (s .first) rc (g .0) (omega arith) (omega arith) long in
       let es = F (left - 1) (at + 1) cells in
-      let second = fills d (left - 1) middle rest es (omega arith) (s .second) (and-right (treeRises A c) _ r) (g .1) (omega arith) (omega arith) (first .long) in
-      let fs = F (left - 1) middle es in
+      let second = fills d (left - 1 - treeSize c) middle rest es (omega arith) (s .second) (and-right (treeRises A c) _ r) (g .1) (omega arith) (omega arith) (first .long) in
+      let fs = F (left - 1 - treeSize c) middle es in
       let pc = planned-is w sets counts m action A few c (left - 1) (at + 1) (treeWords d ++ rest) (omega arith) (s .first) rc (g .0) in
       let whole = planned-is w sets counts m action A few (par c d) left at rest h e r g in
       let step = fill-by w sets counts action root left at (omega arith) (Par (at + 1)) (sym (s .node)) cells in
-      let is : F left at cells ≡ stored root at (planOf m action (par c d) (at + length (treeWords (par c d)))) fs =
-      step ∙ ap₂ (λ p n. stored root at p (F (left - 1) n es)) whole (ap (λ (p : Planned). p .next) pc) in
-      let k = stored-is m action root (par c d) at _ fs (F left at cells) is (second .long) (omega arith) in
+      let is : F left at cells ≡ stored root at (planOf m action (par c d) (at + length (treeWords (par c d))) (left - treeSize (par c d))) fs =
+      step ∙ ap₂ (λ (p q : Planned). stored root at p (F (q .left) (q .next) es)) whole pc in
+      let k = stored-is m action root (par c d) at _ _ fs (F left at cells) is (second .long) (omega arith) in
       let after-first : Filled m action root fs c (at + 1) = same-filled m action root es fs c (at + 1) (omega arith) (λ i p q. second .low i (omega arith)) (first .filled) in
       record {
         filled = (
@@ -132,8 +132,8 @@ module _ (w sets counts : List ℕ) (m : Model) (action A : ℕ) (few : A ≤ ma
       let es = F (left - 1) (at + 3) cells in
       let whole = planned-is w sets counts m action A few (syn list c) left at rest h e r g in
       let step = fill-by w sets counts action root left at (omega arith) (Syn (lowBits list) (highBits list) (at + 3)) (sym (s .node)) cells in
-      let is : F left at cells ≡ stored root at (planOf m action (syn list c) (at + length (treeWords (syn list c)))) es = step ∙ ap (λ p. stored root at p es) whole in
-      let k = stored-is m action root (syn list c) at _ es (F left at cells) is (below .long) (omega arith) in
+      let is : F left at cells ≡ stored root at (planOf m action (syn list c) (at + length (treeWords (syn list c))) (left - treeSize (syn list c))) es = step ∙ ap (λ p. stored root at p es) whole in
+      let k = stored-is m action root (syn list c) at _ _ es (F left at cells) is (below .long) (omega arith) in
       record {
         filled = (k .cell, same-filled m action root es (F left at cells) c (at + 3) (omega arith) (λ i p q. k .others i (λ n. omega arith)) (below .filled));
         low = λ i p. k .others i (λ n. omega arith) ∙ below .low i (omega arith);
@@ -144,6 +144,6 @@ module _ (w sets counts : List ℕ) (m : Model) (action A : ℕ) (few : A ≤ ma
       let y = ap length (words-leaf j) in
       let whole = planned-is w sets counts m action A few (leaf j) left at rest h e r g in
       let step = fill-by w sets counts action root left at (omega arith) (Leaf j (at + 1)) (sym (leaf-stands w at rest j e)) cells in
-      let is : F left at cells ≡ stored root at (planOf m action (leaf j) (at + length (treeWords (leaf j)))) cells = step ∙ ap (λ p. stored root at p cells) whole in
-      let k = stored-is m action root (leaf j) at _ cells (F left at cells) is long (omega arith) in
+      let is : F left at cells ≡ stored root at (planOf m action (leaf j) (at + length (treeWords (leaf j))) (left - treeSize (leaf j))) cells = step ∙ ap (λ p. stored root at p cells) whole in
+      let k = stored-is m action root (leaf j) at _ _ cells (F left at cells) is long (omega arith) in
       record { filled = k .cell; low = λ i p. k .others i (λ n. omega arith); long = k .long }

@@ -20,9 +20,10 @@ use Rattle.model.proofs.Numbered.{size, Numbered}
 use Rattle.tree.specs.declared.nodes.Found.the-variants.{Par, Syn, Leaf}
 use Rattle.tree.specs.Nodes.{treeWords}
 use Rattle.tree.proofs.Standing.{par-stands, syn-stands, leaf-stands, size-par, size-syn, size-leaf, length-par, length-syn, words-leaf, skip-of}
-use Rattle.moves.specs.declared.picking.Taking.the-variants.{Both, Right}
+use Rattle.moves.specs.declared.picking.Taking.{Taking}
+use Rattle.moves.specs.declared.picking.Taking.the-variants.{Both, Left, Right}
 use Rattle.moves.specs.Capping.{capped, cellOf}
-use Rattle.moves.specs.Pick.{dividedBy, named, pickSides, cellAt, pickAt}
+use Rattle.moves.specs.Pick.{dividedBy, named, Picker, pickSides, cellAt, pickedAt}
 use Rattle.moves.specs.Takers.{noEdge, takerOf, takersIn}
 use Rattle.moves.proofs.PickLaws.{divide-cells, cell-within, name-one, pick-syn, pick-leaf, pick-par, divide-both, divide-first, divide-then}
 use Rattle.moves.proofs.CappingLaws.{cap-small}
@@ -129,11 +130,8 @@ module _ (m : Model) (action : ℕ) where
         long = ap length (sym is) ∙ length-set edges i (k + 1) ∙ long;
       }
 
-  retook : (c : Tree) (i : ℕ) (before after last : List ℕ) (move other : List Taker) → after ≡ last → move ≡ other → Took c i before after move → Took c i before last other
-  retook c i before after last move other e f t = subst (λ l. Took c i before l other) e (subst (λ x. Took c i before after x) f t)
-
-  -- the sides of a `par`, where P picks a move of each
-  module _ (c d : Tree) (i : ℕ) (n : Numbered i (par c d)) (P : ℕ → ℕ → List ℕ → List ℕ) (left right : ℕ) (edges : List ℕ) (z : Unpicked (par c d) i edges) (long : length edges ≡ 16) where
+  -- the sides of a `par`, where P picks a move of each; what a subtree uses is no more than its nodes
+  module _ (c d : Tree) (i : ℕ) (n : Numbered i (par c d)) (P : Picker) (first second left : ℕ) (nodes : treeSize c + treeSize d ≤ left) (edges : List ℕ) (z : Unpicked (par c d) i edges) (long : length edges ≡ 16) where
     abbrev X : ℕ
     X = moveCount m action c
 
@@ -147,31 +145,42 @@ module _ (m : Model) (action : ℕ) where
     R = moves m action d
 
     abbrev Picks : Tree → ℕ → ℕ → Type 0
-    Picks t first at = (k : ℕ) (es : List ℕ) → length es ≡ 16 → Unpicked t first es → k < moveCount m action t → moveCount m action t ≤ 512 → Took t first es (P at k es) (getD (moves m action t) k [])
+    Picks t from at = (l k : ℕ) (es : List ℕ) → treeSize t ≤ l → length es ≡ 16 → Unpicked t from es → k < moveCount m action t → moveCount m action t ≤ 512 → Took t from es (P l at k es .edges) (getD (moves m action t) k []) × (l ≤ P l at k es .left + treeSize t)
 
-    module _ (k : ℕ) (pc : Picks c i left) (pd : Picks d (i + size c) right) where
+    abbrev Sides : Taking → List Taker → Type 0
+    Sides t move = Took (par c d) i edges (pickSides P first second t left edges .edges) move × (left ≤ pickSides P first second t left edges .left + (treeSize c + treeSize d))
+
+    again : (t u : Taking) (move other : List Taker) → t ≡ u → move ≡ other → Sides t move → Sides u other
+    again t u move other e f s = subst (λ v. Sides v other) e (subst (λ x. Sides t x) f s)
+
+    module _ (k : ℕ) (pc : Picks c i first) (pd : Picks d (i + size c) second) where
       -- the sides' moves, by whether both, the left or the right take part
-      took-both : (q r : ℕ) → q < X → r < Y → X ≤ 512 → Y ≤ 512 → Took (par c d) i edges (P right r (P left q edges)) (getD L q [] ++ getD R r [])
-      unfolding Numbered size
+      took-both : (q r : ℕ) → q < X → r < Y → X ≤ 512 → Y ≤ 512 → Sides (Both q r) (getD L q [] ++ getD R r [])
+      unfolding Numbered size pickSides
       took-both q r hq hr fx fy =
-          let first = pc q edges long (λ j a b. z j a (omega arith)) hq fx in
-          let second = pd r (P left q edges) (first .long) (λ j a b. first .high j a ∙ z j (omega arith) (omega arith)) hr fy in
-          both-took c d i n edges (P right r (P left q edges)) (P left q edges) _ _ first second
+          let one = pc left q edges (omega arith) long (λ j a b. z j a (omega arith)) hq fx in
+          let p = P left first q edges in
+          let two = pd (p .left) r (p .edges) (omega (arith, one .1)) (one .0 .long) (λ j a b. one .0 .high j a ∙ z j (omega arith) (omega arith)) hr fy in
+          (both-took c d i n edges (P (p .left) second r (p .edges) .edges) (p .edges) _ _ (one .0) (two .0), omega (arith, one .1, two .1))
 
-      took-left : (q : ℕ) → q < X → X ≤ 512 → Took (par c d) i edges (P left q edges) (getD L q [])
-      unfolding Numbered size
-      took-left q h few = left-took c d i n edges (P left q edges) _ (λ j a b. z j (omega arith) (omega arith)) (pc q edges long (λ j a b. z j a (omega arith)) h few)
+      took-left : (q : ℕ) → q < X → X ≤ 512 → Sides (Left q) (getD L q [])
+      unfolding Numbered size pickSides
+      took-left q h few =
+          let one = pc left q edges (omega arith) long (λ j a b. z j a (omega arith)) h few in
+          (left-took c d i n edges (P left first q edges .edges) _ (λ j a b. z j (omega arith) (omega arith)) (one .0), omega (arith, one .1))
 
-      took-right : (r : ℕ) → r < Y → Y ≤ 512 → Took (par c d) i edges (P right r edges) (getD R r [])
-      unfolding Numbered size
-      took-right r h few = right-took c d i n edges (P right r edges) _ (λ j a b. z j a (omega arith)) (pd r edges long (λ j a b. z j (omega arith) (omega arith)) h few)
+      took-right : (r : ℕ) → r < Y → Y ≤ 512 → Sides (Right r) (getD R r [])
+      unfolding Numbered size pickSides
+      took-right r h few =
+          let one = pd left r edges (omega arith) long (λ j a b. z j (omega arith) (omega arith)) h few in
+          (right-took c d i n edges (P left second r edges .edges) _ (λ j a b. z j a (omega arith)) (one .0), omega (arith, one .1))
 
       abbrev Goal : Bool → Bool → Type 0
-      Goal b e = Took (par c d) i edges (pickSides P left right (dividedBy b e (capped X) (capped Y) k) edges) (getD (sides b e L R) k [])
+      Goal b e = Sides (dividedBy b e (capped X) (capped Y) k) (getD (sides b e L R) k [])
 
       -- neither count is capped: a move is there, so no factor is 0, and the product is at most 512
       took-pair : k < X * Y → X * Y ≤ 512 → Goal true true
-      unfolding pickSides sides
+      unfolding sides
       took-pair h few =
           let f = factors X Y k h in
           let x : X ≤ X * Y = le-mul-of-pos-right X (f .1) in
@@ -187,13 +196,12 @@ module _ (m : Model) (action : ℕ) where
           let lx = moves-length m action c in
           let ly = moves-length m action d in
           let move = pairs-at L R (k / Y) (k % Y) (omega arith) (omega arith) in
-          retook (par c d) i edges _ _ _ _
-          (ap (λ v. pickSides P left right v edges) t)
+          again _ _ _ _ t
           (sym move ∙ ap (λ v. getD (pairs L R) v []) at)
           (took-both (k / Y) (k % Y) turn rest (omega arith) small)
 
       took-either : k < X + Y → X + Y ≤ 512 → Goal false false
-      unfolding pickSides sides
+      unfolding sides
       took-either h few = go (decLt k X)
         where
           cap : X ≡ capped X
@@ -203,8 +211,7 @@ module _ (m : Model) (action : ℕ) where
           go (yes l) =
               let t = divide-first (capped X) (capped Y) k false false refl refl (omega (arith, cap)) in
               let lx = moves-length m action c in
-              retook (par c d) i edges _ _ _ _
-              (ap (λ v. pickSides P left right v edges) t)
+              again _ _ _ _ t
               (sym (List·getD-append L R [] k (omega arith)))
               (took-left k l (omega arith))
           go (no l) =
@@ -212,21 +219,20 @@ module _ (m : Model) (action : ℕ) where
               let u : k - X ≡ k - capped X = ap (λ v. k - v) cap in
               let v : k - length L ≡ k - X = ap (λ v. k - v) lx in
               let t = ap Right u ∙ divide-then (capped X) (capped Y) k false false refl refl (omega (arith, cap)) in
-              retook (par c d) i edges _ _ _ _
-              (ap (λ v. pickSides P left right v edges) t)
+              again _ _ _ _ t
               (sym (then-at L R k (omega arith) ∙ ap (λ v. getD R v []) v))
               (took-right (k - X) (omega arith) (omega arith))
 
       sides-took : (b e : Bool) → k < sidesCount b e X Y → sidesCount b e X Y ≤ 512 → Goal b e
-      unfolding sidesCount sides pickSides dividedBy
+      unfolding sidesCount sides dividedBy
       sides-took true true h few = took-pair h few
       sides-took true false h few = took-left k h few
       sides-took false true h few = took-right k h few
       sides-took false false h few = took-either h few
 
 module _ (w cells : List ℕ) (m : Model) (action root : ℕ) where
-  abbrev P : ℕ → ℕ → ℕ → List ℕ → List ℕ
-  P = pickAt w cells root
+  abbrev P : Picker
+  P = pickedAt w cells root
 
   -- the cell of a subtree is where the code looks for it
   cell-of : (c : Tree) (at : ℕ) → at < root + 192 → Filled m action root cells c at → cellOf (inSet m action c) (moveCount m action c) ≡ cellAt cells root at
@@ -241,7 +247,8 @@ module _ (w cells : List ℕ) (m : Model) (action root : ℕ) where
   some-words (syn list c) = omega (arith, length-syn list c)
   some-words (leaf k) = omega (arith, ap length (words-leaf k))
 
-  pub picks : (c : Tree) (i left at k : ℕ) (rest edges : List ℕ) → treeSize c ≤ left → treeSize c ≤ maxTreeNodes → drop at w ≡ treeWords c ++ rest → at + length (treeWords c) ≤ root + 192 → Filled m action root cells c at → Numbered i c → i + size c ≤ 16 → length edges ≡ 16 → Unpicked c i edges → k < moveCount m action c → moveCount m action c ≤ 512 → Took m action c i edges (P left at k edges) (getD (moves m action c) k [])
+  pub picks : (c : Tree) (i left at k : ℕ) (rest edges : List ℕ) → treeSize c ≤ left → treeSize c ≤ maxTreeNodes → drop at w ≡ treeWords c ++ rest → at + length (treeWords c) ≤ root + 192 → Filled m action root cells c at → Numbered i c → i + size c ≤ 16 → length edges ≡ 16 → Unpicked c i edges → k < moveCount m action c → moveCount m action c ≤ 512
+      → Took m action c i edges (P left at k edges .edges) (getD (moves m action c) k []) × (left ≤ P left at k edges .left + treeSize c)
   unfolding Filled Numbered size moves moveCount
   picks (par c d) i left at k rest edges h small e room f n few long z l cap =
       let s = par-stands w at rest c d e in
@@ -260,21 +267,23 @@ module _ (w cells : List ℕ) (m : Model) (action root : ℕ) where
       (cellOf a y) (cell-of d right (omega arith) (f .2))
       (dividedBy b a (capped x) (capped y) k)
       (divide-cells (cellOf b x) (cellOf a y) k b a (capped x) (capped y) (sym (cell-inside b x)) (sym (cell-inside a y)) (sym (cell-count b x)) (sym (cell-count a y)) _ refl) in
-      retook m action (par c d) i edges _ _ _ _ (sym step) refl
-      (sides-took m action c d i n (P (left - 1)) (at + 1) right edges z long k
-      (λ q es lo un lt le. picks c i (left - 1) (at + 1) q (treeWords d ++ rest) es (omega arith) (omega arith) (s .first) (omega arith) (f .1) (n .0) (omega arith) lo un lt le)
-      (λ q es lo un lt le. picks d (i + size c) (left - 1) right q rest es (omega arith) (omega arith) (s .second) (omega arith) (f .2) (n .1) (omega arith) lo un lt le)
-      b a l cap)
+      let both =
+      sides-took m action c d i n P (at + 1) right (left - 1) (omega arith) edges z long k
+      (λ o q es en lo un lt le. picks c i o (at + 1) q (treeWords d ++ rest) es en (omega arith) (s .first) (omega arith) (f .1) (n .0) (omega arith) lo un lt le)
+      (λ o q es en lo un lt le. picks d (i + size c) o right q rest es en (omega arith) (s .second) (omega arith) (f .2) (n .1) (omega arith) lo un lt le)
+      b a l cap in
+      rw step (both .0, omega (arith, both .1))
   picks (syn list c) i left at k rest edges h small e room f n few long z l cap =
       let s = syn-stands w at rest list c e in
       let sz = size-syn list c in
       let lz = length-syn list c in
       let step = pick-syn w cells root left at k (omega arith) (Syn (lowBits list) (highBits list) (at + 3)) (sym (s .node)) edges (lowBits list) (highBits list) (at + 3) refl _ refl in
-      retook m action (syn list c) i edges _ _ _ _ step refl
-      (syn-took list c i edges _ _
-      (picks c i (left - 1) (at + 3) k rest edges (omega arith) (omega arith) (s .next) (omega arith) (f .1) n few long z l cap))
+      let below = picks c i (left - 1) (at + 3) k rest edges (omega arith) (omega arith) (s .next) (omega arith) (f .1) n few long z l cap in
+      rw (← step) (syn-took list c i edges _ _ (below .0), omega (arith, below .1))
   picks (leaf j) i left at k rest edges h small e room f n few long z l cap =
       let sz = size-leaf j in
       let step = pick-leaf w cells root left at k (omega arith) (Leaf j (at + 1)) (sym (leaf-stands w at rest j e)) edges j (at + 1) refl _ refl in
-      retook m action (leaf j) i edges _ _ _ _ step refl
-      (subst (λ o. Took m action (leaf j) o edges (named j k edges) (getD (moves m action (leaf j)) k [])) n (leaf-took m action j k edges (omega arith) long (omega arith) l))
+      rw (← step) (
+        subst (λ o. Took m action (leaf j) o edges (named j k edges) (getD (moves m action (leaf j)) k [])) n (leaf-took m action j k edges (omega arith) long (omega arith) l),
+        omega arith,
+      )

@@ -7,7 +7,7 @@ use native.Mathlib.Omega.{arith}
 use lib.ListN.{length, getD, take, drop, replicate, getD-replicate}
 use Rattle.model.specs.Basic.{countUp}
 use Rattle.model.specs.Bounds.{maxEdges, maxTreeNodes}
-use Rattle.model.specs.Composition.{Tree, leaves}
+use Rattle.model.specs.Composition.{Tree, leaves, treeSize}
 use Rattle.model.specs.Model.{Model, automaton}
 use Rattle.model.specs.Moves.{under, moves, moveCount}
 use Rattle.model.specs.Lawful.{Lawful}
@@ -34,7 +34,7 @@ module _ (w sets counts : List ℕ) (m : Model) (action at : ℕ) (law : Lawful 
   all-told = leaves-in c 0 (numbered c _ in-order) (λ k p q. told k (omega (arith, size-is c _ in-order)))
 
   -- the plan's answer
-  pub plan-is : planAt w sets counts action maxTreeNodes at ≡ planOf m action c (at + length (treeWords c))
+  pub plan-is : planAt w sets counts action maxTreeNodes at ≡ planOf m action c (at + length (treeWords c)) (maxTreeNodes - treeSize c)
   plan-is = planned-is w sets counts m action (m .actions) (law .few-actions) c maxTreeNodes at _ (law .tree .size) (begins w (treeWords c) at stands) (law .tree .lists) all-told
 
   module _ (cells : List ℕ) (long : length cells ≡ 192) where
@@ -52,12 +52,13 @@ module _ (w sets counts : List ℕ) (m : Model) (action at : ℕ) (law : Lawful 
 
     module _ (k : ℕ) (there-is : k < moveCount m action c) (few : moveCount m action c ≤ maxEdges) where
       took : Took m action c 0 (replicate 16 0) (picked k) (getD (moves m action c) k [])
+      unfolding pickAt
       took =
           let z = law .tree .size in
           let n = law .few-automata in
           let s = size-is c _ in-order in
           picks w plan m action at c 0 maxTreeNodes at k _ (replicate 16 0) z z (begins w (treeWords c) at stands) (omega (arith, few-words c)) fill-is
-          (numbered c _ in-order) (omega arith) refl (λ j p q. getD-replicate 16 j 0 0 (omega arith)) there-is few
+          (numbered c _ in-order) (omega arith) refl (λ j p q. getD-replicate 16 j 0 0 (omega arith)) there-is few .0
 
       -- a pick names the takers of its move
       pub pick-is : takersOf m action (picked k) ≡ getD (moves m action c) k []

@@ -5,7 +5,7 @@ use tree::Found;
 ghost use mathlib.Core.Path.{_≡_};
 ghost use lib.ListN.{replicate};
 ghost use Rattle.model.specs.Bounds.{maxTreeNodes};
-ghost use Rattle.moves.specs.Pick.{dividedBy, divided, named, cellAt, pickAt};
+ghost use Rattle.moves.specs.Pick.{dividedBy, divided, named, cellAt, picked, pickedAt, pickAt};
 
 // Which sides of a `par` take part, each with the number of its own move.
 pub enum Taking {
@@ -69,7 +69,8 @@ fn name(edges: &mut [u32; 16], i: usize, k: u32)
     }
 }
 
-// Move k of the subtree at `at`, of at most `left` nodes: the tree nodes that remain fall at each call.
+// Move k of the subtree at `at`, with `left` nodes left: its own node uses one, and the rest goes from side to side.
+// The answer is how many are left.
 fn pick_at(
     words: &[u32],
     at: usize,
@@ -78,31 +79,34 @@ fn pick_at(
     cells: &[u32; 192],
     k: u32,
     edges: &mut [u32; 16],
-)
-    ensures { λ _. ⌜ now (edges .exit) ≡ pickAt (now (words .entry)) (now (cells .entry)) root left at k (now (edges .entry)) ⌝ }
+) -> usize
+    ensures { λ r. ⌜ picked (now (edges .exit)) r ≡ pickedAt (now (words .entry)) (now (cells .entry)) root left at k (now (edges .entry)) ⌝ }
 {
     if left == 0 {
-        return;
+        return left;
     }
     let f = tree::node_at(words, at);
-    let below = left - 1;
+    let rest = left - 1;
     match f {
         Found::Par(next) => {
             let right = tree::skip(words, next);
             let t = divide_cells(cell_at(cells, root, next), cell_at(cells, root, right), k);
             match t {
                 Taking::Both(i, j) => {
-                    pick_at(words, next, below, root, cells, i, edges);
-                    pick_at(words, right, below, root, cells, j, edges);
+                    let after = pick_at(words, next, rest, root, cells, i, edges);
+                    pick_at(words, right, after, root, cells, j, edges)
                 }
-                Taking::Left(i) => pick_at(words, next, below, root, cells, i, edges),
-                Taking::Right(j) => pick_at(words, right, below, root, cells, j, edges),
-                Taking::Nobody => {}
+                Taking::Left(i) => pick_at(words, next, rest, root, cells, i, edges),
+                Taking::Right(j) => pick_at(words, right, rest, root, cells, j, edges),
+                Taking::Nobody => rest,
             }
         }
-        Found::Syn(_, _, next) => pick_at(words, next, below, root, cells, k, edges),
-        Found::Leaf(i, _) => name(edges, i, k),
-        Found::Stray => {}
+        Found::Syn(_, _, next) => pick_at(words, next, rest, root, cells, k, edges),
+        Found::Leaf(i, _) => {
+            name(edges, i, k);
+            rest
+        }
+        Found::Stray => rest,
     }
 }
 

@@ -9,11 +9,13 @@ ghost use Rattle.model.specs.Bounds.{maxTreeNodes};
 ghost use Rattle.model.specs.Table.{setOf};
 ghost use Rattle.moves.specs.Plan.{planned, parPlan, synPlan, leafPlan, stored, PlansTree};
 
-// Is the action in the set of a subtree, how many moves has it, and where do its words end?
+// Is the action in the set of a subtree, how many moves has it, where do its words end, and how many nodes are left
+// there?
 pub struct Planned {
     pub inside: bool,
     pub count: u32,
     pub next: usize,
+    pub left: usize,
 }
 
 // Automaton k's count of edges under the action; past the end none.
@@ -38,6 +40,7 @@ fn par_plan(c: Planned, d: Planned) -> Planned
         inside: c.inside | d.inside,
         count: capping::sides_count(c.inside, d.inside, c.count, d.count),
         next: d.next,
+        left: d.left,
     }
 }
 
@@ -48,27 +51,37 @@ fn syn_plan(low: u32, high: u32, action: u32, c: Planned) -> Planned
         inside: tree::in_words(low, high, action) | c.inside,
         count: c.count,
         next: c.next,
+        left: c.left,
     }
 }
 
-fn leaf_plan(sets: &[u64], under: &[u32], action: u32, k: usize, next: usize) -> Planned
-    ensures { λ r. ⌜ r ≡ leafPlan (now (sets .entry)) (now (under .entry)) action k next ⌝ }
+fn leaf_plan(
+    sets: &[u64],
+    under: &[u32],
+    action: u32,
+    k: usize,
+    next: usize,
+    left: usize,
+) -> Planned
+    ensures { λ r. ⌜ r ≡ leafPlan (now (sets .entry)) (now (under .entry)) action k next left ⌝ }
 {
     Planned {
         inside: tree::in_word(tree::own(sets, k), action),
         count: capping::capped(edges_under(under, k)),
         next,
+        left,
     }
 }
 
 // Where no node stands.
-fn no_plan(at: usize) -> Planned
-    ensures { λ r. ⌜ r ≡ planned false 0 at ⌝ }
+fn no_plan(at: usize, left: usize) -> Planned
+    ensures { λ r. ⌜ r ≡ planned false 0 at left ⌝ }
 {
     Planned {
         inside: false,
         count: 0,
         next: at,
+        left,
     }
 }
 
@@ -83,7 +96,8 @@ fn store(cells: &mut [u32; 192], root: usize, at: usize, p: Planned) -> Planned
     p
 }
 
-// The subtree at `at`, of at most `left` nodes: the tree nodes that remain fall at each call, so the walk ends on any words.
+// The subtree at `at`, with `left` nodes left: its own node uses one, and the rest goes from side to side. So on any
+// words no more nodes are read than were given.
 fn plan_at(
     words: &[u32],
     at: usize,
@@ -97,22 +111,29 @@ fn plan_at(
     ensures { λ r. ⌜ PlansTree (now (words .entry)) (now (sets .entry)) (now (under .entry)) action root left at (now (cells .entry)) (now (cells .exit)) r ⌝ }
 {
     if left == 0 {
-        return no_plan(at);
+        return no_plan(at, left);
     }
     let f = tree::node_at(words, at);
-    let below = left - 1;
+    let rest = left - 1;
     match f {
         Found::Par(next) => {
-            let c = plan_at(words, next, below, root, sets, under, action, cells);
-            let d = plan_at(words, c.next, below, root, sets, under, action, cells);
+            let c = plan_at(words, next, rest, root, sets, under, action, cells);
+            let d = plan_at(words, c.next, c.left, root, sets, under, action, cells);
             store(cells, root, at, par_plan(c, d))
         }
         Found::Syn(low, high, next) => {
-            let c = plan_at(words, next, below, root, sets, under, action, cells);
+            let c = plan_at(words, next, rest, root, sets, under, action, cells);
             store(cells, root, at, syn_plan(low, high, action, c))
         }
-        Found::Leaf(k, next) => store(cells, root, at, leaf_plan(sets, under, action, k, next)),
-        Found::Stray => store(cells, root, at, no_plan(at)),
+        Found::Leaf(k, next) => {
+            store(
+                cells,
+                root,
+                at,
+                leaf_plan(sets, under, action, k, next, rest),
+            )
+        }
+        Found::Stray => store(cells, root, at, no_plan(at, rest)),
     }
 }
 

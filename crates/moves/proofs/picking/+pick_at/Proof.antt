@@ -1,5 +1,6 @@
--- `moves::picking::pick_at` calls itself, and meets its contract: each way out is a law of PickLaws. The measure is the nodes left.
-use Rattle.moves.proofs.PickLaws.{pick-laws}
+-- `moves::picking::pick_at` calls itself, and meets its contract: each way out is a law of PickLaws. The measure is the
+-- nodes left.
+use Rattle.moves.proofs.PickLaws.{pick-laws, pick-left-over}
 use borrow.Author.Needs.{needs}
 use Prim.Native.Nat.{ℕ, _<_}
 use borrow.Fn.Kinds.{In}
@@ -30,6 +31,11 @@ pick-at-calls t = (node-at-reads.Asked, node-at-reads.Learnt, skip-reads.Asked, 
 pick-at-returns : (t : ℕ) → pick-at-lts.Need-returns (pick-at-calls t) (pick-at-at t) pick-at.Post
 pick-at-returns t c = search (needs, pick-laws)
 
+pick-at-pick-at-requires-2 : (t : ℕ) → pick-at-lts.Need-pick-at-requires-2 (pick-at-calls t) (pick-at-at t) pick-at.Post
+pick-at-pick-at-requires-2 t c κs =
+    let l = pick-left-over _ _ _ _ _ _ _ _ (c .before .pick-at .ensures) in
+    search needs
+
 pick-at-returns-2 : (t : ℕ) → pick-at-lts.Need-returns-2 (pick-at-calls t) (pick-at-at t) pick-at.Post
 pick-at-returns-2 t c = search (needs, pick-laws)
 
@@ -52,34 +58,5 @@ pick-at-returns-8 : (t : ℕ) → pick-at-lts.Need-returns-8 (pick-at-calls t) (
 pick-at-returns-8 t c = search (needs, pick-laws)
 
 pub +pick-at-spec : {M : Type 1} → statement M
-+pick-at-spec = close μ-pick-at λ t. pick-at-lts.spec (pick-at-calls t)
-    (pick-at-at t)
-    pick-at.Post
-    (pick-at-returns t)
-    (λ c κs. search needs)
-    (λ c. search needs)
-    (λ c. search needs)
-    (λ c κs. search needs)
-    (λ c κs. search needs)
-    (λ c κs. search needs)
-    (λ c κs. search needs)
-    (λ c. search needs)
-    (λ c κs. search needs)
-    (λ c κs. search needs)
-    (λ c. search needs)
-    (λ c κs. search needs)
-    (λ c. search needs)
-    (λ c κs. search needs)
-    (λ c. search needs)
-    (λ c. search needs)
-    (λ c κs. search needs)
-    (λ c. search needs)
-    (λ c κs. search needs)
-    (λ c. search needs)
-    (pick-at-returns-2 t)
-    (pick-at-returns-3 t)
-    (pick-at-returns-4 t)
-    (pick-at-returns-5 t)
-    (pick-at-returns-6 t)
-    (pick-at-returns-7 t)
-    (pick-at-returns-8 t)
++pick-at-spec = close μ-pick-at λ t. pick-at-lts.spec (pick-at-calls t) (pick-at-at t)
+    pick-at.Post (pick-at-returns t) (λ c κs. search needs) (λ c. search needs) (λ c. search needs) (λ c κs. search needs) (λ c κs. search needs) (λ c κs. search needs) (λ c κs. search needs) (λ c. search needs) (λ c κs. search needs) (pick-at-pick-at-requires-2 t) (λ c. search needs) (λ c κs. search needs) (λ c. search needs) (λ c κs. search needs) (λ c. search needs) (λ c. search needs) (λ c κs. search needs) (λ c. search needs) (λ c κs. search needs) (λ c. search needs) (pick-at-returns-2 t) (pick-at-returns-3 t) (pick-at-returns-4 t) (pick-at-returns-5 t) (pick-at-returns-6 t) (pick-at-returns-7 t) (pick-at-returns-8 t)

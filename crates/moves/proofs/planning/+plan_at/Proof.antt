@@ -1,6 +1,6 @@
--- `moves::planning::plan_at` calls itself, and meets its contract: each way out is two laws of PlanLaws, of the answer and of the cells.
--- The measure is the nodes left.
-use Rattle.moves.proofs.PlanLaws.{plan-laws, fill-laws}
+-- `moves::planning::plan_at` calls itself, and meets its contract: each way out is two laws of PlanLaws, of the answer
+-- and of the cells. The measure is the nodes left.
+use Rattle.moves.proofs.PlanLaws.{plan-laws, fill-laws, plan-par, fill-par, plan-left}
 use borrow.Author.Needs.{needs}
 use Prim.Native.Nat.{ℕ, _<_}
 use borrow.Fn.Kinds.{In}
@@ -32,8 +32,21 @@ plan-at-calls t = (no-plan-reads.Asked, no-plan-reads.Learnt, node-at-reads.Aske
 plan-at-returns : (t : ℕ) → plan-at-lts.Need-returns (plan-at-calls t) (plan-at-at t) plan-at.Post
 plan-at-returns t c = record { answer = search (needs, plan-laws); cells = search (needs, fill-laws) }
 
+plan-at-plan-at-requires-2 : (t : ℕ) → plan-at-lts.Need-plan-at-requires-2 (plan-at-calls t) (plan-at-at t) plan-at.Post
+plan-at-plan-at-requires-2 t c κs =
+    let l = plan-left _ _ _ _ _ _ _ (c .before .plan-at .ensures .answer) in
+    search needs
+
 plan-at-returns-2 : (t : ℕ) → plan-at-lts.Need-returns-2 (plan-at-calls t) (plan-at-at t) plan-at.Post
-plan-at-returns-2 t c = record { answer = search (needs, plan-laws); cells = search (needs, fill-laws) }
+plan-at-returns-2 t c =
+    let d = c .before .before .before in
+    let b = d .before .before in
+    let m = b .before .before .before .before in
+    let n = m .before in
+    record {
+      answer = plan-par _ _ _ _ 0 _ _ (n .before .if1 .left) _ (n .node-at .ensures) _ _ (search needs) _ _ (b .plan-at .ensures .answer) (d .plan-at2 .ensures .answer) _ (c .before .par-plan .ensures) (c .store .ensures .0);
+      cells = fill-par _ _ _ _ _ _ _ (n .before .if1 .left) _ (n .node-at .ensures) _ _ _ (search needs) _ _ (b .plan-at .ensures .answer) _ (b .plan-at .ensures .cells) (d .plan-at2 .ensures .answer) _ (d .plan-at2 .ensures .cells) _ (c .before .par-plan .ensures) (c .store .ensures .1);
+    }
 
 plan-at-returns-3 : (t : ℕ) → plan-at-lts.Need-returns-3 (plan-at-calls t) (plan-at-at t) plan-at.Post
 plan-at-returns-3 t c = record { answer = search (needs, plan-laws); cells = search (needs, fill-laws) }
@@ -45,29 +58,5 @@ plan-at-returns-5 : (t : ℕ) → plan-at-lts.Need-returns-5 (plan-at-calls t) (
 plan-at-returns-5 t c = record { answer = search (needs, plan-laws); cells = search (needs, fill-laws) }
 
 pub +plan-at-spec : {M : Type 1} → statement M
-+plan-at-spec = close μ-plan-at λ t. plan-at-lts.spec (plan-at-calls t)
-    (plan-at-at t)
-    plan-at.Post
-    (λ c κs. search needs)
-    (plan-at-returns t)
-    (λ c κs. search needs)
-    (λ c. search needs)
-    (λ c. search needs)
-    (λ c κs. search needs)
-    (λ c κs. search needs)
-    (λ c κs. search needs)
-    (λ c κs. search needs)
-    (λ c. search needs)
-    (λ c κs. search needs)
-    (λ c κs. search needs)
-    (λ c κs. search needs)
-    (λ c. search needs)
-    (λ c κs. search needs)
-    (λ c κs. search needs)
-    (λ c. search needs)
-    (λ c κs. search needs)
-    (λ c κs. search needs)
-    (plan-at-returns-2 t)
-    (plan-at-returns-3 t)
-    (plan-at-returns-4 t)
-    (plan-at-returns-5 t)
++plan-at-spec = close μ-plan-at λ t. plan-at-lts.spec (plan-at-calls t) (plan-at-at t)
+    plan-at.Post (λ c κs. search needs) (plan-at-returns t) (λ c κs. search needs) (λ c. search needs) (λ c. search needs) (λ c κs. search needs) (plan-at-plan-at-requires-2 t) (λ c κs. search needs) (λ c κs. search needs) (λ c. search needs) (λ c κs. search needs) (λ c κs. search needs) (λ c κs. search needs) (λ c. search needs) (λ c κs. search needs) (λ c κs. search needs) (λ c. search needs) (λ c κs. search needs) (λ c κs. search needs) (plan-at-returns-2 t) (plan-at-returns-3 t) (plan-at-returns-4 t) (plan-at-returns-5 t)
