@@ -2,3 +2,4 @@ pub mod Steps
 pub mod NodeLaws
 pub mod Meaning
 pub mod FewNodes
+pub mod Work

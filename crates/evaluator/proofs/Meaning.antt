@@ -1,9 +1,9 @@
 -- Where a lawful predicate's words stand in the table, the evaluator gives what the predicate means, and uses as many
 -- nodes as the predicate has.
-use mathlib.Core.Path.{_≡_, ap, ap₂, sym, _∙_}
+use mathlib.Core.Path.{_≡_, ap, ap₂, _∙_}
 use mathlib.Core.Bool.{Bool, true, false, _&&_, _||_, and-true, or-false, and-assoc, or-assoc}
 use mathlib.Core.List.{List, [], _∷_, _++_, map}
-use Prim.Native.Nat.{ℕ, zero, suc, _+_, _*_, _-_, _%_, _/_, _<_, _≤_}
+use Prim.Native.Nat.{ℕ, zero, suc, _+_, _*_, _-_, _<_, _≤_}
 use native.Mathlib.Omega.{arith}
 use native.Mathlib.Nat.{add-zero}
 use native.Mathlib.Numerals.{add-one, sub-one}
@@ -13,10 +13,10 @@ use lib.Seq.{drop-cons}
 use borrow.Author.Tests.{lt-ltb}
 use Rattle.model.specs.Basic.{every}
 use Rattle.model.specs.Bounds.{maxDepth, maxNodes}
-use Rattle.model.specs.Predicate.{Pred, Preds, Expr, all, any, negate, imp, eq, le, none, more, num, old, new, add, sub, mul, choose, operands, holds, allHold, anyHolds, value, Word, allOf, anyOf, notWord, impWord, eqWord, leWord, numWord, oldWord, newWord, addWord, subWord, mulWord, ifWord, stray, words, wordsAll, wordsOf, nodeCount, depth, depthAll, depthOf, namesOutside, Range, allStay}
+use Rattle.model.specs.Predicate.{Pred, Preds, Expr, all, any, negate, imp, eq, le, none, more, num, old, new, add, sub, mul, choose, operands, holds, allHold, anyHolds, value, Word, allOf, anyOf, notWord, impWord, eqWord, leWord, numWord, oldWord, newWord, addWord, subWord, mulWord, ifWord, words, wordsAll, wordsOf, nodeCount, depth, depthAll, depthOf, Range}
 use Rattle.model.specs.Limits.{inRange}
 use Rattle.model.specs.Lawful.{LawfulPred}
-use Rattle.model.specs.Table.{code, kinds, wordOf}
+use Rattle.model.specs.Table.{code}
 use Rattle.model.proofs.Tests.{and-left, and-right}
 use Rattle.arithmetic.specs.Values.{Inside, Small, SmallAll, SmallIn}
 use Rattle.model.proofs.Decode.{word-back}

@@ -1,23 +1,18 @@
 -- One step of the definitions in specs/Evaluate.antt, as the code tests it.
 use mathlib.Core.Path.{_≡_, refl, sym, ap, _∙_}
-use mathlib.Core.Bool.{Bool, true, false, not, cond, _&&_, _||_, and-false, or-false}
-use mathlib.Core.List.{List, [], _∷_}
-use Prim.Native.Nat.{ℕ, zero, suc, _+_, _-_, _%_, _/_, _<_, _≤_}
-use native.Mathlib.Numerals.{sub-one}
+use mathlib.Core.Bool.{Bool, true, false, not, cond, _&&_, _||_}
+use mathlib.Core.List.{List}
+use Prim.Native.Nat.{ℕ, zero, suc, _+_, _-_, _≤_}
 use native.Mathlib.Omega.{arith}
-use borrow.Author.Tests.{ltb-true, ltb-false, lt-ltb, le-ltb}
 use lib.IntN.{ℤ, pos}
-use lib.ListN.{length, getD, take, drop}
-use lib.Seq.{getD-take, getD-drop}
+use lib.ListN.{length, getD}
 use lib.Dec.{ltb}
 use Rattle.model.specs.Predicate.{Word, allOf, anyOf, notWord, impWord, eqWord, leWord, numWord, oldWord, newWord, addWord, subWord, mulWord, ifWord, stray}
-use Rattle.model.specs.Table.{kinds, wordOf}
-use Rattle.model.proofs.WordKinds.{word-of, each-at}
+use Rattle.model.specs.Table.{wordOf}
 use Rattle.evaluator.specs.declared.nodes.Truth.{Truth}
 use Rattle.evaluator.specs.declared.nodes.Value.{Value}
-use Rattle.evaluator.specs.declared.nodes.Gathered.{Gathered}
 use Rattle.evaluator.specs.declared.nodes.Pair.{Pair}
-use Rattle.evaluator.specs.Evaluate.{truth, valued, gathered, paired, Predicates, Expressions, gather, implication, numbers, choice, predicateBy, expressionBy, predicateStep, expressionStep, predicateWithin, expressionWithin, predicateAt, expressionAt}
+use Rattle.evaluator.specs.Evaluate.{truth, valued, paired, Predicates, Expressions, gather, implication, numbers, choice, predicateBy, expressionBy, predicateStep, expressionStep, predicateWithin, expressionWithin, predicateAt, expressionAt}
 
 -- No reader leaves more nodes than it was given.
 pub record Falls (P : Predicates) (E : Expressions) : Type 0 where

@@ -1,7 +1,7 @@
 -- A walk by steps, each of which hands on fewer nodes than it has left. The definitions also bound how deep its calls
 -- nest, so that they can be seen to end; as many levels as there are nodes left are enough, and so the walk is a step of
 -- itself.
-use mathlib.Core.Path.{_≡_, refl, sym, ap, _∙_}
+use mathlib.Core.Path.{_≡_, sym, _∙_}
 use Prim.Native.Nat.{ℕ, zero, suc, _≤_}
 use native.Mathlib.Omega.{arith}
 
