@@ -63,6 +63,17 @@ fn deepest_tree() -> String {
     format!("format=1\nactions=1\nvariables=1\nvariable=0,1\nautomata=1\n{automaton}compose={}a0\n", "syn 1 ".repeat(63))
 }
 
+/// Sixteen automata with three variables each, which must all choose before the step judge has an answer.
+fn deepest_search(compose: &str) -> String {
+    let automaton = |k: usize| {
+        let [a, b, c] = [3 * k, 3 * k + 1, 3 * k + 2];
+        let edges = format!("edge=0,1,0,le n{a} add n{b} n{c}\nedge=0,1,0,eq n{a} n{b}\n");
+        format!("sync=1\nlocations=1\ninit=all 0\ninv=all 0\nedges=2\n{edges}")
+    };
+    let automata: String = (0..16).map(automaton).collect();
+    format!("format=1\nactions=1\nvariables=48\n{}automata=16\n{automata}compose={compose}\n", "variable=0,1\n".repeat(48))
+}
+
 fn good_texts() -> Vec<String> {
     let [left, right] = deep_trees();
     let mut texts = vec![sixteen("all 0", "all 0", &left), sixteen("all 0", "all 0", &right), most_merged_edges(), deepest_tree()];
@@ -133,6 +144,30 @@ fn steps() {
         for ((locations, values), table) in &cases {
             let from = State { phase: 0, locations, values };
             assert!(step(table, &from, 1, locations, values).is_ok());
+        }
+    });
+}
+
+#[test]
+fn searches() {
+    let tables: Vec<_> = deep_trees().iter().map(|tree| table_of(&deepest_search(tree))).collect();
+    within("STEP", move || {
+        let from = State { phase: 0, locations: &[0; 16], values: &[0; 48] };
+        for table in &tables {
+            assert_eq!(step(table, &from, 1, &[0; 16], &[1; 48]), Ok(Some(true)));
+        }
+    });
+}
+
+#[test]
+fn searches_in_runs() {
+    let tables: Vec<_> = deep_trees().iter().map(|tree| table_of(&deepest_search(tree))).collect();
+    within("RUN", move || {
+        let from = State { phase: 0, locations: &[0; 16], values: &[0; 48] };
+        let list = Proposals { actions: &[1], locations: &[0; 16], values: &[1; 48] };
+        for table in &tables {
+            let room = Room { answers: &mut [0; 1], locations: &mut [0; 16], values: &mut [0; 48] };
+            assert!(run(table, &from, &list, room).is_ok());
         }
     });
 }
