@@ -16,7 +16,7 @@ use Rattle.model.specs.Basic.{every, exists, keep, countUp, sum}
 use Rattle.model.specs.Bounds.{maxAutomata}
 use Rattle.model.specs.Table.{bit}
 use Rattle.tree.proofs.SetLaws.{both-ways}
-use Rattle.cover.specs.Cover.{within, leftBy, dominated, skippedAt, worth, useful, past, allFilled}
+use Rattle.cover.specs.Cover.{within, leftBy, dominated, skippedAt, worth, namedIn, useful, past, allFilled}
 use Rattle.cover.specs.Steps.{advanced, Without, CoversAtMost, PartOf}
 use Rattle.cover.proofs.BitLaws.{bit-and, same-bits, no-bits, and-assoc, and-swap}
 use Rattle.cover.proofs.CoverLaws.{within-is, is-within}
@@ -84,6 +84,27 @@ module _ (masks : List ℕ) (from to u v i x : ℕ) (e : x ≡ getD masks i 0) (
   worth-named h s es = rw (← e, ← ep, h, es)
 
 pub ruleset worth-laws = (worth-unnamed, worth-named)
+
+-- `names`
+module _ (masks : List ℕ) (from to v i : ℕ) (inv : exists (λ j. not (bit (getD masks j 0) v)) (countUp i (to - i)) ≡ namedIn masks from to v) where
+  pub names-end : to ≤ i → false ≡ namedIn masks from to v
+  names-end l = some-none (λ j. not (bit (getD masks j 0) v)) i to l ∙ inv
+
+  module _ (l : i < to) (x : ℕ) (e : x ≡ getD masks i 0) (b : Bool) (eb : b ≡ bit x v) where
+    is-named : not (bit (getD masks i 0) v) ≡ not b
+    is-named = ap (λ y. not (bit y v)) (sym e) ∙ ap not (sym eb)
+
+    pub names-here : not b ≡ true → true ≡ namedIn masks from to v
+    names-here h = some-here (λ j. not (bit (getD masks j 0) v)) i to l (is-named ∙ h) ∙ inv
+
+    pub names-later : not b ≡ false → exists (λ j. not (bit (getD masks j 0) v)) (countUp (i + 1) (to - (i + 1))) ≡ namedIn masks from to v
+    names-later h = some-later (λ j. not (bit (getD masks j 0) v)) i to l (is-named ∙ h) ∙ inv
+
+pub names-start : (masks : List ℕ) (from to v : ℕ) → exists (λ j. not (bit (getD masks j 0) v)) (countUp from (to - from)) ≡ namedIn masks from to v
+unfolding namedIn
+names-start masks from to v = refl
+
+pub ruleset names-laws = (names-start, names-end, names-here, names-later)
 
 -- `useful`
 pub useful-never : (u total gain r : ℕ) → total < gain → false ≡ useful u total gain r

@@ -13,8 +13,8 @@ use borrow.Author.Tests.{lt-ltb, le-ltb, ltb-true, ltb-false}
 use Rattle.model.specs.Basic.{every, exists, keep, countUp, sum}
 use Rattle.model.specs.Table.{bit}
 use Rattle.model.proofs.Tests.{exists-map, every-ext, not-true, not-false}
-use Rattle.model.proofs.Lists.{every-map}
-use Rattle.cover.specs.Cover.{coverable, group, groups, groupsOf, leftBy, worth, past, allFilled, useful, siftedGroup, siftedGroups}
+use Rattle.model.proofs.Lists.{every-map, none-narrower}
+use Rattle.cover.specs.Cover.{coverable, group, groups, groupsOf, leftBy, worth, namedIn, past, allFilled, useful, siftedGroup, siftedGroups}
 use Rattle.cover.specs.Steps.{Without, CoversAtMost, BoundsOf, triesAt, triedIn}
 use Rattle.cover.proofs.Counting.{map-count, count-join, exists-count}
 use Rattle.cover.proofs.CoverLaws.{filled, nothing-left, one-empty, coverable-falls, Above, Bounded, none, one, bound, sift, sift-same}
@@ -163,6 +163,20 @@ module _ (masks starts ends : List ℕ) (n u v : ℕ) where
     pub branch-end : n ≤ k → false ≡ coverable (groups masks starts ends n) u
     branch-end l = some-none (throughAt masks starts ends n u v) k n l ∙ inv
 
+    -- a group none of whose edges mentions v is passed over
+    pub branch-unnamed : k < n → (a b : ℕ) → a ≡ getD starts k 0 → b ≡ getD ends k 0 → (t : Bool) → t ≡ namedIn masks a b v → t ≡ false
+        → exists (throughAt masks starts ends n u v) (countUp (k + 1) (n - (k + 1))) ≡ coverable (groups masks starts ends n) u
+    unfolding namedIn group
+    branch-unnamed l a b ea eb t et z =
+        let R = others (G masks starts ends) 0 n k in
+        let none : exists (λ i. not (bit (getD masks i 0) v)) (countUp a (b - a)) ≡ false = sym et ∙ z in
+        let nowhere : throughAt masks starts ends n u v k ≡ false =
+        ap₂ (λ x y. exists (λ r. not (bit r v) && coverable R (bitAnd u r)) (group masks x y)) (sym ea) (sym eb)
+        ∙ exists-map (λ r. not (bit r v) && coverable R (bitAnd u r)) (λ i. getD masks i 0) (countUp a (b - a))
+        ∙ none-narrower (λ i. not (bit (getD masks i 0) v)) (λ i. not (bit (getD masks i 0) v) && coverable R (bitAnd u (getD masks i 0)))
+        (λ i y. ap (λ c. c && coverable R (bitAnd u (getD masks i 0))) y) (countUp a (b - a)) none in
+        some-later (throughAt masks starts ends n u v) k n l nowhere ∙ inv
+
     module _ (l : k < n) (few : n ≤ 16) (h : 0 < u → bit u v ≡ true) (some : 0 < u) (from to : List ℕ) (f : Without k starts from) (g : Without k ends to)
         (a b : ℕ) (ea : a ≡ getD starts k 0) (eb : b ≡ getD ends k 0) (r : Bool) (er : r ≡ triedIn masks a b from to (n - 1) u v) where
       is-tried : throughAt masks starts ends n u v k ≡ r
@@ -206,7 +220,7 @@ module _ (masks : List ℕ) (from to : ℕ) (starts ends : List ℕ) (m u v : �
 
 pub ruleset seek-laws = (seek-empty, seek-covered, seek-short, seek-sifted)
 
-pub ruleset branch-laws = (branch-start, branch-end, branch-here, branch-later)
+pub ruleset branch-laws = (branch-start, branch-end, branch-unnamed, branch-here, branch-later)
 
 pub ruleset tried-laws = (tried-start, tried-end, tried-skip, tried-here, tried-later)
 

@@ -52,6 +52,10 @@ skippedAt masks from to u i = exists (dominated masks u i) (countUp from (to - f
 unfoldable pub worth : (masks : List ℕ) (from to u v i : ℕ) → Bool
 worth masks from to u v i = not (bit (getD masks i 0) v) && not (skippedAt masks from to u i)
 
+-- an edge between two places mentions v
+unfoldable pub namedIn : (masks : List ℕ) (from to v : ℕ) → Bool
+namedIn masks from to v = exists (λ i. not (bit (getD masks i 0) v)) (countUp from (to - from))
+
 -- every group has an edge
 unfoldable pub allFilled : (froms tos : List ℕ) (n : ℕ) → Bool
 allFilled froms tos n = every (λ k. ltb (getD froms k 0) (getD tos k 0)) (countUp 0 n)

@@ -2,7 +2,7 @@
 use crate::places::{self};
 ghost use mathlib.Core.Path.{_≡_};
 ghost use lib.Count.{ones};
-ghost use Rattle.cover.specs.Cover.{within, leftBy, dominated, skippedAt, worth, useful};
+ghost use Rattle.cover.specs.Cover.{within, leftBy, dominated, skippedAt, worth, namedIn, useful};
 
 // How many variables there are in a set.
 pub(crate) fn size(u: u64) -> u32
@@ -55,6 +55,20 @@ pub(crate) fn worth(masks: &[u64], from: usize, to: usize, u: u64, v: u32, i: us
         return false;
     }
     !skipped(masks, from, to, u, i)
+}
+
+// Does an edge between two places mention v?
+pub(crate) fn names(masks: &[u64], from: usize, to: usize, v: u32) -> bool
+    ensures { λ r. ⌜ r ≡ namedIn (now (masks .entry)) from to v ⌝ }
+{
+    let mut i = from;
+    while i < to {
+        if !tree::in_word(places::mask_at(masks, i), v) {
+            return true;
+        }
+        i += 1;
+    }
+    false
 }
 
 // Can the other groups cover what the edge r leaves of u?

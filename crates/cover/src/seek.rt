@@ -55,19 +55,14 @@ fn branch(masks: &[u64], starts: &[usize], ends: &[usize], n: usize, u: u64) -> 
     let v = choice::choose(masks, starts, ends, n, u);
     let mut k = 0;
     while k < n {
-        let from = places::without(starts, k);
-        let to = places::without(ends, k);
-        if tried(
-            masks,
-            places::place(starts, k),
-            places::place(ends, k),
-            &from,
-            &to,
-            n - 1,
-            u,
-            v,
-        ) {
-            return true;
+        let a = places::place(starts, k);
+        let b = places::place(ends, k);
+        if edges::names(masks, a, b, v) {
+            let from = places::without(starts, k);
+            let to = places::without(ends, k);
+            if tried(masks, a, b, &from, &to, n - 1, u, v) {
+                return true;
+            }
         }
         k += 1;
     }

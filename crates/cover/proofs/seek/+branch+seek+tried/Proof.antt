@@ -7,7 +7,7 @@ use Prim.Native.Nat.{ℕ, _<_, _+_, _-_, _*_}
 use Rattle.model.specs.Basic.{exists, countUp}
 use Rattle.cover.specs.Cover.{coverable, groups}
 use Rattle.cover.specs.Steps.{triesAt, triedIn}
-use Rattle.cover.proofs.SeekLaws.{throughAt, seek-laws, branch-laws, tried-laws, branch-later, tried-skip, tried-later}
+use Rattle.cover.proofs.SeekLaws.{throughAt, seek-laws, branch-laws, tried-laws, branch-later, branch-unnamed, tried-skip, tried-later}
 use borrow.Fn.Kinds.{In}
 use borrow.Fn.PlainCycle.{Measures, is, falls, and}
 use Rattle.cover.proofs.seek.branch.Reads as branch
@@ -22,6 +22,7 @@ use Rattle.cover.proofs.seek.+branch+seek+tried.Lts-tried as tried-lts
 use Rattle.cover.proofs.bounds.find.Reads as find-reads
 use Rattle.cover.proofs.choice.choose.Reads as choose-reads
 use Rattle.cover.proofs.edges.left_by.Reads as left-by-reads
+use Rattle.cover.proofs.edges.names.Reads as names-reads
 use Rattle.cover.proofs.edges.size.Reads as size-reads
 use Rattle.cover.proofs.edges.worth.Reads as worth-reads
 use Rattle.cover.proofs.places.all_filled.Reads as all-filled-reads
@@ -65,7 +66,7 @@ abbrev branch-μ-loop : branch-lts.MeasureT-loop
 branch-μ-loop masks starts ends n u v k₀ k = n - k
 
 abbrev branch-calls : ℕ → branch-lts.Claims
-branch-calls t = (choose-reads.Asked, choose-reads.Learnt, without-reads.Asked, without-reads.Learnt, place-reads.Asked, place-reads.Learnt, tried-below t, tried.Post)
+branch-calls t = (choose-reads.Asked, choose-reads.Learnt, place-reads.Asked, place-reads.Learnt, names-reads.Asked, names-reads.Learnt, without-reads.Asked, without-reads.Learnt, tried-below t, tried.Post)
 
 abbrev seek-calls : ℕ → seek-lts.Claims
 seek-calls t = (all-filled-reads.Asked, all-filled-reads.Learnt, find-reads.Asked, find-reads.Learnt, size-reads.Asked, size-reads.Learnt, sift-reads.Asked, sift-reads.Learnt, branch-below t, branch.Post)
@@ -79,17 +80,20 @@ branch-choose-requires t c κs = search needs
 branch-loop-holds : (t : ℕ) → branch-lts.Need-loop-holds (branch-calls t) (branch-at t) branch.Post branch-Inv-loop branch-μ-loop
 branch-loop-holds t c = search (needs, branch-laws)
 
-branch-without-requires : (t : ℕ) → branch-lts.Need-without-requires (branch-calls t) (branch-at t) branch.Post branch-Inv-loop branch-μ-loop
-branch-without-requires t c κs = search needs
-
-branch-without-requires-2 : (t : ℕ) → branch-lts.Need-without-requires-2 (branch-calls t) (branch-at t) branch.Post branch-Inv-loop branch-μ-loop
-branch-without-requires-2 t c κs = search needs
-
 branch-place-requires : (t : ℕ) → branch-lts.Need-place-requires (branch-calls t) (branch-at t) branch.Post branch-Inv-loop branch-μ-loop
 branch-place-requires t c κs = search needs
 
 branch-place-requires-2 : (t : ℕ) → branch-lts.Need-place-requires-2 (branch-calls t) (branch-at t) branch.Post branch-Inv-loop branch-μ-loop
 branch-place-requires-2 t c κs = search needs
+
+branch-names-requires : (t : ℕ) → branch-lts.Need-names-requires (branch-calls t) (branch-at t) branch.Post branch-Inv-loop branch-μ-loop
+branch-names-requires t c κs = search needs
+
+branch-without-requires : (t : ℕ) → branch-lts.Need-without-requires (branch-calls t) (branch-at t) branch.Post branch-Inv-loop branch-μ-loop
+branch-without-requires t c κs = search needs
+
+branch-without-requires-2 : (t : ℕ) → branch-lts.Need-without-requires-2 (branch-calls t) (branch-at t) branch.Post branch-Inv-loop branch-μ-loop
+branch-without-requires-2 t c κs = search needs
 
 branch-slice-aggregate-tried : (t : ℕ) → branch-lts.Need-slice-aggregate-tried (branch-calls t) (branch-at t) branch.Post branch-Inv-loop branch-μ-loop
 branch-slice-aggregate-tried t c = search needs
@@ -114,11 +118,18 @@ branch-loop-less t c = search needs
 
 branch-loop-again : (t : ℕ) → branch-lts.Need-loop-again (branch-calls t) (branch-at t) branch.Post branch-Inv-loop branch-μ-loop
 branch-loop-again t c =
-    let w = c .before .before .before .before .before .before .before in
-    let l = w .before .before .loop in
-    branch-later _ _ _ _ _ _ (l .k) (l .inv) (w .before .loop-test .taken) (search needs) (w .before .before .before .choose .ensures) (search needs) _ _
-    (w .without .ensures .0) (c .before .before .before .before .before .before .without2 .ensures .0) _ _
-    (c .before .before .before .before .before .place .ensures) (c .before .before .before .before .place2 .ensures) _ (c .before .tried .ensures) (c .if1 .left)
+    let w = c .before in
+    let l = w .before .before .before .before .loop in
+    let test = w .before .before .before .loop-test .taken in
+    let from = w .before .before .place .ensures in
+    let to = w .before .place2 .ensures in
+    let chosen = w .before .before .before .before .before in
+    let asked = chosen .before .before .before .before .pre .1 in
+    ⊎-elim
+    (λ x. branch-later _ _ _ _ _ _ (l .k) (l .inv) test (asked .0) (chosen .choose .ensures) (asked .1) _ _
+    (x .1 .ensures .0) (x .2 .ensures .0) _ _ from to _ (x .5 .ensures) (x .6 .left))
+    (λ x. branch-unnamed _ _ _ _ _ _ (l .k) (l .inv) test _ _ from to _ (w .names .ensures) (x .left))
+    (c .if1 .came)
 
 branch-returns-2 : (t : ℕ) → branch-lts.Need-returns-2 (branch-calls t) (branch-at t) branch.Post branch-Inv-loop branch-μ-loop
 branch-returns-2 t c = search (needs, branch-laws)
@@ -212,7 +223,7 @@ pub +branch+seek+tried-spec : {M : Type 1} → statement M
 +branch+seek+tried-spec = close μ-branch μ-seek μ-tried (λ t. branch-lts.spec (branch-calls t) (branch-at t)
     branch.Post
     branch-Inv-loop
-    branch-μ-loop (branch-choose-requires t) (branch-loop-holds t) (branch-without-requires t) (branch-without-requires-2 t) (branch-place-requires t) (branch-place-requires-2 t) (branch-slice-aggregate-tried t) (branch-slice-aggregate-tried-2 t) (branch-sub-tried t) (branch-tried-requires t) (branch-returns t) (branch-add-k t) (branch-loop-less t) (branch-loop-again t) (branch-returns-2 t))
+    branch-μ-loop (branch-choose-requires t) (branch-loop-holds t) (branch-place-requires t) (branch-place-requires-2 t) (branch-names-requires t) (branch-without-requires t) (branch-without-requires-2 t) (branch-slice-aggregate-tried t) (branch-slice-aggregate-tried-2 t) (branch-sub-tried t) (branch-tried-requires t) (branch-returns t) (branch-add-k t) (branch-loop-less t) (branch-loop-again t) (branch-returns-2 t))
     (λ t. seek-lts.spec (seek-calls t) (seek-at t)
     seek.Post (seek-all-filled-requires t) (seek-returns t) (seek-returns-2 t) (seek-find-requires t) (seek-size-requires t) (seek-returns-3 t) (seek-slice-aggregate-sift t) (seek-sift-requires t) (seek-slice-aggregate-branch t) (seek-slice-aggregate-branch-2 t) (seek-slice-aggregate-branch-3 t) (seek-branch-requires t) (seek-returns-4 t) (seek-branch-requires-2 t) (seek-returns-5 t))
     λ t. tried-lts.spec (tried-calls t) (tried-at t)
