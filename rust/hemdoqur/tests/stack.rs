@@ -10,12 +10,44 @@ fn stack(function: &str) -> usize {
     HEADER.lines().find_map(|line| line.strip_prefix(&name)?.parse().ok()).expect("the header gives the stack")
 }
 
-/// What a thread's beginning and the test itself need.
-const OWN: usize = 8 * 1024;
+/// How far down the stack is looked at.
+const DEPTH: usize = 512 * 1024;
+const PAINT: u8 = 0xa5;
 
-/// Calls in a thread with that stack.
+/// The place of a local of this function, which its caller's next call has too.
+#[inline(never)]
+fn here() -> *mut u8 {
+    let mut local = 0u8;
+    std::hint::black_box(&mut local as *mut u8)
+}
+
+/// Paints the stack below. A frame that is longer than the page behind a stack's end can step over that page, so that a thread
+/// with a small stack would not show it.
+#[inline(never)]
+fn paint(top: *mut u8) {
+    for i in 1024..DEPTH {
+        unsafe { top.sub(i).write_volatile(PAINT) };
+    }
+}
+
+/// How much of what was painted is so no more.
+#[inline(never)]
+fn used(top: *mut u8) -> usize {
+    (1024..DEPTH).rev().find(|&i| unsafe { top.sub(i).read_volatile() } != PAINT).unwrap_or(0)
+}
+
+/// Calls in a thread, and asks how much stack they used.
 fn within(function: &str, calls: impl FnOnce() + Send + 'static) {
-    Builder::new().stack_size(stack(function) + OWN).spawn(calls).expect("a thread").join().expect("no call fails");
+    let measured = move || {
+        let top = here();
+        paint(top);
+        calls();
+        used(top)
+    };
+    let thread = Builder::new().stack_size(2 * DEPTH).spawn(measured).expect("a thread");
+    let bytes = thread.join().expect("no call fails");
+    assert!(bytes > 2048, "nothing was measured");
+    assert!(bytes <= stack(function), "{function}: {bytes} bytes, and the header gives {}", stack(function));
 }
 
 const HEAD: &str = "format=1\nactions=63\nvariables=1\nvariable=0,1\nautomata=16\n";
