@@ -4,11 +4,10 @@ use mathlib.Core.Bool.{Bool, true, false, not, _&&_, _||_, and-true, and-false}
 use mathlib.Core.List.{List, [], _∷_, map}
 use Prim.Native.Nat.{ℕ, zero, suc, _+_, _-_, _*_, _%_, _/_, _^_, _≤_, _<_}
 use native.Mathlib.Omega.{arith}
-use native.Mathlib.Nat.{div-eq-of-lt, one-mul, add-comm, add-mul-div-right, add-mul-mod-self-right}
+use native.Mathlib.Nat.{div-eq-of-lt}
 use lib.ListN.{length}
 use lib.Dec.{eqb, leb}
-use lib.Pow as P
-use lib.Pow.{pow-pos, pow-add, pow-mono}
+use lib.Pow.{pow-mono}
 use borrow.Author.Tests.{leb-true, leb-false, eqb-true, eq-eqb, ne-eqb}
 use Rattle.model.specs.Basic.{exists}
 use Rattle.model.specs.Bounds.{maxVariables, maxAutomata}
@@ -16,27 +15,13 @@ use Rattle.model.specs.Predicate.{Word, allOf, anyOf, notWord, impWord, eqWord,
 use Rattle.model.specs.Model.{Model, Edge}
 use Rattle.model.specs.Rules.{State}
 use Rattle.model.specs.Table.{biased, code, bit}
+use Rattle.cover.proofs.BitLaws.{bit-under, bit-top}
 use Rattle.search.specs.Search.{unmoved}
 use Rattle.search.specs.Masks.{mask, restMask, changedMask}
 use Rattle.candidates.specs.Bits.{clear, allVariables, leftOut, restOf, differs, changedBits, agrees, stillBits}
 use Rattle.candidates.proofs.BitsLaws.{mask-below, cap-all}
 
--- bits of a sum with a power above them, of the power itself, and past a word's end
-bit-under : (x n k : ℕ) → k < n → bit (2 ^ n + x) k ≡ bit x k
-unfolding bit
-bit-under x n k h =
-    let d : n ≡ (n - suc k) + 1 + k = omega arith in
-    let p : 2 ^ n ≡ 2 ^ (n - suc k) * 2 * 2 ^ k = ap (λ e. 2 ^ e) d ∙ rw (pow-add 2 ((n - suc k) + 1) k, pow-add 2 (n - suc k) 1) in
-    let w : 2 ^ n + x ≡ x + 2 ^ (n - suc k) * 2 * 2 ^ k = ap (λ e. e + x) p ∙ add-comm _ x in
-    let q : (2 ^ n + x) / 2 ^ k ≡ x / 2 ^ k + 2 ^ (n - suc k) * 2 = ap (λ e. e / 2 ^ k) w ∙ add-mul-div-right x (2 ^ (n - suc k) * 2) (pow-pos k) in
-    ap (λ e. eqb (e % 2) 1) q ∙ ap (λ e. eqb e 1) (add-mul-mod-self-right (x / 2 ^ k) (2 ^ (n - suc k)) 2)
-
-bit-top : (x n : ℕ) → x < 2 ^ n → bit (2 ^ n + x) n ≡ true
-unfolding bit
-bit-top x n h =
-    let q : (2 ^ n + x) / 2 ^ n ≡ 1 = ap (λ e. (e + x) / 2 ^ n) (sym (one-mul (2 ^ n))) ∙ P.high 1 n h in
-    rw q
-
+-- bits past a word's end
 bit-past : (x k : ℕ) → x < 2 ^ k → bit x k ≡ false
 unfolding bit
 bit-past x k h = rw (div-eq-of-lt h)

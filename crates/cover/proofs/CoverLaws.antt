@@ -40,7 +40,7 @@ unfolding exists
 exists-swap f [] l = sym (exists-none l)
 exists-swap f (x ∷ k) l = ap (λ b. exists (f x) l || b) (exists-swap f k l) ∙ sym (exists-or (f x) (λ y. exists (λ z. f z y) k) l)
 
-exists-keep : {A : Type 0} (f p : A → Bool) (l : List A) → exists f (keep p l) ≡ exists (λ x. p x && f x) l
+pub exists-keep : {A : Type 0} (f p : A → Bool) (l : List A) → exists f (keep p l) ≡ exists (λ x. p x && f x) l
 unfolding exists keep
 exists-keep f p [] = refl
 exists-keep {A} f p (x ∷ l) = go (p x) (exists-keep f p l)

@@ -15,19 +15,10 @@ use Rattle.model.specs.Judge.{isTaker, updated, led, kept, framed, fits}
 use Rattle.model.proofs.Tests.{and-same, or-same, eq-self, exists-append, exists-ext, exists-map, every-append, each-ext, every-ext}
 use Rattle.model.proofs.Numbered.{size, Numbered, numbered}
 use Rattle.model.proofs.Takers.{Within, within}
+use Rattle.cover.proofs.CoverLaws.{exists-keep}
 use Rattle.search.specs.Search.{uncovered, unmoved, allUnmoved, isCandidate, candidates, isCovered, changedIn}
 
--- `exists` over what is kept, over pairs, and beside another test
-exists-keep : {A : Type 0} (f p : A → Bool) (l : List A) → exists f (keep p l) ≡ exists (λ x. p x && f x) l
-unfolding exists keep
-exists-keep f p [] = refl
-exists-keep {A} f p (x ∷ l) = go (p x) (exists-keep f p l)
-  where
-    go : (b : Bool) → exists f (keep p l) ≡ exists (λ y. p y && f y) l
-        → exists f (elim b as (λ c. List A) [ true ↦ x ∷ keep p l | false ↦ keep p l ]) ≡ ((b && f x) || exists (λ y. p y && f y) l)
-    go true e = ap (λ b. f x || b) e
-    go false e = e
-
+-- `exists` beside another test, and over pairs
 pub exists-and : {A : Type 0} (b : Bool) (f : A → Bool) (l : List A) → (b && exists f l) ≡ exists (λ x. b && f x) l
 unfolding exists
 exists-and true f l = refl
