@@ -5,8 +5,8 @@ use native.Mathlib.Omega.{arith}
 use Rattle.format.specs.Bytes.{Bytes}
 use Rattle.format.specs.Reader as Reader
 use Rattle.format.specs.Reader.{readAnswer}
-use Rattle.text.specs.Read.{readOf}
-use Rattle.text.proofs.LineBound.{refusal-line}
+use Rattle.reader.specs.Read.{readOf}
+use Rattle.reader.proofs.LineBound.{refusal-line}
 use Rattle.exports.specs.Numbers.{lineOf, mostLine}
 
 pub line-bound : (text : Bytes) (table : ℕ) → lineOf (readOf (readAnswer text table)) ≤ mostLine

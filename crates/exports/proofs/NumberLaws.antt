@@ -10,15 +10,15 @@ use Rattle.model.specs.Runs.{phaseNumber}
 use Rattle.model.specs.Table.{Opened, unopened, opened, openTable}
 use Rattle.model.specs.Rules as R
 use Rattle.model.specs.Judge as J
-use Rattle.judging.specs.declared.Phase.{Phase}
-use Rattle.judging.specs.Answers.{phaseIs, phaseFor, answerNumber}
+use Rattle.judge_call.specs.declared.Phase.{Phase}
+use Rattle.judge_call.specs.Answers.{phaseIs, phaseFor, answerNumber}
 use Rattle.judge.specs.declared.Ran.{Ran}
 use Rattle.judge.specs.declared.Ran.the-variants as Ran
 use Rattle.judge.specs.declared.Counted.{Counted}
 use Rattle.judge.specs.declared.Counted.the-variants as Counted
 use Rattle.judge.specs.RunAnswer.{RunAnswer, notRun, uneven, answersShort, endShort, ran, runAnswer, ranOf}
 use Rattle.judge.specs.TableSize.{sizeOf}
-use Rattle.judging.proofs.NumberLaws.{step-fits, environment-fits, unwrapped}
+use Rattle.judge_call.proofs.NumberLaws.{step-fits, environment-fits, unwrapped}
 use Rattle.format.specs.Bytes.{Bytes}
 use Rattle.model.specs.Bounds.{maxActions, maxVariables, maxAutomata, maxBytes, maxEdges}
 use Rattle.format.specs.Merger as Merger
@@ -26,12 +26,12 @@ use Rattle.format.specs.Merger.{mergeAnswer}
 use Rattle.format.specs.Reader as Reader
 use Rattle.format.specs.Reader.{readAnswer}
 use Rattle.format.specs.Writer.{WriteAnswer, unwritten, written, bufferAfter}
-use Rattle.merge.specs.Answers.{mergeOf}
-use Rattle.merge.specs.declared.MergeAnswer as G
-use Rattle.merge.specs.declared.MergeAnswer.the-variants as MergeAnswer
-use Rattle.text.specs.Read.{readOf}
-use Rattle.text.specs.declared.ReadAnswer as T
-use Rattle.text.specs.declared.ReadAnswer.the-variants as ReadAnswer
+use Rattle.merger.specs.Answers.{mergeOf}
+use Rattle.merger.specs.declared.MergeAnswer as G
+use Rattle.merger.specs.declared.MergeAnswer.the-variants as MergeAnswer
+use Rattle.reader.specs.Read.{readOf}
+use Rattle.reader.specs.declared.ReadAnswer as T
+use Rattle.reader.specs.declared.ReadAnswer.the-variants as ReadAnswer
 use Rattle.writer.specs.Answer.{given, Answered}
 use Rattle.writer.specs.declared.WriteAnswer as D
 use Rattle.writer.specs.declared.WriteAnswer.the-variants as W

@@ -7,16 +7,16 @@ use Rattle.model.specs.Table.{Opened, unopened, opened}
 use Rattle.format.specs.Merger as Merger
 use Rattle.format.specs.Reader as Reader
 use Rattle.format.specs.Writer.{WriteAnswer, unwritten, written}
-use Rattle.judging.specs.Answers.{phaseIs}
+use Rattle.judge_call.specs.Answers.{phaseIs}
 use Rattle.judge.specs.RunAnswer.{RunAnswer, notRun, uneven, answersShort, endShort, ran}
 use Rattle.judge.specs.declared.Ran.{Ran}
 use Rattle.judge.specs.declared.Ran.the-variants as J
 use Rattle.judge.specs.declared.Counted.{Counted}
 use Rattle.judge.specs.declared.Counted.the-variants as S
-use Rattle.text.specs.declared.ReadAnswer.{ReadAnswer}
-use Rattle.text.specs.declared.ReadAnswer.the-variants as R
-use Rattle.merge.specs.declared.MergeAnswer.{MergeAnswer}
-use Rattle.merge.specs.declared.MergeAnswer.the-variants as M
+use Rattle.reader.specs.declared.ReadAnswer.{ReadAnswer}
+use Rattle.reader.specs.declared.ReadAnswer.the-variants as R
+use Rattle.merger.specs.declared.MergeAnswer.{MergeAnswer}
+use Rattle.merger.specs.declared.MergeAnswer.the-variants as M
 use Rattle.writer.specs.declared.WriteAnswer as W
 use Rattle.writer.specs.declared.WriteAnswer.the-variants.{Written, Refused}
 

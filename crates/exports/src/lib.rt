@@ -12,7 +12,7 @@ ghost use Rattle.model.specs.Table.{openTable};
 ghost use Rattle.format.specs.Merger.{mergeAnswer, mergeAfter};
 ghost use Rattle.format.specs.Reader.{readAnswer, tableAfter};
 ghost use Rattle.format.specs.Writer.{writeAnswer, bufferAfter};
-ghost use Rattle.judging.specs.Answers.{answerNumber};
+ghost use Rattle.judge_call.specs.Answers.{answerNumber};
 ghost use Rattle.exports.specs.Numbers.{readNumber, writeNumber, mergeNumber, sizeNumber};
 
 // Reads a text into the table's first 8192 words: 0, or 2^32 times the row that refuses plus its line, when the table
@@ -22,7 +22,7 @@ pub extern "C" fn sheet_read(text: &[u8], table: &mut [u32]) -> u64
     ensures { λ r. ⌜ r ≡ readNumber (readAnswer (now (text .entry)) (length (now (table .entry)))) ⌝ }
     ensures { λ _. ⌜ now (table .exit) ≡ tableAfter (now (text .entry)) (now (table .entry)) ⌝ }
 {
-    numbers::read_number(text::read(text, table))
+    numbers::read_number(reader::read(text, table))
 }
 
 // How many actions, variables and automata the table's sheet has: 2^16 times the first plus 2^8 times the second plus
@@ -92,5 +92,5 @@ pub extern "C" fn sheet_merge(table: &[u32], out: &mut [u8]) -> u64
     ensures { λ _. ⌜ now (out .exit) ≡ mergeAfter (mergeAnswer (now (table .entry)) (length (now (out .entry))))
         (now (out .entry)) ⌝ }
 {
-    numbers::merge_number(merge::merge(table, out))
+    numbers::merge_number(merger::merge(table, out))
 }

@@ -1,8 +1,8 @@
 // Answers as one number.
 use judge::Counted;
 use judge::Ran;
-use merge::MergeAnswer;
-use text::ReadAnswer;
+use merger::MergeAnswer;
+use reader::ReadAnswer;
 use writer::WriteAnswer;
 ghost use mathlib.Core.Path.{_≡_};
 ghost use Prim.Native.Nat.{_+_, _*_, _^_, _≤_};

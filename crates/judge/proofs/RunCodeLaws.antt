@@ -13,27 +13,27 @@ use lib.Dec.{eqb, leb}
 use borrow.Author.Tests.{le-leb, lt-leb, leb-true, leb-false}
 use Rattle.model.specs.Runs.{phaseNumber}
 use Rattle.model.proofs.Tests.{and-left, and-right, not-true, not-false, eq-of, of-eq, not-eq}
-use Rattle.outline.specs.Outline.{countAt}
-use Rattle.table.specs.declared.Checked.{Checked}
-use Rattle.table.specs.declared.Checked.the-variants as C
-use Rattle.judging.specs.declared.Phase.{Phase}
-use Rattle.judging.specs.declared.Phase.the-variants.{Start, Running}
-use Rattle.judging.specs.declared.State.{State}
+use Rattle.table_places.specs.Outline.{countAt}
+use Rattle.table_check.specs.declared.Checked.{Checked}
+use Rattle.table_check.specs.declared.Checked.the-variants as C
+use Rattle.judge_call.specs.declared.Phase.{Phase}
+use Rattle.judge_call.specs.declared.Phase.the-variants.{Start, Running}
+use Rattle.judge_call.specs.declared.State.{State}
 use Rattle.judge.specs.declared.Ran.{Ran}
 use Rattle.judge.specs.declared.Ran.the-variants.{Ended, Uneven, AnswersShort, EndShort}
 use Rattle.judge.specs.declared.runs.Turn.{Turn}
-use Rattle.judging.specs.declared.Admitted.{Admitted}
-use Rattle.judging.specs.declared.Admitted.the-variants.{In, Out}
-use Rattle.judging.specs.declared.Answer.{Answer}
-use Rattle.judging.specs.declared.Answer.the-variants.{Yes, Marked, No, Refused}
-use Rattle.judging.specs.Answers.{answerOf, phaseIs, answerNumber}
-use Rattle.judging.specs.States.{stateOf}
-use Rattle.judging.specs.RowTests.{phaseRead, lengthsFit, locationsKnown, valuesKnown}
-use Rattle.judging.specs.Settled.{variablesShown}
-use Rattle.judging.specs.Taken.{automataShown}
-use Rattle.judging.proofs.CodeLaws.{shown-whole}
-use Rattle.judging.proofs.TakenLaws.{automata-whole}
-use Rattle.judging.specs.Calls.{thenLists, thenPhase, environmentOn, stepOn}
+use Rattle.judge_call.specs.declared.Admitted.{Admitted}
+use Rattle.judge_call.specs.declared.Admitted.the-variants.{In, Out}
+use Rattle.judge_call.specs.declared.Answer.{Answer}
+use Rattle.judge_call.specs.declared.Answer.the-variants.{Yes, Marked, No, Refused}
+use Rattle.judge_call.specs.Answers.{answerOf, phaseIs, answerNumber}
+use Rattle.judge_call.specs.States.{stateOf}
+use Rattle.judge_call.specs.RowTests.{phaseRead, lengthsFit, locationsKnown, valuesKnown}
+use Rattle.judge_call.specs.Settled.{variablesShown}
+use Rattle.judge_call.specs.Taken.{automataShown}
+use Rattle.judge_call.proofs.CodeLaws.{shown-whole}
+use Rattle.judge_call.proofs.TakenLaws.{automata-whole}
+use Rattle.judge_call.specs.Calls.{thenLists, thenPhase, environmentOn, stepOn}
 use Rattle.judge.specs.RunAnswer.{environmentMark, inFront}
 use Rattle.judge.specs.RunWords.{listsFit, endFits, startChecked, begunOn, judgedOn, proposedOn, movedTo, onward, Gone, turnOn, goOn, Left, ranOn, listedOn, Leaves}
 

@@ -17,34 +17,34 @@ use Rattle.model.specs.Judge as J
 use Rattle.model.specs.Runs.{Proposal, proposed, Judge, phaseNumber, callOf, tableJudge, goes, Run, andThen, run}
 use borrow.Author.Tests.{le-leb, lt-leb}
 use Rattle.model.proofs.Tests.{and-left, and-right, not-false, eq-of, lt-of, le-of}
-use Rattle.table.specs.Check.{answered}
-use Rattle.table.specs.declared.Checked.{Checked}
-use Rattle.table.specs.declared.Checked.the-variants as C
-use Rattle.outline.proofs.Opened.{Sheet, sheet-of}
-use Rattle.judging.specs.declared.Phase.{Phase}
-use Rattle.judging.specs.declared.Phase.the-variants.{Start, Running}
-use Rattle.judging.specs.declared.State.{State}
+use Rattle.table_check.specs.Check.{answered}
+use Rattle.table_check.specs.declared.Checked.{Checked}
+use Rattle.table_check.specs.declared.Checked.the-variants as C
+use Rattle.table_places.proofs.Opened.{Sheet, sheet-of}
+use Rattle.judge_call.specs.declared.Phase.{Phase}
+use Rattle.judge_call.specs.declared.Phase.the-variants.{Start, Running}
+use Rattle.judge_call.specs.declared.State.{State}
 use Rattle.judge.specs.declared.Ran.{Ran}
 use Rattle.judge.specs.declared.Ran.the-variants as Code
-use Rattle.judging.specs.declared.Admitted.{Admitted}
-use Rattle.judging.specs.declared.Admitted.the-variants.{In, Out}
-use Rattle.judging.specs.declared.Answer.{Answer}
-use Rattle.judging.specs.declared.Answer.the-variants.{Yes, Marked, No, Refused}
-use Rattle.judging.specs.Answers.{answerOf, phaseIs, phaseFor, answerNumber}
-use Rattle.judging.specs.States.{filled, stateOf, held}
-use Rattle.judging.specs.RowTests.{lengthsFit, locationsKnown, valuesKnown}
-use Rattle.judging.specs.Settled.{variablesShown}
-use Rattle.judging.specs.Taken.{automataShown}
-use Rattle.judging.specs.Calls.{thenLists, thenPhase}
+use Rattle.judge_call.specs.declared.Admitted.{Admitted}
+use Rattle.judge_call.specs.declared.Admitted.the-variants.{In, Out}
+use Rattle.judge_call.specs.declared.Answer.{Answer}
+use Rattle.judge_call.specs.declared.Answer.the-variants.{Yes, Marked, No, Refused}
+use Rattle.judge_call.specs.Answers.{answerOf, phaseIs, phaseFor, answerNumber}
+use Rattle.judge_call.specs.States.{filled, stateOf, held}
+use Rattle.judge_call.specs.RowTests.{lengthsFit, locationsKnown, valuesKnown}
+use Rattle.judge_call.specs.Settled.{variablesShown}
+use Rattle.judge_call.specs.Taken.{automataShown}
+use Rattle.judge_call.specs.Calls.{thenLists, thenPhase}
 use Rattle.judge.specs.RunAnswer.{environmentMark, proposalOf, proposalsOf, RunAnswer, notRun, uneven, answersShort, endShort, ran, isUneven, lacksEnd, runFrom, runAnswer, ranOf, inFront, lentAfter, answersAfter, locationsAfter, valuesAfter}
 use Rattle.judge.specs.RunWords.{listsFit, endFits, startChecked, begunOn, judgedOn, proposedOn, movedTo, Gone, turnOn, goOn, Left, ranOn, listedOn, Leaves}
-use Rattle.judging.proofs.Filled.{filled-front, filled-twice}
-use Rattle.judging.proofs.RowLaws.{automata-in, variables-in, lengths-row, locations-row, values-row}
-use Rattle.judging.proofs.SettledLaws.{shown-is}
-use Rattle.judging.proofs.CallLaws.{stands, one-each, one-value, phase-read, environment-good}
-use Rattle.judging.proofs.TakenLaws.{automata-is, in-front}
-use Rattle.judging.proofs.StepLaws.{step-good}
-use Rattle.judging.proofs.NumberLaws.{unwrapped, judge-fits}
+use Rattle.judge_call.proofs.Filled.{filled-front, filled-twice}
+use Rattle.judge_call.proofs.RowLaws.{automata-in, variables-in, lengths-row, locations-row, values-row}
+use Rattle.judge_call.proofs.SettledLaws.{shown-is}
+use Rattle.judge_call.proofs.CallLaws.{stands, one-each, one-value, phase-read, environment-good}
+use Rattle.judge_call.proofs.TakenLaws.{automata-is, in-front}
+use Rattle.judge_call.proofs.StepLaws.{step-good}
+use Rattle.judge_call.proofs.NumberLaws.{unwrapped, judge-fits}
 
 phase-back : (p : R.Phase) → phaseIs (phaseFor p) ≡ p
 unfolding phaseIs phaseFor

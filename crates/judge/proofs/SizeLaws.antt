@@ -5,12 +5,12 @@ use Prim.Native.Nat.{ℕ}
 use lib.ListN.{length, getD}
 use Rattle.model.specs.Model.{Model}
 use Rattle.model.specs.Table.{Opened, unopened, opened, openTable}
-use Rattle.table.specs.Check.{answered}
-use Rattle.table.specs.declared.Checked.{Checked}
-use Rattle.table.specs.declared.Checked.the-variants as C
-use Rattle.outline.specs.Outline.{countAt}
-use Rattle.outline.proofs.Opened.{Sheet, sheet-of}
-use Rattle.judging.proofs.RowLaws.{actions-in, variables-in, automata-in}
+use Rattle.table_check.specs.Check.{answered}
+use Rattle.table_check.specs.declared.Checked.{Checked}
+use Rattle.table_check.specs.declared.Checked.the-variants as C
+use Rattle.table_places.specs.Outline.{countAt}
+use Rattle.table_places.proofs.Opened.{Sheet, sheet-of}
+use Rattle.judge_call.proofs.RowLaws.{actions-in, variables-in, automata-in}
 use Rattle.judge.specs.declared.Counted.the-variants.{Counts, Refused}
 use Rattle.judge.specs.TableSize.{sizeOf}
 

@@ -7,23 +7,23 @@ use lib.IntN.{ℤ}
 use lib.ListN.{length, take, drop, set}
 use lib.Dec.{eqb, leb}
 use Rattle.model.specs.Runs.{phaseNumber}
-use Rattle.table.specs.declared.Checked.{Checked}
-use Rattle.table.specs.declared.Checked.the-variants as C
-use Rattle.judging.specs.declared.Phase.the-variants.{Running}
-use Rattle.judging.specs.declared.State.{State}
+use Rattle.table_check.specs.declared.Checked.{Checked}
+use Rattle.table_check.specs.declared.Checked.the-variants as C
+use Rattle.judge_call.specs.declared.Phase.the-variants.{Running}
+use Rattle.judge_call.specs.declared.State.{State}
 use Rattle.judge.specs.declared.Ran.{Ran}
 use Rattle.judge.specs.declared.Ran.the-variants.{Ended, Uneven, AnswersShort, EndShort}
 use Rattle.judge.specs.declared.runs.Turn.{Turn}
-use Rattle.judging.specs.declared.Admitted.{Admitted}
-use Rattle.judging.specs.declared.Answer.{Answer}
-use Rattle.judging.specs.declared.Answer.the-variants.{Yes, Marked, No, Refused}
-use Rattle.judging.specs.Answers.{answerOf, phaseIs, answerNumber}
-use Rattle.judging.specs.States.{stateOf}
-use Rattle.judging.specs.Places.{variablesIn, automataIn}
-use Rattle.judging.specs.RowTests.{phaseRead, lengthsFit, locationsKnown, valuesKnown}
-use Rattle.judging.specs.Settled.{variablesShown}
-use Rattle.judging.specs.Taken.{automataShown}
-use Rattle.judging.specs.Calls.{thenPhase, environmentOn, stepOn}
+use Rattle.judge_call.specs.declared.Admitted.{Admitted}
+use Rattle.judge_call.specs.declared.Answer.{Answer}
+use Rattle.judge_call.specs.declared.Answer.the-variants.{Yes, Marked, No, Refused}
+use Rattle.judge_call.specs.Answers.{answerOf, phaseIs, answerNumber}
+use Rattle.judge_call.specs.States.{stateOf}
+use Rattle.judge_call.specs.Places.{variablesIn, automataIn}
+use Rattle.judge_call.specs.RowTests.{phaseRead, lengthsFit, locationsKnown, valuesKnown}
+use Rattle.judge_call.specs.Settled.{variablesShown}
+use Rattle.judge_call.specs.Taken.{automataShown}
+use Rattle.judge_call.specs.Calls.{thenPhase, environmentOn, stepOn}
 use Rattle.judge.specs.RunAnswer.{environmentMark, inFront}
 
 -- the proposals' lists: so many locations and values for `count` actions

@@ -2,15 +2,15 @@
 // table.
 mod runs;
 
-use judging::Admitted;
-pub use judging::Answer;
-pub use judging::Phase;
-pub use judging::State;
-pub use judging::environment;
-pub use judging::number;
-pub use judging::step;
+use judge_call::Admitted;
+pub use judge_call::Answer;
+pub use judge_call::Phase;
+pub use judge_call::State;
+pub use judge_call::environment;
+pub use judge_call::number;
+pub use judge_call::step;
 pub use runs::phase_number;
-use table::Checked;
+use table_check::Checked;
 ghost use mathlib.Core.Path.{_≡_};
 ghost use lib.ListN.{length};
 ghost use Rattle.model.specs.Table.{openTable};
@@ -61,7 +61,7 @@ pub fn run(
         (now («new_values» .entry)) (length (now (answers .entry))) (length (now («end_locations» .entry)))
         (length (now («end_values» .entry)))) (now («end_values» .entry)) ⌝ }
 {
-    if let Checked::Refused(row) = table::check(table) {
+    if let Checked::Refused(row) = table_check::check(table) {
         return Ran::Refused(row);
     }
     let begun = runs::begun(table, phase, locations, values);
@@ -92,11 +92,11 @@ pub enum Counted {
 pub fn size(table: &[u32]) -> Counted
     ensures { λ r. ⌜ r ≡ sizeOf (openTable (now (table .entry))) ⌝ }
 {
-    if let Checked::Refused(row) = table::check(table) {
+    if let Checked::Refused(row) = table_check::check(table) {
         return Counted::Refused(row);
     }
-    let actions = outline::word(table, 1);
-    let variables = outline::word(table, 2);
-    let automata = outline::word(table, outline::count_at(table));
+    let actions = table_places::word(table, 1);
+    let variables = table_places::word(table, 2);
+    let automata = table_places::word(table, table_places::count_at(table));
     Counted::Counts(actions, variables, automata)
 }

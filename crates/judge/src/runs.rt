@@ -1,10 +1,10 @@
 // A list of proposals over a table that is known to be good: what `run` does once it has checked the table.
 use crate::Ran;
-use judging::Admitted;
-use judging::Answer;
-use judging::Phase;
-use judging::State;
-use table::Checked;
+use judge_call::Admitted;
+use judge_call::Answer;
+use judge_call::Phase;
+use judge_call::State;
+use table_check::Checked;
 ghost use mathlib.Core.Path.{_≡_};
 ghost use Prim.Native.Nat.{_*_, _≤_, _<_};
 ghost use mathlib.Core.Bool.{true};
@@ -12,9 +12,9 @@ ghost use lib.IntN.{pos};
 ghost use lib.ListN.{length, getD, take};
 ghost use lib.Dec.{eqb};
 ghost use Rattle.model.specs.Runs.{phaseNumber};
-ghost use Rattle.judging.specs.Answers.{phaseIs};
-ghost use Rattle.judging.specs.Settled.{variablesShown};
-ghost use Rattle.judging.specs.Taken.{automataShown};
+ghost use Rattle.judge_call.specs.Answers.{phaseIs};
+ghost use Rattle.judge_call.specs.Settled.{variablesShown};
+ghost use Rattle.judge_call.specs.Taken.{automataShown};
 ghost use Rattle.judge.specs.declared.Ran.the-variants.{Ended};
 ghost use Rattle.judge.specs.RunAnswer.{environmentMark, inFront};
 ghost use Rattle.judge.specs.RunWords.{listsFit, endFits, startChecked, begunOn, judgedOn, proposedOn, movedTo, onward, turnOn, goOn, ranOn, listedOn, Leaves};
@@ -33,8 +33,8 @@ fn times(total: usize, n: usize, count: usize) -> bool
 fn lengths_for(words: &[u32], count: usize, locations: usize, values: usize) -> bool
     ensures { λ r. ⌜ r ≡ listsFit (now (words .entry)) count locations values ⌝ }
 {
-    let automata = outline::word(words, outline::count_at(words));
-    let variables = outline::word(words, 2);
+    let automata = table_places::word(words, table_places::count_at(words));
+    let variables = table_places::word(words, 2);
     times(locations, automata, count) & times(values, variables, count)
 }
 
@@ -42,20 +42,20 @@ fn lengths_for(words: &[u32], count: usize, locations: usize, values: usize) -> 
 fn end_fits(words: &[u32], locations: usize, values: usize) -> bool
     ensures { λ r. ⌜ r ≡ endFits (now (words .entry)) locations values ⌝ }
 {
-    (judging::automata(words) <= locations) & (judging::shown(words) <= values)
+    (judge_call::automata(words) <= locations) & (judge_call::shown(words) <= values)
 }
 
 // Rows 21 to 23 of the state that a run starts from.
 fn start_checked(words: &[u32], locations: &[u32], values: &[i32]) -> Checked
     ensures { λ r. ⌜ r ≡ startChecked (now (words .entry)) (now (locations .entry)) (now (values .entry)) ⌝ }
 {
-    if !judging::lengths(words, locations.len(), values.len()) {
+    if !judge_call::lengths(words, locations.len(), values.len()) {
         return Checked::Refused(21);
     }
-    if !judging::locations_known(words, locations) {
+    if !judge_call::locations_known(words, locations) {
         return Checked::Refused(22);
     }
-    if !judging::values_known(words, values) {
+    if !judge_call::values_known(words, values) {
         return Checked::Refused(23);
     }
     Checked::Good
@@ -65,7 +65,7 @@ fn start_checked(words: &[u32], locations: &[u32], values: &[i32]) -> Checked
 pub(crate) fn begun(words: &[u32], phase: u32, locations: &[u32], values: &[i32]) -> Admitted
     ensures { λ r. ⌜ r ≡ begunOn (now (words .entry)) (now (locations .entry)) (now (values .entry)) phase ⌝ }
 {
-    let read = judging::phase_of(phase);
+    let read = judge_call::phase_of(phase);
     match read {
         Admitted::Out(row) => Admitted::Out(row),
         Admitted::In(p) => match start_checked(words, locations, values) {
@@ -96,16 +96,16 @@ fn judged(words: &[u32], s: State, action: u32, new_locations: &[u32], new_value
     ensures { λ r. ⌜ r ≡ judgedOn (now (words .entry)) s action (now («new_locations» .entry))
         (now («new_values» .entry)) ⌝ }
 {
-    let n = judging::automata(words);
-    let v = judging::shown(words);
+    let n = judge_call::automata(words);
+    let v = judge_call::shown(words);
     let p = s.phase;
     let phase = phase_number(p);
     let locations = s.locations;
     let values = s.values;
     if for_environment(action) {
-        return judging::environment_on(words, phase, &locations[..n], &values[..v], new_values);
+        return judge_call::environment_on(words, phase, &locations[..n], &values[..v], new_values);
     }
-    judging::step_on(
+    judge_call::step_on(
         words,
         phase,
         &locations[..n],
@@ -150,7 +150,7 @@ fn put(words: &[u32], s: State, action: u32, new_locations: &[u32], new_values: 
         (now («new_values» .entry)) ⌝ }
 {
     let answer = judged(words, s, action, new_locations, new_values);
-    let number = judging::number(answer);
+    let number = judge_call::number(answer);
     let state = moved(answer, s, proposed(s, action, new_locations, new_values));
     Turn { number, state }
 }
@@ -185,8 +185,8 @@ fn all(
         (variablesShown (now (words .entry))) start (now (answers .entry)) 0 (now (actions .entry))
         (now («new_locations» .entry)) (now («new_values» .entry)) .answers ⌝ }
 {
-    let n = judging::automata(words);
-    let v = judging::shown(words);
+    let n = judge_call::automata(words);
+    let v = judge_call::shown(words);
     let mut s = start;
     let mut at = 0;
     let mut from = 0;
@@ -245,8 +245,8 @@ fn keep(words: &[u32], s: State, end_locations: &mut [u32], end_values: &mut [i3
     ensures { λ _. ⌜ now («end_values» .exit) ≡ inFront (take (variablesShown (now (words .entry))) (s .values))
         (now («end_values» .entry)) ⌝ }
 {
-    let n = judging::automata(words);
-    let v = judging::shown(words);
+    let n = judge_call::automata(words);
+    let v = judge_call::shown(words);
     let locations = s.locations;
     let values = s.values;
     put_words(&locations[..n], end_locations);

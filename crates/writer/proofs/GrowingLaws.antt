@@ -12,9 +12,9 @@ use lib.Dec.{leb}
 use Rattle.format.specs.Bytes.{Bytes}
 use Rattle.format.specs.Number.{decimal, signed}
 use Rattle.model.specs.Table.{unbiased}
-use Rattle.scan.specs.declared.answer.Written.{Written}
-use Rattle.scan.specs.declared.answer.Written.the-variants.{To, Full}
-use Rattle.scan.specs.Write.{fits, writtenTo, after, Wrote}
+use Rattle.text_bytes.specs.declared.answer.Written.{Written}
+use Rattle.text_bytes.specs.declared.answer.Written.the-variants.{To, Full}
+use Rattle.text_bytes.specs.Write.{fits, writtenTo, after, Wrote}
 use Rattle.writer.specs.Growing.{held, more, Grew, between}
 
 -- there is room for what a buffer holds

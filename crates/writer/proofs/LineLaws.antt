@@ -6,8 +6,8 @@ use lib.ListN.{getD, take, drop}
 use Rattle.format.specs.Bytes.{Bytes, joined, space}
 use Rattle.format.specs.Number.{decimal, signed}
 use Rattle.model.specs.Table.{unbiased}
-use Rattle.lines.specs.declared.Key.{Key}
-use Rattle.scan.specs.declared.answer.Written.{Written}
+use Rattle.line_order.specs.declared.Key.{Key}
+use Rattle.text_bytes.specs.declared.answer.Written.{Written}
 use Rattle.writer.specs.Growing.{Grew}
 use Rattle.writer.specs.Text.{setText, wordsText, nodeTexts, rangeText, predicateText, fieldText, edgeText, treeText, valueOf, keyText, lineOf, sizeOf}
 use Rattle.writer.proofs.GrowingLaws.{grew-none, grew-then}

@@ -14,10 +14,10 @@ use Rattle.model.proofs.Lists.{keep-append}
 use Rattle.format.specs.Bytes.{Bytes, joined, space, comma}
 use Rattle.format.specs.Number.{decimal}
 use Rattle.format.specs.Spelling.{textOfList}
-use Rattle.scan.specs.declared.answer.Written.{Written}
-use Rattle.tree.specs.Sets.{oneWord}
-use Rattle.tree.proofs.SetLaws.{set-of-one}
-use Rattle.outline.specs.Outline.{reach}
+use Rattle.text_bytes.specs.declared.answer.Written.{Written}
+use Rattle.table_tree.specs.Sets.{oneWord}
+use Rattle.table_tree.proofs.SetLaws.{set-of-one}
+use Rattle.table_places.specs.Outline.{reach}
 use Rattle.writer.specs.Growing.{Grew, between}
 use Rattle.writer.specs.Text.{memberText, setText, nodeBy, nodeText, sizeBy, nodeSize, nodeTexts}
 use Rattle.writer.proofs.GrowingLaws.{grew-none, grew-then}

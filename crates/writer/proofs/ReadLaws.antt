@@ -8,8 +8,8 @@ use borrow.Author.Tests.{leb-false}
 use lib.ListN.{length, take, drop, length-drop, drop-of-length-le}
 use lib.Seq.{length-take-le, take-all, drop-drop, drop-length}
 use lib.Dec.{leb}
-use Rattle.outline.specs.Outline.{reach}
-use Rattle.outline.proofs.CodeLaws.{word-past}
+use Rattle.table_places.specs.Outline.{reach}
+use Rattle.table_places.proofs.CodeLaws.{word-past}
 
 pub ruleset word-laws = (word-past)
 

@@ -13,12 +13,12 @@ use lib.Dec.{leb}
 use Rattle.format.specs.Bytes.{Bytes}
 use Rattle.format.specs.Writer.{row35, WriteAnswer as Answer, unwritten, written, withText, bufferAfter}
 use Rattle.model.proofs.Parsing.{none-some, got}
-use Rattle.lines.specs.declared.Due.{Due}
-use Rattle.lines.specs.Due.{isEnd, dueFirst, dueAfter}
-use Rattle.outline.specs.Outline.{reach}
-use Rattle.scan.specs.declared.answer.Written.{Written}
-use Rattle.scan.specs.declared.answer.Written.the-variants.{To, Full}
-use Rattle.scan.specs.Write.{fits, writtenTo, after, Wrote}
+use Rattle.line_order.specs.declared.Due.{Due}
+use Rattle.line_order.specs.Due.{isEnd, dueFirst, dueAfter}
+use Rattle.table_places.specs.Outline.{reach}
+use Rattle.text_bytes.specs.declared.answer.Written.{Written}
+use Rattle.text_bytes.specs.declared.answer.Written.the-variants.{To, Full}
+use Rattle.text_bytes.specs.Write.{fits, writtenTo, after, Wrote}
 use Rattle.writer.specs.declared.WriteAnswer.the-variants as W
 use Rattle.writer.specs.Growing.{start, held, more, Grew}
 use Rattle.writer.specs.Text.{lineOf, sizeOf, linesFrom, sheetText}

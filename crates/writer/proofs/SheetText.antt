@@ -22,15 +22,15 @@ use Rattle.model.proofs.Bits.{set-back}
 use Rattle.model.proofs.LinesLaws.{Follows, follow-lines}
 use Rattle.model.proofs.LimitsLaws.{lawful-is}
 use Rattle.model.proofs.Sizes.{lines-few}
-use Rattle.outline.proofs.Opened.{sheet-of}
-use Rattle.lines.specs.declared.Key.{Key}
-use Rattle.lines.specs.declared.Due.{Due}
-use Rattle.lines.specs.Due.{isEnd, dueFirst, dueAfterKey, dueAfter, keysDue, laterKeys, laterDue, codeOf, numberOf}
-use Rattle.lines.proofs.KeyLaws.{no-end}
-use Rattle.lines.proofs.DueLaws.{due-first, due-key, due-later, due-end, due-after}
-use Rattle.table.specs.declared.Checked.{Checked}
-use Rattle.table.specs.declared.Checked.the-variants.{Good, Refused}
-use Rattle.table.specs.Check.{answered}
+use Rattle.table_places.proofs.Opened.{sheet-of}
+use Rattle.line_order.specs.declared.Key.{Key}
+use Rattle.line_order.specs.declared.Due.{Due}
+use Rattle.line_order.specs.Due.{isEnd, dueFirst, dueAfterKey, dueAfter, keysDue, laterKeys, laterDue, codeOf, numberOf}
+use Rattle.line_order.proofs.KeyLaws.{no-end}
+use Rattle.line_order.proofs.DueLaws.{due-first, due-key, due-later, due-end, due-after}
+use Rattle.table_check.specs.declared.Checked.{Checked}
+use Rattle.table_check.specs.declared.Checked.the-variants.{Good, Refused}
+use Rattle.table_check.specs.Check.{answered}
 use Rattle.format.specs.Bytes.{Bytes, ledBy, joined, comma, LF}
 use Rattle.format.specs.Number.{decimal, signed}
 use Rattle.format.specs.Spelling.{spelling, textOfList, textOfPred, valueText, lineText, textOf}

@@ -11,7 +11,7 @@ use Rattle.format.specs.Number.{decimal, signed}
 use Rattle.format.specs.Spelling.{spelled}
 use Rattle.model.specs.Predicate.{stray}
 use Rattle.model.specs.Table.{unbiased, kinds, wordOf}
-use Rattle.scan.specs.declared.answer.Written.{Written}
+use Rattle.text_bytes.specs.declared.answer.Written.{Written}
 use Rattle.writer.specs.Growing.{Grew, between}
 use Rattle.writer.specs.Text.{wordText, wordsText, nameText, argumentText}
 use Rattle.writer.proofs.GrowingLaws.{grew-none, grew-then}

@@ -6,8 +6,8 @@ use mathlib.Core.List.{List}
 use lib.ListN.{length, take}
 use Rattle.format.specs.Bytes.{Bytes}
 use Rattle.format.specs.Writer.{row35, WriteAnswer as Answer, unwritten, written, bufferAfter}
-use Rattle.scan.specs.declared.answer.Written as S
-use Rattle.scan.specs.Write.{writtenTo}
+use Rattle.text_bytes.specs.declared.answer.Written as S
+use Rattle.text_bytes.specs.Write.{writtenTo}
 use Rattle.writer.specs.Text.{sheetText}
 use Rattle.writer.specs.declared.WriteAnswer.{WriteAnswer}
 use Rattle.writer.specs.declared.WriteAnswer.the-variants.{Written, Refused}

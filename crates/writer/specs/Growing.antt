@@ -7,8 +7,8 @@ use mathlib.Core.Option.{Option, none, some}
 use lib.ListN.{length, take}
 use lib.Dec.{leb}
 use Rattle.format.specs.Bytes.{Bytes}
-use Rattle.scan.specs.declared.answer.Written.{Written}
-use Rattle.scan.specs.declared.answer.Written.the-variants.{To, Full}
+use Rattle.text_bytes.specs.declared.answer.Written.{Written}
+use Rattle.text_bytes.specs.declared.answer.Written.the-variants.{To, Full}
 
 abbrev pub start : Written
 start = To 0

@@ -10,10 +10,10 @@ use Rattle.model.specs.Table.{unbiased, wordOf, setOf}
 use Rattle.format.specs.Bytes.{Bytes, bytes, joined, LF, space, comma, 'a}
 use Rattle.format.specs.Number.{decimal, signed}
 use Rattle.format.specs.Spelling.{spelling, spelled, textOfList}
-use Rattle.lines.specs.declared.Key.{Key}
-use Rattle.lines.specs.declared.Key.the-variants.{Format, Actions, Variables, Variable, Automata, Sync, Locations, Init, Inv, Edges, Edge, Compose, End}
-use Rattle.lines.specs.declared.Due.{Due}
-use Rattle.lines.specs.Due.{isEnd, dueFirst, dueAfter}
+use Rattle.line_order.specs.declared.Key.{Key}
+use Rattle.line_order.specs.declared.Key.the-variants.{Format, Actions, Variables, Variable, Automata, Sync, Locations, Init, Inv, Edges, Edge, Compose, End}
+use Rattle.line_order.specs.declared.Due.{Due}
+use Rattle.line_order.specs.Due.{isEnd, dueFirst, dueAfter}
 use Rattle.writer.specs.Growing.{between}
 
 -- A node of a predicate, and nodes in a row.

@@ -1,5 +1,5 @@
 // Writing on from a place; where there is no room, that is passed on.
-use scan::Written;
+use text_bytes::Written;
 ghost use mathlib.Core.Path.{_≡_};
 ghost use Rattle.format.specs.Number as N;
 ghost use Rattle.model.specs.Table.{unbiased};
@@ -9,7 +9,7 @@ pub(crate) fn put(s: &[u8], out: &mut [u8], at: Written) -> Written
     ensures { λ r. ⌜ Grew (now (s .entry)) at (now (out .entry)) (now (out .exit)) r ⌝ }
 {
     match at {
-        Written::To(n) => scan::copy(s, out, n),
+        Written::To(n) => text_bytes::copy(s, out, n),
         Written::Full => Written::Full,
     }
 }
@@ -18,7 +18,7 @@ pub(crate) fn number(n: u32, out: &mut [u8], at: Written) -> Written
     ensures { λ r. ⌜ Grew (N.decimal n) at (now (out .entry)) (now (out .exit)) r ⌝ }
 {
     match at {
-        Written::To(place) => scan::decimal(n, out, place),
+        Written::To(place) => text_bytes::decimal(n, out, place),
         Written::Full => Written::Full,
     }
 }

@@ -6,8 +6,8 @@ mod read;
 mod sheet;
 mod words;
 
-use scan::Written;
-use table::Checked;
+use table_check::Checked;
+use text_bytes::Written;
 ghost use lib.ListN.{length};
 ghost use Rattle.model.specs.Bounds.{maxBytes};
 ghost use Rattle.format.specs.Writer.{writeAnswer};
@@ -34,7 +34,7 @@ fn deliver(table: &[u32], text: &mut [u8], out: &mut [u8]) -> WriteAnswer
     if out.len() < n {
         return WriteAnswer::Refused(35);
     }
-    let _end = scan::copy(&text[..n], out, 0);
+    let _end = text_bytes::copy(&text[..n], out, 0);
     WriteAnswer::Written(n)
 }
 
@@ -52,7 +52,7 @@ pub fn write_words(table: &[u32], out: &mut [u8]) -> WriteAnswer
 pub fn write(table: &[u32], out: &mut [u8]) -> WriteAnswer
     ensures { λ r. ⌜ Answered (writeAnswer (now (table .entry)) (length (now (out .entry)))) (now (out .entry)) (now (out .exit)) r ⌝ }
 {
-    let checked = table::check(table);
+    let checked = table_check::check(table);
     match checked {
         Checked::Good => write_words(table, out),
         Checked::Refused(row) => WriteAnswer::Refused(row),

@@ -1,7 +1,7 @@
 // Sets, and the tree's nodes: `par`, `syn` with its set, and leaves.
 use crate::growing::{self};
 use crate::read::{self};
-use scan::Written;
+use text_bytes::Written;
 ghost use mathlib.Core.Path.{_≡_};
 ghost use Rattle.format.specs.Bytes.{joined, space};
 ghost use Rattle.writer.specs.Growing.{Grew};
@@ -22,12 +22,12 @@ fn member(is_in: bool, first: bool, k: u32, out: &mut [u8], at: Written) -> Writ
 pub(crate) fn set(low: u32, high: u32, out: &mut [u8], at: Written) -> Written
     ensures { λ r. ⌜ Grew (setText low high) at (now (out .entry)) (now (out .exit)) r ⌝ }
 {
-    let both = tree::set_of(low, high);
+    let both = table_tree::set_of(low, high);
     let mut end = at;
     let mut first = true;
     let mut k: u32 = 0;
     while k < 64 {
-        let is_in = tree::in_word(both, k);
+        let is_in = table_tree::in_word(both, k);
         end = member(is_in, first, k, out, end);
         first = first & !is_in;
         k += 1;
@@ -68,7 +68,7 @@ pub(crate) fn nodes(ws: &[u32], n: usize, out: &mut [u8], at: Written) -> Writte
     while i < n {
         let a = growing::apart(b" ", i == 0, out, end);
         end = node(read::rest(ws, next), out, a);
-        next = outline::step(ws, next, size(read::rest(ws, next)));
+        next = table_places::step(ws, next, size(read::rest(ws, next)));
         i += 1;
     }
     end

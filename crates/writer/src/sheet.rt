@@ -1,9 +1,9 @@
 // All lines, in the order in which they are due.
 use crate::line::{self};
 use crate::read::{self};
-use lines::Due;
+use line_order::Due;
 use model::Model;
-use scan::Written;
+use text_bytes::Written;
 ghost use mathlib.Core.Path.{_≡_};
 ghost use Rattle.writer.specs.Growing.{Grew, start};
 ghost use Rattle.writer.specs.Text.{sheetText};
@@ -19,12 +19,12 @@ fn all_lines(table: &[u32], out: &mut [u8]) -> Written
     let mut left = Model::WORDS + 1;
     while left != 0 {
         let key = due.key;
-        if lines::end(key) {
+        if line_order::end(key) {
             return end;
         }
         end = line::line(key, read::rest(table, at), out, end);
         due = due.after(read::count(read::rest(table, at), 0));
-        at = outline::step(table, at, line::size(key, read::rest(table, at)));
+        at = table_places::step(table, at, line::size(key, read::rest(table, at)));
         left -= 1;
     }
     end

@@ -1,6 +1,6 @@
 // Predicates: the nodes of a predicate, each one word, and spaces between them.
 use crate::growing::{self};
-use scan::Written;
+use text_bytes::Written;
 ghost use mathlib.Core.Path.{_≡_};
 ghost use Rattle.writer.specs.Growing.{Grew};
 ghost use Rattle.writer.specs.Text.{nameText, argumentText, wordText, wordsText};

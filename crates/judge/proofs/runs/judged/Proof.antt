@@ -1,7 +1,7 @@
 -- `judge::runs::judged` meets its contract: each way out is a law of RunCodeLaws.
 use Rattle.judge.proofs.RunCodeLaws.{judged-laws}
-use Rattle.judging.proofs.CodeLaws.{shown-fits, shown-whole}
-use Rattle.judging.proofs.TakenLaws.{automata-fit, automata-whole}
+use Rattle.judge_call.proofs.CodeLaws.{shown-fits, shown-whole}
+use Rattle.judge_call.proofs.TakenLaws.{automata-fit, automata-whole}
 use borrow.Author.Needs.{needs}
 use Rattle.judge.proofs.runs.judged.Statement.{statement}
 use Rattle.judge.proofs.runs.judged.Tie as tie

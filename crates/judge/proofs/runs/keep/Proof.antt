@@ -1,7 +1,7 @@
 -- `judge::runs::keep` meets its contract: the laws of RunCodeLaws on room and on what is kept.
 use Rattle.judge.proofs.RunCodeLaws.{kept-locations, kept-values, keep-laws}
-use Rattle.judging.proofs.CodeLaws.{shown-fits, shown-whole}
-use Rattle.judging.proofs.TakenLaws.{automata-fit, automata-whole}
+use Rattle.judge_call.proofs.CodeLaws.{shown-fits, shown-whole}
+use Rattle.judge_call.proofs.TakenLaws.{automata-fit, automata-whole}
 use borrow.Author.Needs.{needs}
 use Rattle.judge.proofs.runs.keep.Statement.{statement}
 use Rattle.judge.proofs.runs.keep.Tie as tie

@@ -5,7 +5,7 @@ use Rattle.writer.proofs.growing.number.Statement.{statement}
 use Rattle.writer.proofs.growing.number.Tie as tie
 use Rattle.writer.proofs.growing.number.Reads as reads
 use Rattle.writer.proofs.growing.number.Lts as lts
-use Rattle.scan.proofs.decimal.Reads as decimal-reads
+use Rattle.text_bytes.proofs.decimal.Reads as decimal-reads
 
 enum-known-at : tie.Need-enum-known-at
 enum-known-at c = search needs

@@ -5,7 +5,7 @@ use Rattle.writer.proofs.growing.put.Statement.{statement}
 use Rattle.writer.proofs.growing.put.Tie as tie
 use Rattle.writer.proofs.growing.put.Reads as reads
 use Rattle.writer.proofs.growing.put.Lts as lts
-use Rattle.scan.proofs.copy.Reads as copy-reads
+use Rattle.text_bytes.proofs.copy.Reads as copy-reads
 
 enum-known-at : tie.Need-enum-known-at
 enum-known-at c = search needs

@@ -1,0 +1,17 @@
+-- `judge_call::rows::action_known` meets its contract.
+use Rattle.judge_call.proofs.CodeLaws.{action-known-is}
+use borrow.Author.Needs.{needs}
+use Rattle.judge_call.proofs.rows.action_known.Statement.{statement}
+use Rattle.judge_call.proofs.rows.action_known.Tie as tie
+
+index-requires : tie.Need-index-requires
+index-requires c κs = search needs
+
+word-requires : tie.Need-word-requires
+word-requires c κs = search needs
+
+returns : tie.Need-returns
+returns c = search (needs, action-known-is)
+
+pub action-known-spec : {M : Type 1} → statement M
+action-known-spec = tie.close (tie.spec index-requires word-requires returns)

@@ -1,0 +1,20 @@
+-- `judge_candidates::bits::differs` meets its contract.
+use Rattle.judge_candidates.proofs.BitsLaws.{differs-is}
+use borrow.Author.Needs.{needs}
+use Rattle.judge_candidates.proofs.bits.differs.Statement.{statement}
+use Rattle.judge_candidates.proofs.bits.differs.Tie as tie
+
+variable-requires : tie.Need-variable-requires
+variable-requires c κs = search needs
+
+variable-requires-2 : tie.Need-variable-requires-2
+variable-requires-2 c κs = search needs
+
+same-requires : tie.Need-same-requires
+same-requires c κs = search needs
+
+returns : tie.Need-returns
+returns c = search (needs, differs-is)
+
+pub differs-spec : {M : Type 1} → statement M
+differs-spec = tie.close (tie.spec variable-requires variable-requires-2 same-requires returns)

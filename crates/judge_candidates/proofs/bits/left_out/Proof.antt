@@ -1,0 +1,17 @@
+-- `judge_candidates::bits::left_out` meets its contract.
+use Rattle.judge_candidates.proofs.BitsLaws.{out-laws}
+use borrow.Author.Needs.{needs}
+use Rattle.judge_candidates.proofs.bits.left_out.Statement.{statement}
+use Rattle.judge_candidates.proofs.bits.left_out.Tie as tie
+
+clear-requires : tie.Need-clear-requires
+clear-requires c κs = search needs
+
+returns : tie.Need-returns
+returns c = search (needs, out-laws)
+
+returns-2 : tie.Need-returns-2
+returns-2 c = search (needs, out-laws)
+
+pub left-out-spec : {M : Type 1} → statement M
+left-out-spec = tie.close (tie.spec clear-requires returns returns-2)

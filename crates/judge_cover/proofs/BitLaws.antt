@@ -1,0 +1,116 @@
+-- Bits of numbers: of `&`, of equal numbers, and how many are set.
+use mathlib.Core.Path.{_≡_, refl, sym, ap, _∙_}
+use mathlib.Core.Bool.{Bool, true, false, _&&_, and-comm}
+use Prim.Native.Nat.{ℕ, zero, suc, _+_, _-_, _*_, _/_, _%_, _^_, _≤_, _<_, min}
+use native.Mathlib.Omega.{arith}
+use native.Mathlib.Nat.{pow-succ', div-one, div-div-eq-div-mul, add-comm, add-mul-div-right, add-mul-mod-self-right, one-mul}
+use lib.Dec.{eqb}
+use lib.Bits.{bitAnd, and-step, and-shr, and-zero-l, and-zero-r, and-comm as and-turned}
+use lib.Pow.{pow-pos, pow-add, high}
+use lib.Count.{ones, ones-step}
+use borrow.Author.Tests.{eqb-true, eqb-false}
+use Rattle.model.specs.Table.{bit}
+use Rattle.table_tree.proofs.SetLaws.{bit-above}
+
+-- a bit of `&` is set where it is set in both
+least-digit : (p q : ℕ) → p < 2 → q < 2 → eqb (min p q) 1 ≡ (eqb p 1 && eqb q 1)
+least-digit zero q a b = go q b
+  where
+    go : (q : ℕ) → q < 2 → eqb (min 0 q) 1 ≡ (eqb 0 1 && eqb q 1)
+    go zero h = refl
+    go (suc zero) h = refl
+    go (suc (suc q)) h = absurd (omega arith)
+least-digit (suc zero) q a b = go q b
+  where
+    go : (q : ℕ) → q < 2 → eqb (min 1 q) 1 ≡ (eqb 1 1 && eqb q 1)
+    go zero h = refl
+    go (suc zero) h = refl
+    go (suc (suc q)) h = absurd (omega arith)
+least-digit (suc (suc p)) q a b = absurd (omega arith)
+
+odd-and : (x y : ℕ) → eqb (bitAnd x y % 2) 1 ≡ (eqb (x % 2) 1 && eqb (y % 2) 1)
+odd-and x y =
+    let e : bitAnd x y % 2 ≡ min (x % 2) (y % 2) = omega (arith, and-step x y) in
+    ap (λ n. eqb n 1) e ∙ least-digit (x % 2) (y % 2) (omega arith) (omega arith)
+
+pub bit-and : (a b k : ℕ) → bit (bitAnd a b) k ≡ (bit a k && bit b k)
+unfolding bit
+bit-and a b k = ap (λ n. eqb (n % 2) 1) (and-shr a b k) ∙ odd-and (a / 2 ^ k) (b / 2 ^ k)
+
+-- numbers with the same bits are equal
+bit-next : (a k : ℕ) → bit a (suc k) ≡ bit (a / 2) k
+unfolding bit
+bit-next a k = rw (pow-succ' 2 k, div-div-eq-div-mul)
+
+bit-first : (a : ℕ) → bit a 0 ≡ eqb (a % 2) 1
+unfolding bit
+bit-first a = rw (div-one a)
+
+same-digit : (a b : ℕ) → eqb (a % 2) 1 ≡ eqb (b % 2) 1 → a % 2 ≡ b % 2
+same-digit a b h = go (eqb (b % 2) 1) refl
+  where
+    go : (c : Bool) → eqb (b % 2) 1 ≡ c → a % 2 ≡ b % 2
+    go true e = let x = eqb-true (b % 2) 1 e in let y = eqb-true (a % 2) 1 (h ∙ e) in omega arith
+    go false e = let x = eqb-false (b % 2) 1 e in let y = eqb-false (a % 2) 1 (h ∙ e) in omega arith
+
+pub same-bits : (n a b : ℕ) → a < 2 ^ n → b < 2 ^ n → ((k : ℕ) → k < n → bit a k ≡ bit b k) → a ≡ b
+same-bits zero a b x y h = omega arith
+same-bits (suc n) a b x y h =
+    let p = pow-succ' 2 n in
+    let halves = same-bits n (a / 2) (b / 2) (omega arith) (omega arith) (λ k l. sym (bit-next a k) ∙ h (suc k) (omega arith) ∙ bit-next b k) in
+    let ends = same-digit a b (sym (bit-first a) ∙ h 0 (omega arith) ∙ bit-first b) in
+    omega arith
+
+pub no-bits : (k : ℕ) → bit 0 k ≡ false
+no-bits k = bit-above 0 0 k (omega arith) (omega arith)
+
+-- a number with one bit more, above all others
+pub bit-under : (x n k : ℕ) → k < n → bit (2 ^ n + x) k ≡ bit x k
+unfolding bit
+bit-under x n k h =
+    let y = 2 ^ (n - suc k) in
+    let d : n ≡ (n - suc k) + 1 + k = omega arith in
+    let p : 2 ^ n ≡ y * 2 * 2 ^ k = ap (λ e. 2 ^ e) d ∙ rw (pow-add 2 ((n - suc k) + 1) k, pow-add 2 (n - suc k) 1) in
+    let q : (2 ^ n + x) / 2 ^ k ≡ x / 2 ^ k + y * 2 = ap (λ z. z / 2 ^ k) (add-comm (2 ^ n) x ∙ ap (λ z. x + z) p)
+    ∙ add-mul-div-right x (y * 2) (pow-pos k) in
+    ap (λ z. eqb (z % 2) 1) q ∙ ap (λ z. eqb z 1) (add-mul-mod-self-right (x / 2 ^ k) y 2)
+
+pub bit-top : (x n : ℕ) → x < 2 ^ n → bit (2 ^ n + x) n ≡ true
+unfolding bit
+bit-top x n h = ap (λ z. eqb (z % 2) 1) (ap (λ z. (z + x) / 2 ^ n) (sym (one-mul (2 ^ n))) ∙ high 1 n h)
+
+-- `&` of three numbers
+halves : (a b : ℕ) → (bitAnd a b / 2 ≡ bitAnd (a / 2) (b / 2)) × (bitAnd a b % 2 ≡ min (a % 2) (b % 2))
+halves a b = (omega (arith, and-step a b), omega (arith, and-step a b))
+
+joined : (n a b c : ℕ) → a ≤ n → bitAnd (bitAnd a b) c ≡ bitAnd a (bitAnd b c)
+joined zero a b c h =
+    let z : a ≡ 0 = omega arith in
+    rw (z, and-zero-l b, and-zero-l c, and-zero-l (bitAnd b c))
+joined (suc n) a b c h =
+    let ih = joined n (a / 2) (b / 2) (c / 2) (omega arith) in
+    let p = halves a b in
+    let q = halves b c in
+    and-step (bitAnd a b) c ∙ rw (p .0, p .1, ih)
+    (sym (and-step a (bitAnd b c) ∙ rw (q .0, q .1) (omega arith)))
+
+pub and-assoc : (a b c : ℕ) → bitAnd (bitAnd a b) c ≡ bitAnd a (bitAnd b c)
+and-assoc a b c = joined a a b c (omega arith)
+
+pub and-swap : (u r s : ℕ) → bitAnd (bitAnd u r) s ≡ bitAnd (bitAnd u s) r
+and-swap u r s = and-assoc u r s ∙ ap (bitAnd u) (and-turned r s) ∙ sym (and-assoc u s r)
+
+-- What s takes off u is no less than what it takes off a part of u.
+submodular : (n u r s : ℕ) → u ≤ n → ones (bitAnd u r) + ones (bitAnd u s) ≤ ones u + ones (bitAnd (bitAnd u r) s)
+submodular zero u r s h =
+    let z : u ≡ 0 = omega arith in
+    rw (z, and-zero-l r, and-zero-l s) (omega arith)
+submodular (suc n) u r s h =
+    let ih = submodular n (u / 2) (r / 2) (s / 2) (omega arith) in
+    let p = halves u r in
+    let q = halves u s in
+    let t = halves (bitAnd u r) s in
+    rw (ones-step (bitAnd u r), ones-step (bitAnd u s), ones-step u, ones-step (bitAnd (bitAnd u r) s), p .0, p .1, q .0, q .1, t .0, t .1, p .0, p .1) (omega arith)
+
+pub parts-cover-less : (u r s : ℕ) → ones (bitAnd u r) + ones (bitAnd u s) ≤ ones u + ones (bitAnd (bitAnd u r) s)
+parts-cover-less u r s = submodular u u r s (omega arith)

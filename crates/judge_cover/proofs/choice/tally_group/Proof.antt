@@ -1,0 +1,49 @@
+use Prim.Native.Nat.{_-_, _≤_, _<_}
+use borrow.Author.Needs.{needs}
+use Rattle.judge_cover.proofs.choice.tally_group.Statement.{statement}
+use Rattle.judge_cover.proofs.choice.tally_group.Tie as tie
+use Rattle.judge_cover.proofs.choice.tally_group.Reads as reads
+use Rattle.judge_cover.proofs.choice.tally_group.Lts as lts
+use Rattle.judge_cover.proofs.choice.with.Reads as with-reads
+use Rattle.judge_cover.proofs.edges.left_by.Reads as left-by-reads
+
+abbrev Inv-loop : tie.InvT-loop
+Inv-loop masks from to u t₀ i₀ t i = Unit {0}
+
+abbrev μ-loop : tie.MeasureT-loop
+μ-loop masks from to u t₀ i₀ t i = to - i
+
+loop-holds : tie.Need-loop-holds Inv-loop μ-loop
+loop-holds c = search needs
+
+left-by-requires : tie.Need-left-by-requires Inv-loop μ-loop
+left-by-requires c κs = search needs
+
+with-requires : tie.Need-with-requires Inv-loop μ-loop
+with-requires c κs = search needs
+
+add-i : tie.Need-add-i Inv-loop μ-loop
+add-i c = search needs
+
+loop-less : tie.Need-loop-less Inv-loop μ-loop
+loop-less c = search needs
+
+loop-again : tie.Need-loop-again Inv-loop μ-loop
+loop-again c = search needs
+
+returns : tie.Need-returns Inv-loop μ-loop
+returns c = search needs
+
+pub tally-group-spec : {M : Type 1} → statement M
+tally-group-spec =
+    tie.close
+    (tie.spec
+    Inv-loop
+    μ-loop
+    loop-holds
+    left-by-requires
+    with-requires
+    add-i
+    loop-less
+    loop-again
+    returns)

@@ -1,0 +1,51 @@
+// What the groups can cover at most.
+use crate::edges::{self};
+use crate::places::{self};
+ghost use mathlib.Core.Path.{_≡_};
+ghost use Prim.Native.Nat.{ℕ, _+_, _≤_, _<_};
+ghost use lib.Count.{ones};
+ghost use Rattle.judge_cover.specs.Steps.{CoversAtMost, BoundsOf};
+
+// For each group, how many variables of u an edge of it covers at most; and the sum of these.
+pub struct Bounds {
+    pub gains: [u32; 16],
+    pub total: u32,
+}
+
+fn smaller(a: u32, b: u32) -> u32
+    ensures { λ r. ⌜ (r ≤ a) × (r ≤ b) ⌝ }
+{
+    if a < b { a } else { b }
+}
+
+// How many variables of u an edge between two places covers at most.
+fn gain(masks: &[u64], from: usize, to: usize, u: u64) -> u32
+    ensures { λ r. ⌜ CoversAtMost (now (masks .entry)) from to u r ⌝ }
+    ensures { λ r. ⌜ r ≤ 64 ⌝ }
+{
+    let all = edges::size(u);
+    let mut least = all;
+    let mut i = from;
+    while i < to {
+        let left = edges::size(edges::left_by(masks, u, i));
+        least = smaller(least, left);
+        i += 1;
+    }
+    all - least
+}
+
+pub(crate) fn find(masks: &[u64], starts: &[usize], ends: &[usize], n: usize, u: u64) -> Bounds
+    requires { ⌜ n ≤ 16 ⌝ }
+    ensures { λ r. ⌜ BoundsOf (now (masks .entry)) (now (starts .entry)) (now (ends .entry)) n u (r .gains) (r .total) ⌝ }
+{
+    let mut gains = [0u32; 16];
+    let mut total = 0;
+    let mut k = 0;
+    while k < n {
+        let most = gain(masks, places::place(starts, k), places::place(ends, k), u);
+        gains[k] = most;
+        total += most;
+        k += 1;
+    }
+    Bounds { gains, total }
+}

@@ -1,0 +1,104 @@
+// Which uncovered variable the search branches on: one that as few edges as can be mention. Any uncovered one would do, so all
+// that is promised of the choice is that.
+use crate::edges::{self};
+use crate::places::{self};
+ghost use mathlib.Core.Path.{_≡_};
+ghost use mathlib.Core.Bool.{true};
+ghost use Prim.Native.Nat.{_<_};
+ghost use Rattle.model.specs.Table.{bit};
+ghost use Rattle.judge_cover.specs.Steps.{PartOf};
+
+// For each variable how many edges mention it: bit K of the five sets, from `ones` up, is that number for variable K, and
+// numbers from 31 up are 31.
+pub struct Tally {
+    pub ones: u64,
+    pub twos: u64,
+    pub fours: u64,
+    pub eights: u64,
+    pub sixteens: u64,
+}
+
+fn with(t: Tally, named: u64) -> Tally {
+    let two = t.ones & named;
+    let four = t.twos & two;
+    let eight = t.fours & four;
+    let sixteen = t.eights & eight;
+    let full = t.sixteens & sixteen;
+    Tally {
+        ones: (t.ones ^ named) | full,
+        twos: (t.twos ^ two) | full,
+        fours: (t.fours ^ four) | full,
+        eights: (t.eights ^ eight) | full,
+        sixteens: t.sixteens | sixteen,
+    }
+}
+
+fn tally_group(masks: &[u64], from: usize, to: usize, u: u64, start: Tally) -> Tally {
+    let mut t = start;
+    let mut i = from;
+    while i < to {
+        t = with(t, u ^ edges::left_by(masks, u, i));
+        i += 1;
+    }
+    t
+}
+
+fn count(masks: &[u64], starts: &[usize], ends: &[usize], n: usize, u: u64) -> Tally {
+    let mut t = Tally {
+        ones: 0,
+        twos: 0,
+        fours: 0,
+        eights: 0,
+        sixteens: 0,
+    };
+    let mut k = 0;
+    while k < n {
+        t = tally_group(
+            masks,
+            places::place(starts, k),
+            places::place(ends, k),
+            u,
+            t,
+        );
+        k += 1;
+    }
+    t
+}
+
+// Those of a set that are not in `more`, unless that is none.
+fn fewer(set: u64, more: u64) -> u64
+    ensures { λ r. ⌜ PartOf r set ⌝ }
+{
+    let rest = set & !more;
+    if rest == 0 { set } else { rest }
+}
+
+fn rarest(u: u64, t: Tally) -> u64
+    ensures { λ r. ⌜ PartOf r u ⌝ }
+{
+    let a = fewer(u, t.sixteens);
+    let b = fewer(a, t.eights);
+    let c = fewer(b, t.fours);
+    let d = fewer(c, t.twos);
+    fewer(d, t.ones)
+}
+
+// The first variable of a set; 64 if it has none.
+fn first(set: u64) -> u32
+    ensures { λ r. ⌜ (0 < set → bit set r ≡ true) ⌝ }
+{
+    let mut k = 0;
+    while k < 64 {
+        if table_tree::in_word(set, k) {
+            return k;
+        }
+        k += 1;
+    }
+    64
+}
+
+pub(crate) fn choose(masks: &[u64], starts: &[usize], ends: &[usize], n: usize, u: u64) -> u32
+    ensures { λ r. ⌜ (0 < u → bit u r ≡ true) ⌝ }
+{
+    first(rarest(u, count(masks, starts, ends, n, u)))
+}

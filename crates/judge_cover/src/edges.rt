@@ -1,0 +1,82 @@
+// Edges as sets of variables: bit K is set where the update does not mention variable K.
+use crate::places::{self};
+ghost use mathlib.Core.Path.{_≡_};
+ghost use lib.Count.{ones};
+ghost use Rattle.judge_cover.specs.Cover.{within, leftBy, dominated, skippedAt, worth, namedIn, useful};
+
+// How many variables there are in a set.
+pub(crate) fn size(u: u64) -> u32
+    ensures { λ r. ⌜ r ≡ ones u ⌝ }
+{
+    u64::count_ones(u)
+}
+
+// Is every variable of w in u?
+fn inside(w: u64, u: u64) -> bool
+    ensures { λ r. ⌜ r ≡ within w u ⌝ }
+{
+    (w & u) == w
+}
+
+// What edge i leaves uncovered of u.
+pub(crate) fn left_by(masks: &[u64], u: u64, i: usize) -> u64
+    ensures { λ r. ⌜ r ≡ leftBy (now (masks .entry)) u i ⌝ }
+{
+    u & places::mask_at(masks, i)
+}
+
+// Is edge i skipped for edge j, which leaves no more? Of two that leave the same the first stays.
+fn dominated(masks: &[u64], u: u64, i: usize, j: usize) -> bool
+    ensures { λ r. ⌜ r ≡ dominated (now (masks .entry)) u i j ⌝ }
+{
+    let v = left_by(masks, u, i);
+    let w = left_by(masks, u, j);
+    inside(w, v) & ((j < i) | !inside(v, w))
+}
+
+fn skipped(masks: &[u64], from: usize, to: usize, u: u64, i: usize) -> bool
+    ensures { λ r. ⌜ r ≡ skippedAt (now (masks .entry)) from to u i ⌝ }
+{
+    let mut j = from;
+    while j < to {
+        if dominated(masks, u, i, j) {
+            return true;
+        }
+        j += 1;
+    }
+    false
+}
+
+// Is edge i worth a try for the variable v? It mentions v, and no other of its group leaves less.
+pub(crate) fn worth(masks: &[u64], from: usize, to: usize, u: u64, v: u32, i: usize) -> bool
+    ensures { λ r. ⌜ r ≡ worth (now (masks .entry)) from to u v i ⌝ }
+{
+    if table_tree::in_word(places::mask_at(masks, i), v) {
+        return false;
+    }
+    !skipped(masks, from, to, u, i)
+}
+
+// Does an edge between two places mention v?
+pub(crate) fn names(masks: &[u64], from: usize, to: usize, v: u32) -> bool
+    ensures { λ r. ⌜ r ≡ namedIn (now (masks .entry)) from to v ⌝ }
+{
+    let mut i = from;
+    while i < to {
+        if !table_tree::in_word(places::mask_at(masks, i), v) {
+            return true;
+        }
+        i += 1;
+    }
+    false
+}
+
+// Can the other groups cover what the edge r leaves of u?
+pub(crate) fn useful(u: u64, total: u32, gain: u32, r: u64) -> bool
+    ensures { λ s. ⌜ s ≡ useful u total gain r ⌝ }
+{
+    if total < gain {
+        return false;
+    }
+    size(u & r) <= total - gain
+}

@@ -1,0 +1,99 @@
+-- Sets of variables as numbers and as lists: what holds of the one holds of the other.
+use mathlib.Core.Path.{_≡_, refl, sym, ap, _∙_}
+use mathlib.Core.Bool.{Bool, true, false, not, _&&_, and-true}
+use mathlib.Core.List.{List, [], _∷_}
+use Prim.Native.Nat.{ℕ, zero, suc, _+_, _-_, _*_, _/_, _%_, _^_, _<_, min}
+use native.Mathlib.Omega.{arith}
+use native.Mathlib.Nat.{pow-succ', div-one, div-div-eq-div-mul, add-comm, add-mul-div-right, add-mul-mod-self-right, one-mul, lt-of-le-of-lt}
+use lib.Dec.{eqb, ltb}
+use lib.Bits.{bitAnd, and-le-l}
+use lib.Pow.{pow-pos, pow-add, high}
+use borrow.Author.Tests.{eqb-true, eqb-false, eq-eqb, ltb-true, ltb-false}
+use Rattle.model.specs.Basic.{every, keep, member, countUp}
+use Rattle.model.specs.Table.{bit}
+use Rattle.model.proofs.Tests.{and-right, not-false}
+use Rattle.model.proofs.Lists.{keep-first, keep-skip, member-keep, member-count}
+use Rattle.table_tree.proofs.SetLaws.{both-ways, keep-alike, every-kept, kept-all, bit-above}
+use Rattle.judge_search.specs.Search.{isCovered}
+use Rattle.judge_search.specs.Masks.{mask}
+use Rattle.judge_cover.proofs.BitLaws.{bit-and, same-bits, no-bits, bit-under, bit-top}
+
+-- the bits of a mask are the numbers below n of which f holds
+pub mask-small : (f : ℕ → Bool) (n : ℕ) → mask f n < 2 ^ n
+unfolding mask
+mask-small f zero = omega arith
+mask-small f (suc n) = go (f n) (mask-small f n) (pow-succ' 2 n)
+  where
+    go : (b : Bool) → mask f n < 2 ^ n → 2 ^ suc n ≡ 2 * 2 ^ n → elim b as (λ c. ℕ) [ true ↦ 2 ^ n + mask f n | false ↦ mask f n ] < 2 ^ suc n
+    go true s p = omega arith
+    go false s p = omega arith
+
+pub bit-mask : (f : ℕ → Bool) (n k : ℕ) → k < n → bit (mask f n) k ≡ f k
+unfolding mask
+bit-mask f zero k l = absurd (omega arith)
+bit-mask f (suc n) k l = go (f n) refl (ltb k n) refl (λ h. bit-mask f n k h)
+  where
+    top : ltb k n ≡ false → k ≡ n
+    top h = let g = ltb-false k n h in omega arith
+
+    go : (b : Bool) → f n ≡ b → (c : Bool) → ltb k n ≡ c → (k < n → bit (mask f n) k ≡ f k)
+        → bit (elim b as (λ c. ℕ) [ true ↦ 2 ^ n + mask f n | false ↦ mask f n ]) k ≡ f k
+    go true e true h ih = bit-under (mask f n) n k (ltb-true k n h) ∙ ih (ltb-true k n h)
+    go true e false h ih = rw (top h) (bit-top (mask f n) n (mask-small f n) ∙ sym e)
+    go false e true h ih = ih (ltb-true k n h)
+    go false e false h ih = rw (top h) (bit-above (mask f n) n n (mask-small f n) (omega arith) ∙ sym e)
+
+-- the set, of variables below n, that a number stands for
+abbrev pub listOf : (n u : ℕ) → List ℕ
+listOf n u = keep (bit u) (countUp 0 n)
+
+pub list-mask : (f : ℕ → Bool) (n : ℕ) → keep f (countUp 0 n) ≡ listOf n (mask f n)
+list-mask f n = keep-alike f (bit (mask f n)) 0 n (λ k a b. sym (bit-mask f n k (omega arith)))
+
+keep-keep : (f g : ℕ → Bool) (l : List ℕ) → keep g (keep f l) ≡ keep (λ k. f k && g k) l
+keep-keep f g [] = unfold keep in refl
+keep-keep f g (x ∷ l) = go (f x) refl (g x) refl (keep-keep f g l)
+  where
+    both : ℕ → Bool
+    both k = f k && g k
+
+    go : (a : Bool) → f x ≡ a → (b : Bool) → g x ≡ b → keep g (keep f l) ≡ keep both l → keep g (keep f (x ∷ l)) ≡ keep both (x ∷ l)
+    go true e true h ih = ap (keep g) (keep-first f x l e) ∙ keep-first g x (keep f l) h ∙ ap (λ r. x ∷ r) ih ∙ sym (keep-first both x l (rw (e, h)))
+    go true e false h ih = ap (keep g) (keep-first f x l e) ∙ keep-skip g x (keep f l) h ∙ ih ∙ sym (keep-skip both x l (rw (e, h)))
+    go false e b h ih = ap (keep g) (keep-skip f x l e) ∙ ih ∙ sym (keep-skip both x l (rw e))
+
+-- what is kept of a set, where r has the bits of what is kept
+pub list-and : (g : ℕ → Bool) (n u r : ℕ) → ((k : ℕ) → k < n → bit r k ≡ g k) → keep g (listOf n u) ≡ listOf n (bitAnd u r)
+list-and g n u r h =
+    keep-keep (bit u) g (countUp 0 n)
+    ∙ keep-alike (λ k. bit u k && g k) (bit (bitAnd u r)) 0 n (λ k a b. sym (bit-and u r k ∙ ap (λ c. bit u k && c) (h k (omega arith))))
+
+and-small : (n u r : ℕ) → u < 2 ^ n → bitAnd u r < 2 ^ n
+and-small n u r h = lt-of-le-of-lt (and-le-l u r) h
+
+-- p holds of every variable of u if none of those is left of which it does not hold
+every-left : (n u x : ℕ) (p : ℕ → Bool) → x < 2 ^ n → ((k : ℕ) → k < n → bit x k ≡ (bit u k && not (p k))) → eqb x 0 ≡ every p (listOf n u)
+every-left n u x p small h = both-ways (eqb x 0) (every p (listOf n u)) to from
+  where
+    holds : (k : ℕ) → k < n → x ≡ 0 → bit u k ≡ true → p k ≡ true
+    holds k l z e = not-false (p k) (ap (λ c. c && not (p k)) (sym e) ∙ sym (h k l) ∙ ap (λ y. bit y k) z ∙ no-bits k)
+
+    to : eqb x 0 ≡ true → every p (listOf n u) ≡ true
+    to z = every-kept (bit u) p 0 n (λ k a b e. holds k (omega arith) (eqb-true x 0 z) e)
+
+    clear : (k : ℕ) (b : Bool) → bit u k ≡ b → (b ≡ true → p k ≡ true) → (bit u k && not (p k)) ≡ false
+    clear k true e all = rw (e, all refl)
+    clear k false e all = rw e
+
+    from : every p (listOf n u) ≡ true → eqb x 0 ≡ true
+    from r =
+        let all = kept-all (bit u) p 0 n r in
+        eq-eqb x 0 (same-bits n x 0 small (pow-pos n) (λ k l. h k l ∙ clear k (bit u k) refl (λ e. all k (omega arith) (omega arith) e) ∙ sym (no-bits k)))
+
+covered-none : (l : List ℕ) → isCovered l ≡ every (λ k. false) l
+unfolding isCovered every
+covered-none [] = refl
+covered-none (k ∷ l) = refl
+
+pub mask-covered : (n u : ℕ) → u < 2 ^ n → eqb u 0 ≡ isCovered (listOf n u)
+mask-covered n u small = every-left n u u (λ k. false) small (λ k l. sym (and-true (bit u k))) ∙ sym (covered-none (listOf n u))

@@ -1,0 +1,274 @@
+// What the reader of sheets (over the text's lines) and the check of tables (over words) share: which line is due, and
+// what has been counted so far.
+ghost use mathlib.Core.Path.{_≡_};
+ghost use Prim.Native.Nat.{_-_};
+ghost use Rattle.line_order.specs.Due.{isEnd, dueFirst, dueAfter, dueOnly, dueVariables, dueAutomata, dueLocations, dueEdges};
+ghost use Rattle.line_order.specs.Counts.{countsNone, countsAfter, withNodes, addUpTo};
+
+// The key of the line that is due; End after the last line.
+pub enum Key {
+    Format,
+    Actions,
+    Variables,
+    Variable,
+    Automata,
+    Sync,
+    Locations,
+    Init,
+    Inv,
+    Edges,
+    Edge,
+    Compose,
+    End,
+}
+
+// No line is due any more.
+pub fn end(key: Key) -> bool
+    ensures { λ r. ⌜ r ≡ isEnd key ⌝ }
+{
+    match key {
+        Key::Format => false,
+        Key::Actions => false,
+        Key::Variables => false,
+        Key::Variable => false,
+        Key::Automata => false,
+        Key::Sync => false,
+        Key::Locations => false,
+        Key::Init => false,
+        Key::Inv => false,
+        Key::Edges => false,
+        Key::Edge => false,
+        Key::Compose => false,
+        Key::End => true,
+    }
+}
+
+// The key that is due, and what is still to come: variable lines; automata, the one under way included; locations of this
+// automaton, the one under way included; its edge lines.
+pub struct Due {
+    pub key: Key,
+    pub variables: usize,
+    pub automata: usize,
+    pub locations: usize,
+    pub edges: usize,
+}
+
+// One less, or 0.
+fn less(n: usize) -> usize
+    ensures { λ r. ⌜ r ≡ n - 1 ⌝ }
+{
+    if n == 0 { 0 } else { n - 1 }
+}
+
+// A line with this key is due, and nothing is counted.
+fn only(key: Key) -> Due
+    ensures { λ r. ⌜ r ≡ dueOnly key ⌝ }
+{
+    Due {
+        key,
+        variables: 0,
+        automata: 0,
+        locations: 0,
+        edges: 0,
+    }
+}
+
+// So many variable lines are due.
+fn variables_due(n: usize) -> Due
+    ensures { λ r. ⌜ r ≡ dueVariables n ⌝ }
+{
+    if n == 0 {
+        return only(Key::Automata);
+    }
+    Due {
+        key: Key::Variable,
+        variables: n,
+        automata: 0,
+        locations: 0,
+        edges: 0,
+    }
+}
+
+// So many automata are due.
+fn automata_due(n: usize) -> Due
+    ensures { λ r. ⌜ r ≡ dueAutomata n ⌝ }
+{
+    if n == 0 {
+        return only(Key::Compose);
+    }
+    Due {
+        key: Key::Sync,
+        variables: 0,
+        automata: n,
+        locations: 0,
+        edges: 0,
+    }
+}
+
+// So many locations of an automaton are due.
+fn locations_due(automata: usize, n: usize) -> Due
+    ensures { λ r. ⌜ r ≡ dueLocations automata n ⌝ }
+{
+    if n == 0 {
+        return Due {
+            key: Key::Edges,
+            variables: 0,
+            automata,
+            locations: 0,
+            edges: 0,
+        };
+    }
+    Due {
+        key: Key::Init,
+        variables: 0,
+        automata,
+        locations: n,
+        edges: 0,
+    }
+}
+
+// So many edge lines of an automaton are due.
+fn edges_due(automata: usize, n: usize) -> Due
+    ensures { λ r. ⌜ r ≡ dueEdges automata n ⌝ }
+{
+    if n == 0 {
+        return automata_due(less(automata));
+    }
+    Due {
+        key: Key::Edge,
+        variables: 0,
+        automata,
+        locations: 0,
+        edges: n,
+    }
+}
+
+impl Due {
+    // What is due at first.
+    pub fn first() -> Due
+        ensures { λ r. ⌜ r ≡ dueFirst ⌝ }
+    {
+        only(Key::Format)
+    }
+
+    // What is due after the line that is due was read; `count` is its number, if it is a line that counts.
+    pub fn after(self, count: usize) -> Due
+        ensures { λ r. ⌜ r ≡ dueAfter self count ⌝ }
+    {
+        let key = self.key;
+        match key {
+            Key::Format => only(Key::Actions),
+            Key::Actions => only(Key::Variables),
+            Key::Variables => variables_due(count),
+            Key::Variable => variables_due(less(self.variables)),
+            Key::Automata => automata_due(count),
+            Key::Sync => Due {
+                key: Key::Locations,
+                variables: 0,
+                automata: self.automata,
+                locations: 0,
+                edges: 0,
+            },
+            Key::Locations => locations_due(self.automata, count),
+            Key::Init => Due {
+                key: Key::Inv,
+                variables: 0,
+                automata: self.automata,
+                locations: self.locations,
+                edges: 0,
+            },
+            Key::Inv => locations_due(self.automata, less(self.locations)),
+            Key::Edges => edges_due(self.automata, count),
+            Key::Edge => edges_due(self.automata, less(self.edges)),
+            Key::Compose => only(Key::End),
+            Key::End => only(Key::End),
+        }
+    }
+}
+
+// What has been counted: the actions; the variable lines; the automata begun; the locations of the automaton under way; the
+// edge lines of all automata; the nodes of all predicates.
+pub struct Counts {
+    pub actions: usize,
+    pub variables: usize,
+    pub automata: usize,
+    pub locations: usize,
+    pub edges: usize,
+    pub nodes: usize,
+}
+
+// The sum, or where it would be more, the highest count.
+fn add(x: usize, y: usize) -> usize
+    ensures { λ r. ⌜ r ≡ addUpTo x y ⌝ }
+{
+    if Counts::MOST < y {
+        return Counts::MOST;
+    }
+    if Counts::MOST - y < x {
+        return Counts::MOST;
+    }
+    x + y
+}
+
+impl Counts {
+    // No count goes higher; the limits are far below.
+    pub const MOST: usize = 65536;
+
+    pub fn none() -> Counts
+        ensures { λ r. ⌜ r ≡ countsNone ⌝ }
+    {
+        Counts {
+            actions: 0,
+            variables: 0,
+            automata: 0,
+            locations: 0,
+            edges: 0,
+            nodes: 0,
+        }
+    }
+
+    // The nodes of one more predicate.
+    fn with_nodes(mut self, nodes: usize) -> Counts
+        ensures { λ r. ⌜ r ≡ withNodes self nodes ⌝ }
+    {
+        self.nodes = add(self.nodes, nodes);
+        self
+    }
+
+    // After a line with this key and number, whose predicate has so many nodes.
+    pub fn after(mut self, key: Key, number: usize, nodes: usize) -> Counts
+        ensures { λ r. ⌜ r ≡ countsAfter self key number nodes ⌝ }
+    {
+        match key {
+            Key::Format => self,
+            Key::Actions => {
+                self.actions = number;
+                self
+            }
+            Key::Variables => self,
+            Key::Variable => {
+                self.variables = add(self.variables, 1);
+                self
+            }
+            Key::Automata => self,
+            Key::Sync => {
+                self.automata = add(self.automata, 1);
+                self.locations = 0;
+                self
+            }
+            Key::Locations => self,
+            Key::Init => self.with_nodes(nodes),
+            Key::Inv => {
+                self.locations = add(self.locations, 1);
+                self.with_nodes(nodes)
+            }
+            Key::Edges => self,
+            Key::Edge => {
+                self.edges = add(self.edges, 1);
+                self.with_nodes(nodes)
+            }
+            Key::Compose => self,
+            Key::End => self,
+        }
+    }
+}

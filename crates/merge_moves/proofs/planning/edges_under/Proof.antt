@@ -1,0 +1,20 @@
+-- `merge_moves::planning::edges_under` meets its contract: each way out is a law of PlanLaws.
+use Rattle.merge_moves.proofs.PlanLaws.{under-past}
+use borrow.Author.Needs.{needs}
+use Rattle.merge_moves.proofs.planning.edges_under.Statement.{statement}
+use Rattle.merge_moves.proofs.planning.edges_under.Tie as tie
+
+mul-result : tie.Need-mul-result
+mul-result c = search needs
+
+shared-slice-read-result : tie.Need-shared-slice-read-result
+shared-slice-read-result c = search needs
+
+returns : tie.Need-returns
+returns c = search needs
+
+returns-2 : tie.Need-returns-2
+returns-2 c = search (needs, under-past)
+
+pub edges-under-spec : {M : Type 1} → statement M
+edges-under-spec = tie.close (tie.spec mul-result shared-slice-read-result returns returns-2)

@@ -1,0 +1,267 @@
+-- The words of all merged edges are those of the merged model's edges.
+use mathlib.Core.Path.{_≡_, refl, sym, ap, ap₂, _∙_}
+use mathlib.Core.Bool.{Bool, true, false}
+use mathlib.Core.List.{List, [], _∷_, _++_, append-assoc, map, map-append, flatMap, List·Memᴰ, List·Memᴰ·head, List·Memᴰ·tail, List·Memᴰ·not-nil}
+use Prim.Native.Nat.{ℕ, zero, suc, _+_, _-_, _≤_, _<_}
+use native.Mathlib.Omega.{arith}
+use native.Mathlib.Nat.{zero-add, add-zero}
+use native.Mathlib.Numerals.{add-one}
+use lib.ListN.{length, getD, drop, replicate, length-map, length-replicate, drop-of-length-le, List·getD-append, List·getD-map}
+use lib.Seq.{sets, sets-eq, drop-cons, drop-drop, getD-drop}
+use lib.Dec.{eqb}
+use Rattle.model.specs.Basic.{keep, countUp}
+use Rattle.model.specs.Bounds.{maxAutomata, maxEdges, maxTreeNodes}
+use Rattle.model.specs.Predicate.{nodeCount}
+use Rattle.model.specs.Model.{Edge, Automaton, Model, nobody, automaton, edgeTotal}
+use Rattle.model.specs.Rules.{Taker}
+use Rattle.model.specs.Lawful.{Lawful}
+use Rattle.model.specs.Lines.{edgeLine, automatonLines}
+use Rattle.model.specs.Table.{lineWords, sheetWords}
+use Rattle.model.specs.Moves.{under, alone, moves, moveCount}
+use Rattle.model.specs.Linear.{mergedEdge, mergedEdges}
+use Rattle.model.proofs.Count.{moves-length}
+use Rattle.merge_moves.specs.declared.planning.Planned.{Planned}
+use Rattle.merge_moves.specs.Plan.{planAt, fillAt}
+use Rattle.merge_moves.specs.Pick.{pickAt}
+use Rattle.merge_moves.specs.Takers.{takerOf, takersIn, takersOf}
+use Rattle.merge_moves.proofs.CappingLaws.{cap-small}
+use Rattle.merge_moves.proofs.Plans.{Told}
+use Rattle.merge_moves.proofs.Whole.{plan-is, pick-is, pick-there}
+use Rattle.table_places.specs.Outline.{reach, afterPredicate, edgesAt, afterAutomaton, automatonAt, treeAt}
+use Rattle.table_places.proofs.OutlineLaws.{read, reached, wordsOf, edgeWords, automatonWords, words-append, after-predicate, edges-at, first-edge, after-automaton}
+use Rattle.merge_words.specs.Append.{narrow}
+use Rattle.merge_words.specs.NodeWords.{most, capped}
+use Rattle.merge_words.specs.Head.{automataOf}
+use Rattle.merge_words.specs.MergedEdge.{isUnder, atMost, edgeWordsAt}
+use Rattle.merge_words.specs.MergedEdges.{oneMore, underFrom, underAt, countsFrom, countsOf, rootOf, cellsOf, moveTotal, picksOf, edgesFrom, edgesUnder, edgesOf}
+use Rattle.merge_words.specs.Sync.{ownSets}
+use Rattle.merge_words.proofs.NodeLaws.{capped-is}
+use Rattle.merge_words.proofs.EdgeLaws.{at-most-is}
+use Rattle.merge_words.proofs.AllEdgesLaws.{more-here, more-not}
+use Rattle.merge_table.proofs.Standing.{narrow-is, automata-cons}
+use Rattle.merge_table.proofs.HeadIs.{automata-are, automata-stand}
+use Rattle.merge_table.proofs.ClausesAre.{capped-most, capped-add}
+use Rattle.merge_table.proofs.EdgesAre.{noEdge, zeros, drop-zeros, under-yes, under-no, takerBy, takersFrom, Valid, edge-words}
+use Rattle.merge_table.proofs.SyncIs.{own-agree, tree-stands}
+
+-- the first of some edges
+module _ (t : List ℕ) (at : ℕ) (x : Edge) (es : List Edge) (rest : List ℕ) (e : drop at t ≡ edgeWords (x ∷ es) ++ rest) where
+  first-there : drop at t ≡ lineWords (edgeLine x) ++ (edgeWords es ++ rest)
+  unfolding flatMap
+  first-there = e ∙ append-assoc (lineWords (edgeLine x)) (edgeWords es) rest
+
+  first-action : getD t (reach t at 1) 0 ≡ x .action
+  unfolding lineWords
+  first-action = read t (reach t at 1) (x .action) _ (reached t at 1 (x .from ∷ []) _ first-there refl)
+
+  first-under : (action : ℕ) → isUnder t action at ≡ eqb (x .action) action
+  unfolding isUnder
+  first-under action = ap (λ a. eqb a action) first-action
+
+  first-past : drop (afterPredicate t (reach t at 3)) t ≡ edgeWords es ++ rest
+  unfolding lineWords
+  first-past = after-predicate t (reach t at 3) (x .update) (edgeWords es ++ rest) (reached t at 3 (x .from ∷ x .action ∷ x .to ∷ []) _ first-there refl)
+
+none-under : (action sum : ℕ) → sum + length (under action []) ≡ sum
+unfolding under keep
+none-under action sum = add-zero sum
+
+-- the edges under an action, counted
+count-under : (t : List ℕ) (action : ℕ) (es : List Edge) (at sum : ℕ) (rest : List ℕ) → sum ≤ most → drop at t ≡ edgeWords es ++ rest
+    → underFrom t action (length es) at sum ≡ capped (sum + length (under action es))
+unfolding underFrom
+count-under t action [] at sum rest h e = let z : sum + length (under action []) ≡ sum = none-under action sum in rw z (capped-is sum h)
+count-under t action (x ∷ es) at sum rest h e =
+    go (eqb (x .action) action) refl (λ s l. count-under t action es (afterPredicate t (reach t at 3)) s rest l (first-past t at x es rest e))
+  where
+    go : (b : Bool) → eqb (x .action) action ≡ b
+        → ((s : ℕ) → s ≤ most → underFrom t action (length es) (afterPredicate t (reach t at 3)) s ≡ capped (s + length (under action es)))
+        → underFrom t action (length es) (afterPredicate t (reach t at 3)) (oneMore (isUnder t action at) sum) ≡ capped (sum + length (under action (x ∷ es)))
+    go true q ih =
+        let u : isUnder t action at ≡ true = first-under t at x es rest e action ∙ q in
+        let m : oneMore (isUnder t action at) sum ≡ capped (sum + 1) = sym (more-here (isUnder t action at) sum u (capped (sum + 1)) refl) in
+        let n : sum + 1 + length (under action es) ≡ sum + length (x ∷ under action es) = omega arith in
+        rw (m, under-yes action x es q) (ih (capped (sum + 1)) (capped-most (sum + 1)) ∙ capped-add (sum + 1) (length (under action es)) ∙ ap capped n)
+    go false q ih =
+        let u : isUnder t action at ≡ false = first-under t at x es rest e action ∙ q in
+        let m : oneMore (isUnder t action at) sum ≡ sum = sym (more-not (isUnder t action at) sum u) in
+        rw (m, under-no action x es q) (ih sum h)
+
+-- no more are under an action than there are
+kept-few : (action : ℕ) (es : List Edge) → length (under action es) ≤ length es
+unfolding under keep
+kept-few action [] = omega arith
+kept-few action (x ∷ es) = go (eqb (x .action) action) (kept-few action es)
+  where
+    go : (b : Bool) → length (under action es) ≤ length es → length {A = Edge} (elim b as (λ c. List Edge) [ true ↦ x ∷ under action es | false ↦ under action es ]) ≤ suc (length es)
+    go true h = omega arith
+    go false h = omega arith
+
+edges-few : (xs : List Automaton) (x : Automaton) → List·Memᴰ x xs → length (x .edges) ≤ edgeTotal xs
+unfolding edgeTotal
+edges-few [] x i = absurd (List·Memᴰ·not-nil i)
+edges-few (y ∷ xs) x (List·Memᴰ·head e) = let z : length (x .edges) ≡ length (y .edges) = ap (λ (w : Automaton). length (w .edges)) e in omega arith
+edges-few (y ∷ xs) x (List·Memᴰ·tail i) = let h = edges-few xs x i in omega arith
+
+abbrev countOf : ℕ → Automaton → ℕ
+countOf action x = length (under action (x .edges))
+
+counts-are : (t : List ℕ) (action : ℕ) (xs : List Automaton) (at : ℕ) (rest : List ℕ) → ((x : Automaton) → List·Memᴰ x xs → length (x .edges) ≤ maxEdges)
+    → drop at t ≡ automatonWords xs ++ rest → countsFrom t action (length xs) at ≡ map (countOf action) xs
+unfolding countsFrom underAt
+counts-are t action [] at rest few e = refl
+counts-are t action (x ∷ xs) at rest few e =
+    let f = automata-cons t at x xs rest e in
+    let others = automatonWords xs ++ rest in
+    let n : getD t (edgesAt t at) 0 ≡ length (x .edges) = read t (edgesAt t at) (length (x .edges)) _ (edges-at t others x at f) in
+    let some = few x (List·Memᴰ·head refl) in
+    let k = kept-few action (x .edges) in
+    let small : countOf action x ≤ most = omega arith in
+    let fits : countOf action x < 4294967296 = omega arith in
+    let one : narrow (underFrom t action (getD t (edgesAt t at) 0) (reach t (edgesAt t at) 1) 0) ≡ countOf action x =
+    ap narrow (ap (λ c. underFrom t action c (reach t (edgesAt t at) 1) 0) n ∙ count-under t action (x .edges) (reach t (edgesAt t at) 1) 0 others (omega arith) (first-edge t others x at f) ∙
+    ap capped (zero-add (countOf action x)) ∙ sym (capped-is (countOf action x) small)) ∙ narrow-is (countOf action x) fits in
+    ap₂ (λ (y : ℕ) (l : List ℕ). y ∷ l) one (counts-are t action xs (afterAutomaton t at) rest (λ y i. few y (List·Memᴰ·tail i)) (after-automaton t others x at f))
+
+module _ (m : Model) (lawful : Lawful m) (t rest : List ℕ) (e : t ≡ sheetWords m ++ rest) where
+  counts-whole : (action : ℕ) → countsOf t action ≡ map (countOf action) (m .automata) ++ zeros (16 - length (m .automata))
+  unfolding countsOf
+  counts-whole action =
+      let n = length (m .automata) in
+      let few = lawful .few-automata in
+      let fe = lawful .few-edges in
+      let count : atMost maxAutomata (automataOf t) ≡ n = ap (atMost maxAutomata) (automata-are m lawful t rest e) ∙ sym (at-most-is n few) in
+      let ps = map (countOf action) (m .automata) in
+      let size : length ps ≡ n = length-map (m .automata) (countOf action) in
+      let end : 0 + length ps ≡ n = omega arith in
+      let room : 0 + length ps ≤ length (zeros 16) = omega (arith, length-replicate {A = ℕ} 16 0) in
+      ap (λ c. sets (zeros 16) 0 (countsFrom t action c (automatonAt t 0))) count ∙
+      ap (sets (zeros 16) 0) (counts-are t action (m .automata) (automatonAt t 0) _ (λ x i. let h = edges-few (m .automata) x i in omega arith) (automata-stand m lawful t rest e)) ∙
+      sets-eq ps (zeros 16) 0 room ∙ ap (λ (l : List ℕ). ps ++ l) (ap (λ c. drop c (zeros 16)) end ∙ drop-zeros n 16 few)
+
+  count-at : (action k : ℕ) → k < length (m .automata) → getD (countsOf t action) k 0 ≡ length (under action (automaton m k .edges))
+  unfolding under keep
+  count-at action k h =
+      let inside : k < length (map (countOf action) (m .automata)) = omega (arith, length-map (m .automata) (countOf action)) in
+      ap (λ (l : List ℕ). getD l k 0) (counts-whole action) ∙ List·getD-append (map (countOf action) (m .automata)) (zeros (16 - length (m .automata))) 0 k inside ∙ List·getD-map (countOf action) (m .automata) k nobody
+
+  pub told : (action k : ℕ) → k < length (m .automata) → Told (ownSets t) (countsOf t action) m action k
+  told action k h = record { inside = own-agree m lawful t rest e action k h; edges = count-at action k h }
+
+  -- row 32's counts
+  pub total-is : (action : ℕ) → moveCount m action (m .tree) ≤ maxEdges → moveTotal t (ownSets t) action ≡ moveCount m action (m .tree)
+  unfolding moveTotal
+  total-is action few =
+      ap (λ (p : Planned). p .count) (plan-is t (ownSets t) (countsOf t action) m action (rootOf t) lawful (tree-stands m lawful t rest e) (told action)) ∙ sym (cap-small (moveCount m action (m .tree)) few)
+
+  -- the takers that picks name, said in two ways
+  same-takers : (action : ℕ) (picks : List ℕ) (xs : List Automaton) (i : ℕ) → drop i (m .automata) ≡ xs → takersIn m action picks (countUp i (length xs)) ≡ takersFrom action picks i xs
+  unfolding takersIn takersFrom countUp flatMap
+  same-takers action picks [] i q = refl
+  same-takers action picks (x ∷ xs) i q =
+      let here : automaton m i ≡ x = first-of i x xs q in
+      let one : takerOf m action i (getD picks i 0) ≡ takerBy action i x (getD picks i 0) = taker-same (getD picks i 0) i x here in
+      let later : drop (suc i) (m .automata) ≡ xs = let z : suc i ≡ i + 1 = omega arith in ap (λ c. drop c (m .automata)) z ∙ sym (drop-drop 1 i (m .automata)) ∙ ap (drop 1) q in
+      ap₂ (λ (k l : List Taker). k ++ l) one (same-takers action picks xs (suc i) later)
+    where
+      first-of : (j : ℕ) (y : Automaton) (ys : List Automaton) → drop j (m .automata) ≡ y ∷ ys → automaton m j ≡ y
+      first-of j y ys r =
+          let z : j + 0 ≡ j = omega arith in
+          ap (λ k. getD (m .automata) k nobody) (sym z) ∙ sym (getD-drop j (m .automata) 0 nobody) ∙ ap (λ (l : List Automaton). getD l 0 nobody) r
+
+      taker-same : (pick j : ℕ) (y : Automaton) → automaton m j ≡ y → takerOf m action j pick ≡ takerBy action j y pick
+      taker-same zero j y r = unfold takerOf takerBy in refl
+      taker-same (suc k) j y r = unfold takerOf takerBy in ap (λ (w : Automaton). alone j (getD (under action (w .edges)) k noEdge)) r
+
+  -- the picks of a move name edges that are there
+  valid-picks : (action : ℕ) (picks : List ℕ) → ((i q : ℕ) → i < length (m .automata) → getD picks i 0 ≡ suc q → q < length (under action (automaton m i .edges)))
+      → (xs : List Automaton) (i : ℕ) → i + length xs ≡ length (m .automata) → drop i (m .automata) ≡ xs → Valid action picks i xs
+  unfolding Valid
+  valid-picks action picks there [] i n q = tt
+  valid-picks action picks there (x ∷ xs) i n q =
+      let later : drop (suc i) (m .automata) ≡ xs = let z : suc i ≡ i + 1 = omega arith in ap (λ c. drop c (m .automata)) z ∙ sym (drop-drop 1 i (m .automata)) ∙ ap (drop 1) q in
+      let z : i + 0 ≡ i = omega arith in
+      let here : automaton m i ≡ x = ap (λ k. getD (m .automata) k nobody) (sym z) ∙ sym (getD-drop i (m .automata) 0 nobody) ∙ ap (λ (l : List Automaton). getD l 0 nobody) q in
+      (bound (getD picks i 0) refl here, valid-picks action picks there xs (suc i) (omega arith) later)
+    where
+      bound : (p : ℕ) → getD picks i 0 ≡ p → automaton m i ≡ x → p ≤ length (under action (x .edges))
+      bound zero r h = omega arith
+      bound (suc k) r h =
+          let l = there i k (omega arith) r in
+          let s : length (under action (automaton m i .edges)) ≡ length (under action (x .edges)) = ap (λ (w : Automaton). length (under action (w .edges))) h in
+          omega arith
+
+  -- the takers of move k
+  module _ (action : ℕ) (few : moveCount m action (m .tree) ≤ maxEdges) (k : ℕ) (h : k < length (moves m action (m .tree))) where
+    abbrev picked : List ℕ
+    picked = picksOf t (cellsOf t (ownSets t) action) k
+
+    below : k < moveCount m action (m .tree)
+    below = omega (arith, moves-length m action (m .tree))
+
+    pub move-named : takersFrom action picked 0 (m .automata) ≡ getD (moves m action (m .tree)) k []
+    unfolding picksOf cellsOf takersOf
+    move-named =
+        sym (same-takers action picked (m .automata) 0 refl) ∙
+        pick-is t (ownSets t) (countsOf t action) m action (rootOf t) lawful (tree-stands m lawful t rest e) (told action) (replicate 192 0) refl k below few
+
+    pub move-valid : Valid action picked 0 (m .automata)
+    unfolding picksOf cellsOf
+    move-valid =
+        valid-picks action picked
+        (pick-there t (ownSets t) (countsOf t action) m action (rootOf t) lawful (tree-stands m lawful t rest e) (told action) (replicate 192 0) refl k below few)
+        (m .automata) 0 (omega arith) refl
+
+  module _ (action : ℕ) (few : moveCount m action (m .tree) ≤ maxEdges)
+      (small : (ts : List Taker) → List·Memᴰ ts (moves m action (m .tree)) → nodeCount (mergedEdge m action ts .update) ≤ most) where
+    abbrev listed : List (List Taker)
+    listed = moves m action (m .tree)
+
+    abbrev cells : List ℕ
+    cells = cellsOf t (ownSets t) action
+
+    -- move k's edge
+    one-edge : (k : ℕ) → k < length listed → edgeWordsAt t action (picksOf t cells k) ≡ lineWords (edgeLine (mergedEdge m action (getD listed k [])))
+    one-edge k h =
+        let named = move-named action few k h in
+        let fits : nodeCount (mergedEdge m action (takersFrom action (picksOf t cells k) 0 (m .automata)) .update) ≤ most = rw named (small (getD listed k []) (listed-at listed k h)) in
+        edge-words m lawful t rest e action (picksOf t cells k) (move-valid action few k h) fits ∙
+        ap (λ (ts : List Taker). lineWords (edgeLine (mergedEdge m action ts))) named
+      where
+        listed-at : (l : List (List Taker)) (j : ℕ) → j < length l → List·Memᴰ (getD l j []) l
+        listed-at [] j q = absurd (omega arith)
+        listed-at (y ∷ l) zero q = List·Memᴰ·head refl
+        listed-at (y ∷ l) (suc j) q = List·Memᴰ·tail (listed-at l j (omega arith))
+
+    edges-from : (n k : ℕ) → k + n ≡ length listed → edgesFrom t cells action k n ≡ edgeWords (map (mergedEdge m action) (drop k listed))
+    unfolding edgesFrom flatMap
+    edges-from zero k h =
+        let whole : length listed ≤ k = omega arith in
+        ap (λ (l : List (List Taker)). edgeWords (map (mergedEdge m action) l)) (sym (drop-of-length-le listed whole))
+    edges-from (suc n) k h =
+        let l : k < length listed = omega arith in
+        rw (add-one k) (ap₂ (λ (a b : List ℕ). a ++ b) (one-edge k l) (edges-from n (suc k) (omega arith)) ∙
+        ap (λ (s : List (List Taker)). edgeWords (map (mergedEdge m action) s)) (sym (drop-cons listed k [] l)))
+
+    -- the law for one action
+    pub action-words : edgesUnder t (ownSets t) action ≡ edgeWords (map (mergedEdge m action) listed)
+    unfolding edgesUnder
+    action-words =
+        ap (edgesFrom t cells action 0) (total-is action few ∙ sym (moves-length m action (m .tree))) ∙ edges-from (length listed) 0 (omega arith)
+
+  -- the law: all edges, in their order
+  module _ (few : (a : ℕ) → a ≤ m .actions → moveCount m a (m .tree) ≤ maxEdges)
+      (small : (a : ℕ) → a ≤ m .actions → (ts : List Taker) → List·Memᴰ ts (moves m a (m .tree)) → nodeCount (mergedEdge m a ts .update) ≤ most) where
+    edges-upto : (n a : ℕ) → a + n ≡ m .actions + 1 → edgesOf t (ownSets t) a n ≡ edgeWords (flatMap (λ b. map (mergedEdge m b) (moves m b (m .tree))) (countUp a n))
+    unfolding edgesOf flatMap countUp
+    edges-upto zero a h = refl
+    edges-upto (suc n) a h =
+        let es = map (mergedEdge m a) (moves m a (m .tree)) in
+        let others = flatMap (λ b. map (mergedEdge m b) (moves m b (m .tree))) (countUp (suc a) n) in
+        let l : a ≤ m .actions = omega arith in
+        rw (add-one a) (ap₂ (λ (x y : List ℕ). x ++ y) (action-words a (few a l) (small a l)) (edges-upto n (suc a) (omega arith)) ∙
+        sym (ap wordsOf (map-append edgeLine es others) ∙ words-append (map edgeLine es) (map edgeLine others)))
+
+    pub edges-words : edgesOf t (ownSets t) 0 (m .actions + 1) ≡ edgeWords (mergedEdges m)
+    unfolding mergedEdges
+    edges-words = let z : m .actions + 1 ≡ suc (m .actions) = omega arith in edges-upto (m .actions + 1) 0 (omega arith) ∙ ap (λ n. edgeWords (flatMap (λ b. map (mergedEdge m b) (moves m b (m .tree))) (countUp 0 n))) z

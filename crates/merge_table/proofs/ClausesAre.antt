@@ -1,0 +1,249 @@
+-- The clauses of the merged init and inv are those of the merged model; their nodes are counted without being listed.
+use mathlib.Core.Path.{_≡_, refl, sym, ap, ap₂, _∙_}
+use mathlib.Core.Bool.{Bool, true, false}
+use mathlib.Core.List.{List, [], _∷_, _++_, append-assoc, map, map-append, flatMap, List·Memᴰ, List·Memᴰ·head, List·Memᴰ·tail}
+use Prim.Native.Nat.{ℕ, zero, suc, _+_, _-_, _*_, _≤_, _<_}
+use native.Mathlib.Omega.{arith}
+use native.Mathlib.Nat.{add-zero, zero-add}
+use native.Mathlib.Numerals.{add-one}
+use lib.IntN.{pos}
+use lib.ListN.{length, getD, drop, length-append, length-map}
+use lib.Dec.{leb}
+use borrow.Author.Tests.{leb-true, leb-false}
+use Rattle.model.specs.Bounds.{bias, maxLocations}
+use Rattle.model.specs.Predicate.{Pred, all, imp, eq, num, old, preds, Word, words, wordsAll, wordsOf, operands, nodeCount}
+use Rattle.model.specs.Model.{Location, Automaton, Model}
+use Rattle.model.specs.Lawful.{Lawful}
+use Rattle.model.specs.Lines.{locationLines, automatonLines, composeLine}
+use Rattle.model.specs.Table.{biased, code, predWords, lineWords, sheetWords}
+use Rattle.model.specs.Linear.{pointer, atLocations, atAutomata, mergedInit, mergedInv}
+use Rattle.model.proofs.LinearLimits.{preds-count, locations-length, automata-length}
+use Rattle.table_places.specs.Outline.{reach, afterPredicate, afterAutomaton, automatonAt}
+use Rattle.table_places.proofs.OutlineLaws as O
+use Rattle.table_places.proofs.OutlineLaws.{read, locationWords, automatonWords, locations-count, first-location, after-automaton, after-predicate}
+use Rattle.merge_words.specs.Append.{narrow}
+use Rattle.merge_words.specs.Runs.{nodesAt}
+use Rattle.merge_words.specs.NodeWords.{upward, allNode, numberNode, oldNode, pointerOf, most, capped}
+use Rattle.merge_words.specs.Head.{variablesOf, automataOf}
+use Rattle.merge_words.specs.Clauses.{partAt, clauseWords, locationClauses, automatonClauses, automataClauses, locationNodes, automataNodes, locationTotal, mergedNodes, mergedWords}
+use Rattle.merge_words.proofs.NodeLaws.{capped-over, capped-is}
+use Rattle.merge_table.proofs.Standing.{narrow-is, run-length, count-stands, nodes-stand, automata-cons}
+use Rattle.merge_table.proofs.HeadIs.{pointer-sum, upward-small, variables-are, automata-are, automata-stand, few-locations}
+
+-- sums that stay within a word
+pub capped-most : (n : ℕ) → capped n ≤ most
+capped-most n = go (leb n most) refl
+  where
+    go : (b : Bool) → leb n most ≡ b → capped n ≤ most
+    go true h = let l = leb-true n most h in let e = capped-is n l in omega arith
+    go false h = let l = leb-false n most h in let e = capped-over n l in omega arith
+
+pub capped-add : (a b : ℕ) → capped (capped a + b) ≡ capped (a + b)
+capped-add a b = go (leb a most) refl
+  where
+    go : (c : Bool) → leb a most ≡ c → capped (capped a + b) ≡ capped (a + b)
+    go true h = ap (λ n. capped (n + b)) (sym (capped-is a (leb-true a most h)))
+    go false h =
+        let l = leb-false a most h in
+        ap (λ n. capped (n + b)) (sym (capped-over a l)) ∙ last (leb b 0) refl ∙ capped-over (a + b) (omega arith)
+      where
+        last : (c : Bool) → leb b 0 ≡ c → capped (most + b) ≡ most
+        last true q = let z = leb-true b 0 q in let e : most + b ≡ most = omega arith in ap capped e ∙ sym (capped-is most (omega arith))
+        last false q = let z = leb-false b 0 q in sym (capped-over (most + b) (omega arith))
+
+-- a clause's nodes are its four and the predicate's
+clause-length : (t : List ℕ) (k j part : ℕ) → length (clauseWords t k j part) ≡ 4 + getD t part 0
+unfolding clauseWords nodesAt
+clause-length t k j part = omega (arith, run-length t (reach t part 1) (getD t part 0))
+
+-- On any words: the count of the nodes is the number of words.
+module _ (t : List ℕ) (inv : Bool) where
+  pub location-nodes-are : (n k j at sum : ℕ) → sum ≤ most → locationNodes t inv n at sum ≡ capped (sum + length (locationClauses t inv k j n at))
+  unfolding locationNodes locationClauses
+  location-nodes-are zero k j at sum h = rw (add-zero sum) (capped-is sum h)
+  location-nodes-are (suc n) k j at sum h =
+      let g = getD t (partAt t inv at) 0 in
+      let c = clauseWords t k j (partAt t inv at) in
+      let others = locationClauses t inv k (j + 1) n (afterPredicate t (afterPredicate t at)) in
+      let s = capped (capped (sum + 4) + g) in
+      let size : sum + 4 + g + length others ≡ sum + length (c ++ others) = omega (arith, length-append c others, clause-length t k j (partAt t inv at)) in
+      location-nodes-are n k (j + 1) (afterPredicate t (afterPredicate t at)) s (capped-most (capped (sum + 4) + g)) ∙
+      ap (λ x. capped (x + length others)) (capped-add (sum + 4) g) ∙ capped-add (sum + 4 + g) (length others) ∙ ap capped size
+
+  pub automata-nodes-are : (n v i at sum : ℕ) → sum ≤ most → automataNodes t inv n at sum ≡ capped (sum + length (automataClauses t inv v i n at))
+  unfolding automataNodes automataClauses automatonClauses
+  automata-nodes-are zero v i at sum h = rw (add-zero sum) (capped-is sum h)
+  automata-nodes-are (suc n) v i at sum h =
+      let c = locationClauses t inv (pointerOf v i) 0 (getD t (reach t at 2) 0) (reach t at 3) in
+      let others = automataClauses t inv v (i + 1) n (afterAutomaton t at) in
+      let first = location-nodes-are (getD t (reach t at 2) 0) (pointerOf v i) 0 (reach t at 3) sum h in
+      let s = locationNodes t inv (getD t (reach t at 2) 0) (reach t at 3) sum in
+      let few : s ≤ most = rw first (capped-most (sum + length c)) in
+      let size : sum + length c + length others ≡ sum + length (c ++ others) = omega (arith, length-append c others) in
+      automata-nodes-are n v (i + 1) (afterAutomaton t at) s few ∙ ap (λ x. capped (x + length others)) first ∙ capped-add (sum + length c) (length others) ∙ ap capped size
+
+  pub merged-nodes-are : mergedNodes t inv ≡ capped (1 + length (automataClauses t inv (variablesOf t) 0 (automataOf t) (automatonAt t 0)))
+  unfolding mergedNodes
+  merged-nodes-are = automata-nodes-are (automataOf t) (variablesOf t) 0 (automatonAt t 0) 1 (omega arith)
+
+-- which of a location's predicates stands at its part's place
+abbrev pub Part : Bool → (Location → Pred) → Type 0
+Part inv part = (t : List ℕ) (at : ℕ) (l : Location) (others : List ℕ) → drop at t ≡ predWords (l .init) ++ (predWords (l .inv) ++ others)
+    → (rest : List ℕ) × (drop (partAt t inv at) t ≡ predWords (part l) ++ rest)
+
+pub init-part : Part false (λ l. l .init)
+unfolding partAt
+init-part t at l others e = (predWords (l .inv) ++ others, e)
+
+pub inv-part : Part true (λ l. l .inv)
+unfolding partAt
+inv-part t at l others e = (others, after-predicate t at (l .init) (predWords (l .inv) ++ others) e)
+
+-- the words of predicates in a row
+pub all-append : (ps qs : List Pred) → wordsAll (preds (ps ++ qs)) ≡ wordsAll (preds ps) ++ wordsAll (preds qs)
+unfolding preds words wordsAll wordsOf
+all-append [] qs = refl
+all-append (p ∷ ps) qs = ap (λ (l : List Word). words p ++ l) (all-append ps qs) ∙ sym (append-assoc (words p) (wordsAll (preds ps)) (wordsAll (preds qs)))
+
+abbrev pub codes : List Pred → List ℕ
+codes ps = map code (wordsAll (preds ps))
+
+pub codes-append : (ps qs : List Pred) → codes (ps ++ qs) ≡ codes ps ++ codes qs
+codes-append ps qs = ap (map code) (all-append ps qs) ∙ map-append code (wordsAll (preds ps)) (wordsAll (preds qs))
+
+pub codes-cons : (p : Pred) (ps : List Pred) → codes (p ∷ ps) ≡ map code (words p) ++ codes ps
+unfolding preds words wordsAll wordsOf
+codes-cons p ps = map-append code (words p) (wordsAll (preds ps))
+
+-- the nodes of small numbers
+pub number-code : (z : ℕ) → z < 4294967296 → numberNode z ≡ 6 + 16 * (bias + z)
+unfolding numberNode
+number-code z h = ap (λ n. 6 + 16 * n) (upward-small z h)
+
+pub old-code : (k : ℕ) → k < 4294967296 → oldNode k ≡ 7 + 16 * k
+unfolding oldNode
+old-code k h = ap (λ n. 7 + 16 * n) (narrow-is k h)
+
+pub all-code : (k : ℕ) → k < 4294967296 → allNode k ≡ 0 + 16 * k
+unfolding allNode
+all-code k h = ap (λ n. 16 * n) (narrow-is k h) ∙ sym (zero-add (16 * k))
+
+-- a past location
+pub past-location : (t : List ℕ) (at : ℕ) (l : Location) (rest : List ℕ) → drop at t ≡ predWords (l .init) ++ (predWords (l .inv) ++ rest) → drop (afterPredicate t (afterPredicate t at)) t ≡ rest
+past-location t at l rest e =
+    after-predicate t (afterPredicate t at) (l .inv) rest (after-predicate t at (l .init) (predWords (l .inv) ++ rest) e)
+
+pub location-cons : (t : List ℕ) (at : ℕ) (l : Location) (ls : List Location) (rest : List ℕ) → drop at t ≡ locationWords (l ∷ ls) ++ rest
+    → drop at t ≡ predWords (l .init) ++ (predWords (l .inv) ++ (locationWords ls ++ rest))
+unfolding flatMap locationLines lineWords
+location-cons t at l ls rest e =
+    let i = predWords (l .init) in
+    let v = predWords (l .inv) in
+    e ∙ append-assoc i (v ++ locationWords ls) rest ∙ ap (λ (r : List ℕ). i ++ r) (append-assoc v (locationWords ls) rest)
+
+module _ (m : Model) (inv : Bool) (part : Location → Pred) (stands : Part inv part) (t : List ℕ) where
+  clause-is : (i k j at : ℕ) (l : Location) (others : List ℕ) → k ≡ pointer m i → k < 4294967296 → j < 4294967296
+      → drop at t ≡ predWords (l .init) ++ (predWords (l .inv) ++ others)
+      → clauseWords t k j (partAt t inv at) ≡ map code (words (imp (eq (old (pointer m i)) (num (pos j))) (part l)))
+  unfolding clauseWords words wordsAll wordsOf code biased
+  clause-is i k j at l others ek hk hj e =
+      let s = stands t at l others e in
+      rw (old-code k hk, number-code j hj, ek) (ap (λ (ws : List ℕ). 3 ∷ 4 ∷ (7 + 16 * pointer m i) ∷ (6 + 16 * (bias + j)) ∷ ws) (nodes-stand t (partAt t inv at) (part l) (s .0) (s .1)))
+
+  pub locations-are : (ls : List Location) (i k j at : ℕ) (rest : List ℕ) → k ≡ pointer m i → k < 4294967296 → j + length ls < 4294967296
+      → drop at t ≡ locationWords ls ++ rest → locationClauses t inv k j (length ls) at ≡ codes (atLocations m part i j ls)
+  unfolding locationClauses atLocations preds words wordsAll wordsOf
+  locations-are [] i k j at rest ek hk h e = refl
+  locations-are (l ∷ ls) i k j at rest ek hk h e =
+      let f = location-cons t at l ls rest e in
+      let p = imp (eq (old (pointer m i)) (num (pos j))) (part l) in
+      let c = clause-is i k j at l (locationWords ls ++ rest) ek hk (omega arith) f in
+      let o = locations-are ls i k (suc j) (afterPredicate t (afterPredicate t at)) rest ek hk (omega arith) (past-location t at l (locationWords ls ++ rest) f) in
+      rw (add-one j) (ap₂ (λ (a b : List ℕ). a ++ b) c o ∙ sym (codes-cons p (atLocations m part i (suc j) ls)))
+
+  pub automata-clauses-are : (xs : List Automaton) (v i at : ℕ) (rest : List ℕ) → v ≡ length (m .variables) → v < 2147483648 → i + length xs < 2147483648
+      → ((x : Automaton) → List·Memᴰ x xs → length (x .locations) ≤ maxLocations)
+      → drop at t ≡ automatonWords xs ++ rest → automataClauses t inv v i (length xs) at ≡ codes (atAutomata m part i xs)
+  unfolding automataClauses automatonClauses atAutomata preds words wordsAll wordsOf
+  automata-clauses-are [] v i at rest ev hv h few e = refl
+  automata-clauses-are (x ∷ xs) v i at rest ev hv h few e =
+      let f = automata-cons t at x xs rest e in
+      let others = automatonWords xs ++ rest in
+      let n : getD t (reach t at 2) 0 ≡ length (x .locations) = read t (reach t at 2) (length (x .locations)) _ (locations-count t others x at f) in
+      let s = few x (List·Memᴰ·head refl) in
+      let k : pointerOf v i ≡ v + i = pointer-sum v i (omega arith) (omega arith) in
+      let kp : pointerOf v i ≡ pointer m i = k ∙ point v i ev in
+      let kh : pointerOf v i < 4294967296 = omega arith in
+      let small : 0 + length (x .locations) < 4294967296 = omega arith in
+      let c : locationClauses t inv (pointerOf v i) 0 (getD t (reach t at 2) 0) (reach t at 3) ≡ codes (atLocations m part i 0 (x .locations)) =
+      ap (λ c. locationClauses t inv (pointerOf v i) 0 c (reach t at 3)) n ∙ locations-are (x .locations) i (pointerOf v i) 0 (reach t at 3) _ kp kh small (first-location t others x at f) in
+      let o = automata-clauses-are xs v (suc i) (afterAutomaton t at) rest ev hv (omega arith) (λ y q. few y (List·Memᴰ·tail q)) (after-automaton t others x at f) in
+      rw (add-one i) (ap₂ (λ (a b : List ℕ). a ++ b) c o ∙ sym (codes-append (atLocations m part i 0 (x .locations)) (atAutomata m part (suc i) xs)))
+    where
+      point : (u j : ℕ) → u ≡ length (m .variables) → u + j ≡ pointer m j
+      point u j q = unfold pointer in ap (λ w. w + j) q
+
+-- how many locations there are
+totals : (m : Model) (part : Location → Pred) (t : List ℕ) (xs : List Automaton) (i at sum : ℕ) (rest : List ℕ) → sum ≤ most → drop at t ≡ automatonWords xs ++ rest
+    → locationTotal t (length xs) at sum ≡ capped (sum + length (atAutomata m part i xs))
+unfolding locationTotal atAutomata
+totals m part t [] i at sum rest h e = rw (add-zero sum) (capped-is sum h)
+totals m part t (x ∷ xs) i at sum rest h e =
+    let f = automata-cons t at x xs rest e in
+    let others = automatonWords xs ++ rest in
+    let l = length (x .locations) in
+    let n : getD t (reach t at 2) 0 ≡ length (x .locations) = read t (reach t at 2) (length (x .locations)) _ (locations-count t others x at f) in
+    let more = atAutomata m part (suc i) xs in
+    let size : sum + l + length more ≡ sum + length (atLocations m part i 0 (x .locations) ++ more) = omega (arith, length-append (atLocations m part i 0 (x .locations)) more, locations-length m part i 0 (x .locations)) in
+    ap (λ c. locationTotal t (length xs) (afterAutomaton t at) (capped (sum + c))) n ∙
+    totals m part t xs (suc i) (afterAutomaton t at) (capped (sum + l)) rest (capped-most (sum + l)) (after-automaton t others x at f) ∙
+    capped-add (sum + l) (length more) ∙ ap capped size
+
+module _ (m : Model) (lawful : Lawful m) (t rest : List ℕ) (e : t ≡ sheetWords m ++ rest) where
+  module _ (inv : Bool) (part : Location → Pred) (stands : Part inv part) where
+    abbrev clauses : List Pred
+    clauses = atAutomata m part 0 (m .automata)
+
+    clauses-are : automataClauses t inv (variablesOf t) 0 (automataOf t) (automatonAt t 0) ≡ codes clauses
+    clauses-are =
+        let fv = lawful .few-variables in
+        let fn = lawful .few-automata in
+        ap₂ (λ v n. automataClauses t inv v 0 n (automatonAt t 0)) (variables-are m lawful t rest e) (automata-are m lawful t rest e) ∙
+        automata-clauses-are m inv part stands t (m .automata) (length (m .variables)) 0 (automatonAt t 0) _ refl (omega arith) (omega arith) (few-locations m lawful t rest e) (automata-stand m lawful t rest e)
+
+    -- the count of nodes is the merged predicate's
+    nodes-are : mergedNodes t inv ≡ capped (nodeCount (all (preds clauses)))
+    unfolding nodeCount words wordsAll wordsOf
+    nodes-are =
+        merged-nodes-are t inv ∙ ap (λ (l : List ℕ). capped (1 + length l)) clauses-are ∙ ap (λ n. capped (1 + n)) (length-map (wordsAll (preds clauses)) code) ∙ ap capped (omega arith)
+
+    words-are : nodeCount (all (preds clauses)) ≤ most → mergedWords t inv ≡ predWords (all (preds clauses))
+    unfolding mergedWords predWords words wordsAll wordsOf code
+    words-are few =
+        let fn = lawful .few-automata in
+        let count : length clauses ≤ maxLocations * length (m .automata) = automata-length m part 0 (m .automata) (few-locations m lawful t rest e) in
+        let small : length clauses ≤ most = omega arith in
+        let total : locationTotal t (automataOf t) (automatonAt t 0) 0 ≡ operands (preds clauses) =
+        ap (λ n. locationTotal t n (automatonAt t 0) 0) (automata-are m lawful t rest e) ∙ totals m part t (m .automata) 0 (automatonAt t 0) 0 _ (omega arith) (automata-stand m lawful t rest e) ∙
+        ap capped (zero-add (length clauses)) ∙ sym (capped-is (length clauses) small) ∙ sym (preds-count clauses) in
+        let node : allNode (locationTotal t (automataOf t) (automatonAt t 0) 0) ≡ 0 + 16 * operands (preds clauses) =
+        ap allNode total ∙ all-code (operands (preds clauses)) (omega (arith, preds-count clauses)) in
+        let nodes : mergedNodes t inv ≡ nodeCount (all (preds clauses)) = nodes-are ∙ sym (capped-is (nodeCount (all (preds clauses))) few) in
+        rw (nodes, node, clauses-are)
+
+  -- the merged init's words and nodes, and the merged inv's
+  pub init-words : nodeCount (mergedInit m) ≤ most → mergedWords t false ≡ predWords (mergedInit m)
+  unfolding mergedInit
+  init-words = words-are false (λ l. l .init) init-part
+
+  pub inv-words : nodeCount (mergedInv m) ≤ most → mergedWords t true ≡ predWords (mergedInv m)
+  unfolding mergedInv
+  inv-words = words-are true (λ l. l .inv) inv-part
+
+  pub init-nodes : mergedNodes t false ≡ capped (nodeCount (mergedInit m))
+  unfolding mergedInit
+  init-nodes = nodes-are false (λ l. l .init) init-part
+
+  pub inv-nodes : mergedNodes t true ≡ capped (nodeCount (mergedInv m))
+  unfolding mergedInv
+  inv-nodes = nodes-are true (λ l. l .inv) inv-part

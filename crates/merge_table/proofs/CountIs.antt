@@ -1,0 +1,130 @@
+-- The merged edges that are counted are those of row 32, and the variables those of row 31.
+use mathlib.Core.Path.{_≡_, sym, ap, ap₂, _∙_}
+use mathlib.Core.Bool.{false}
+use mathlib.Core.List.{List, _++_, map}
+use Prim.Native.Nat.{ℕ, zero, suc, _+_, _≤_, _<_}
+use native.Mathlib.Omega.{arith}
+use native.Mathlib.Decide.{decLt}
+use native.Mathlib.Nat.{zero-add}
+use native.Mathlib.Numerals.{add-one}
+use lib.ListN.{length}
+use lib.Dec.{ltb}
+use borrow.Author.Tests.{ltb-false, lt-ltb}
+use Rattle.model.specs.Basic.{sum, countUp}
+use Rattle.model.specs.Bounds.{maxVariables, maxEdges}
+use Rattle.model.specs.Model.{Model}
+use Rattle.model.specs.Lawful.{Lawful}
+use Rattle.model.specs.Table.{sheetWords}
+use Rattle.model.specs.Moves.{moveCount}
+use Rattle.model.specs.Linear.{mergedCount, row31, row32}
+use Rattle.merge_moves.specs.declared.planning.Planned.{Planned}
+use Rattle.merge_moves.specs.Capping as M
+use Rattle.merge_moves.proofs.CappingLaws.{cap-small, cap-large}
+use Rattle.merge_moves.proofs.Whole.{plan-is}
+use Rattle.merge_words.specs.NodeWords.{pointerOf, most, capped}
+use Rattle.merge_words.specs.Head.{variablesOf, automataOf}
+use Rattle.merge_words.specs.MergedEdges.{countsOf, rootOf, moveTotal, movesOf}
+use Rattle.merge_words.specs.Sync.{ownSets}
+use Rattle.merge_words.proofs.NodeLaws.{capped-over, capped-is}
+use Rattle.merge_table.proofs.HeadIs.{pointer-sum, variables-are, automata-are}
+use Rattle.merge_table.proofs.SyncIs.{tree-stands}
+use Rattle.merge_table.proofs.AllEdgesAre.{told}
+
+-- a sum above 512 stays above it where it is cut to a word
+capped-large : (n : ℕ) → maxEdges < n → maxEdges < capped n
+capped-large n h = go (decLt most n)
+  where
+    go : Dec (most < n) → maxEdges < capped n
+    go (yes l) = omega (arith, capped-over n l)
+    go (no l) = omega (arith, capped-is n (omega arith))
+
+-- the moves of n actions, from one on
+abbrev countFrom : Model → (a n : ℕ) → ℕ
+countFrom m a n = sum (map (λ b. moveCount m b (m .tree)) (countUp a n))
+
+-- those of one action are no more
+one-of : (m : Model) (n b a : ℕ) → b ≤ a → a < b + n → moveCount m a (m .tree) ≤ countFrom m b n
+unfolding sum countUp
+one-of m zero b a l h = absurd (omega arith)
+one-of m (suc n) b a l h = go (decLt b a) (λ k. one-of m n (suc b) a k (omega arith))
+  where
+    go : Dec (b < a) → (suc b ≤ a → moveCount m a (m .tree) ≤ countFrom m (suc b) n) → moveCount m a (m .tree) ≤ moveCount m b (m .tree) + countFrom m (suc b) n
+    go (yes k) ih = let i = ih k in omega arith
+    go (no k) ih =
+        let z : a ≡ b = omega arith in
+        let c : moveCount m a (m .tree) ≡ moveCount m b (m .tree) = ap (λ x. moveCount m x (m .tree)) z in
+        omega arith
+
+module _ (m : Model) (lawful : Lawful m) (t rest : List ℕ) (e : t ≡ sheetWords m ++ rest) where
+  -- the plan's count, which is cut above 512
+  total-cut : (action : ℕ) → moveTotal t (ownSets t) action ≡ M.capped (moveCount m action (m .tree))
+  unfolding moveTotal
+  total-cut action =
+      ap (λ (p : Planned). p .count) (plan-is t (ownSets t) (countsOf t action) m action (rootOf t) lawful (tree-stands m lawful t rest e) (told m lawful t rest e action))
+
+  -- up to 512 the sum is exact
+  few-are : (n a s : ℕ) → s + countFrom m a n ≤ maxEdges → movesOf t (ownSets t) a n s ≡ s + countFrom m a n
+  unfolding movesOf sum countUp
+  few-are zero a s h = omega arith
+  few-are (suc n) a s h =
+      let c = moveCount m a (m .tree) in
+      let one : moveTotal t (ownSets t) a ≡ c = total-cut a ∙ sym (cap-small c (omega arith)) in
+      let next : capped (s + moveTotal t (ownSets t) a) ≡ s + c = ap (λ x. capped (s + x)) one ∙ sym (capped-is (s + c) (omega arith)) in
+      let all : s + c + countFrom m (suc a) n ≡ s + (c + countFrom m (suc a) n) = omega arith in
+      ap₂ (λ x y. movesOf t (ownSets t) x n y) (add-one a) next ∙ few-are n (suc a) (s + c) (omega arith) ∙ all
+
+  -- and above it, it is above
+  many-are : (n a s : ℕ) → maxEdges < s + countFrom m a n → maxEdges < movesOf t (ownSets t) a n s
+  unfolding movesOf sum countUp
+  many-are zero a s h = omega arith
+  many-are (suc n) a s h = go (decLt maxEdges c) (decLt maxEdges (s + moveTotal t (ownSets t) a)) (λ x l. many-are n (suc a) x l)
+    where
+      c : ℕ
+      c = moveCount m a (m .tree)
+
+      go : Dec (maxEdges < c) → Dec (maxEdges < s + moveTotal t (ownSets t) a) → ((x : ℕ) → maxEdges < x + countFrom m (suc a) n → maxEdges < movesOf t (ownSets t) (suc a) n x)
+          → maxEdges < movesOf t (ownSets t) (a + 1) n (capped (s + moveTotal t (ownSets t) a))
+      go p (yes q) ih = let k = capped-large (s + moveTotal t (ownSets t) a) q in rw (add-one a) (ih (capped (s + moveTotal t (ownSets t) a)) (omega arith))
+      go (yes p) (no q) ih = let k = total-cut a in let l = cap-large c p in absurd (omega arith)
+      go (no p) (no q) ih =
+          let k = total-cut a in
+          let l = cap-small c (omega arith) in
+          let i = capped-is (s + moveTotal t (ownSets t) a) (omega arith) in
+          rw (add-one a) (ih (capped (s + moveTotal t (ownSets t) a)) (omega arith))
+
+  abbrev counted : ℕ
+  counted = movesOf t (ownSets t) 0 (m .actions + 1) 0
+
+  whole-count : countFrom m 0 (m .actions + 1) ≡ mergedCount m
+  unfolding mergedCount
+  whole-count = ap (countFrom m 0) (add-one (m .actions))
+
+  exact : mergedCount m ≤ maxEdges → counted ≡ mergedCount m
+  exact h = few-are (m .actions + 1) 0 0 (omega (arith, whole-count)) ∙ zero-add (countFrom m 0 (m .actions + 1)) ∙ whole-count
+
+  pub count-row : ltb maxEdges (movesOf t (ownSets t) 0 (m .actions + 1) 0) ≡ row32 m
+  unfolding row32
+  count-row = go (decLt maxEdges (mergedCount m))
+    where
+      go : Dec (maxEdges < mergedCount m) → ltb maxEdges counted ≡ ltb maxEdges (mergedCount m)
+      go (yes h) = lt-ltb maxEdges counted (many-are (m .actions + 1) 0 0 (omega (arith, whole-count))) ∙ sym (lt-ltb maxEdges (mergedCount m) h)
+      go (no h) = ap (ltb maxEdges) (exact (omega arith))
+
+  pub count-exact : row32 m ≡ false → movesOf t (ownSets t) 0 (m .actions + 1) 0 ≡ mergedCount m
+  unfolding row32
+  count-exact h = exact (ltb-false maxEdges (mergedCount m) h)
+
+  pub counts-few : row32 m ≡ false → (a : ℕ) → a ≤ m .actions → moveCount m a (m .tree) ≤ maxEdges
+  unfolding row32
+  counts-few h a l =
+      let all = ltb-false maxEdges (mergedCount m) h in
+      let one = one-of m (m .actions + 1) 0 a (omega arith) (omega arith) in
+      omega (arith, whole-count)
+
+  pub variables-row : ltb maxVariables (pointerOf (variablesOf t) (automataOf t)) ≡ row31 m
+  unfolding row31
+  variables-row =
+      let v = lawful .few-variables in
+      let n = lawful .few-automata in
+      ap (ltb maxVariables)
+      (ap₂ pointerOf (variables-are m lawful t rest e) (automata-are m lawful t rest e) ∙ pointer-sum (length (m .variables)) (length (m .automata)) (omega arith) (omega arith))

@@ -1,0 +1,392 @@
+-- A merged edge's words are those of the merged model's edge with the takers that the picks name.
+use mathlib.Core.Path.{_≡_, refl, sym, ap, ap₂, _∙_}
+use mathlib.Core.Bool.{Bool, true, false, not, _&&_, _||_}
+use mathlib.Core.List.{List, [], _∷_, _++_, append-assoc, append-nil, map, map-append, flatMap, List·Memᴰ, List·Memᴰ·head, List·Memᴰ·tail}
+use Prim.Native.Nat.{ℕ, zero, suc, _+_, _-_, _*_, _≤_, _<_}
+use native.Mathlib.Omega.{arith}
+use native.Mathlib.Nat.{add-zero}
+use native.Mathlib.Numerals.{add-one, sub-one}
+use lib.IntN.{pos}
+use lib.ListN.{length, getD, take, drop, replicate, length-append, length-map, length-replicate, drop-of-length-le, List·getD-eq-default}
+use lib.Seq.{sets, sets-eq, drop-cons}
+use lib.Dec.{eqb, leb, ltb}
+use borrow.Author.Tests.{leb-true, le-leb, eq-eqb, ne-eqb}
+use Rattle.model.specs.Bounds.{bias, maxAutomata, maxDepth}
+use Rattle.model.specs.Basic.{exists, keep}
+use Rattle.model.specs.Predicate.{Pred, all, none, eq, num, old, new, preds, Word, words, wordsAll, wordsOf, operands, nodeCount, depth}
+use Rattle.model.specs.Model.{Edge, Automaton, Model}
+use Rattle.model.specs.Rules.{Taker}
+use Rattle.model.specs.Lawful.{Lawful, LawfulAutomaton}
+use Rattle.model.specs.Lines.{edgeLine, automatonLines}
+use Rattle.model.specs.Table.{biased, code, predWords, lineWords, sheetWords}
+use Rattle.model.specs.Moves.{under, alone}
+use Rattle.model.specs.Linear.{pointer, pointerMoves, mergedEdge}
+use Rattle.model.proofs.Tests.{exists-append}
+use Rattle.model.proofs.Lists.{keep-out}
+use Rattle.model.proofs.LinearLimits.{preds-count, pointers-length}
+use Rattle.table_places.specs.Outline.{reach, afterPredicate, edgesAt, afterAutomaton, automatonAt}
+use Rattle.table_places.proofs.OutlineLaws.{read, reached, wordsOf as linesOf, edgeWords, automatonWords, after-predicate, sheet-parts, edges-at, first-edge, after-automaton}
+use Rattle.merge_words.specs.Runs.{nodesAt}
+use Rattle.merge_words.specs.NodeWords.{allNode, numberNode, oldNode, newNode, pointerOf, most, capped}
+use Rattle.merge_words.specs.Head.{variablesOf, automataOf}
+use Rattle.merge_words.specs.Depths.{updateDeep, updatesDeep}
+use Rattle.merge_words.specs.MergedEdge.{isUnder, still, edgeUnder, takenAt, takenFrom, atMost, takers, updateAt, moveAt, updatesAt, movesAt, takerNodes, takersNodes, takerOperands, takersOperands, edgeBy, edgeWordsAt}
+use Rattle.merge_words.proofs.NodeLaws.{capped-is}
+use Rattle.merge_words.proofs.EdgeLaws.{at-most-is}
+use Rattle.merge_table.proofs.Standing.{narrow-is, run-length, nodes-stand, automata-cons}
+use Rattle.merge_table.proofs.HeadIs.{pointer-sum, variables-are, automata-are, automata-stand}
+use Rattle.merge_table.proofs.ClausesAre.{capped-most, capped-add, codes, codes-append, codes-cons, number-code, old-code, all-code}
+use Rattle.merge_table.proofs.DepthsAre.{deeper-stands}
+
+-- past the last edge under an action; no valid pick names it
+abbrev pub noEdge : Edge
+noEdge = record { from = 0; action = 0; to = 0; update = all none }
+
+-- what an automaton takes by its pick: nothing by 0, edge j of those under the action by 1 + j
+unfoldable pub takerBy : (action i : ℕ) → Automaton → (pick : ℕ) → List Taker
+takerBy action i x zero = []
+takerBy action i x (suc j) = alone i (getD (under action (x .edges)) j noEdge)
+
+-- the takers among some automata, from automaton i on
+unfoldable pub takersFrom : (action : ℕ) (picks : List ℕ) (i : ℕ) → List Automaton → List Taker
+takersFrom action picks i [] = []
+takersFrom action picks i (x ∷ xs) = takerBy action i x (getD picks i 0) ++ takersFrom action picks (suc i) xs
+
+-- each pick is of an edge that there is
+unfoldable pub Valid : (action : ℕ) (picks : List ℕ) (i : ℕ) → List Automaton → Type 0
+Valid action picks i [] = Unit
+Valid action picks i (x ∷ xs) = (getD picks i 0 ≤ length (under action (x .edges))) × Valid action picks (suc i) xs
+
+-- no place of an edge is 0
+reach-above : (t : List ℕ) (a n : ℕ) → 1 ≤ length t → 1 ≤ a + n → 1 ≤ reach t a n
+unfolding reach
+reach-above t a n h k = go (leb (a + n) (length t)) refl
+  where
+    go : (b : Bool) → leb (a + n) (length t) ≡ b → 1 ≤ reach t a n
+    go true e = rw (e, reach) k
+    go false e = rw (e, reach) h
+
+under-above : (t : List ℕ) (action j n at : ℕ) → 1 ≤ length t → 1 ≤ at → 1 ≤ edgeUnder t action j n at
+unfolding edgeUnder afterPredicate
+under-above t action j zero at h k = h
+under-above t action j (suc n) at h k = go (isUnder t action at && eqb j 0) (under-above t action (still (isUnder t action at) j) n (afterPredicate t (reach t at 3)) h next)
+  where
+    first : 1 ≤ reach t (reach t at 3) 1
+    first = reach-above t (reach t at 3) 1 h (omega arith)
+
+    next : 1 ≤ afterPredicate t (reach t at 3)
+    next = reach-above t (reach t (reach t at 3) 1) (getD t (reach t at 3) 0) h (omega (arith, first))
+
+    go : (b : Bool) → 1 ≤ edgeUnder t action (still (isUnder t action at) j) n (afterPredicate t (reach t at 3))
+        → 1 ≤ elim b as (λ c. ℕ) [ true ↦ at | false ↦ edgeUnder t action (still (isUnder t action at) j) n (afterPredicate t (reach t at 3)) ]
+    go true i = k
+    go false i = i
+
+-- where edge j under the action stands
+abbrev Stands : List ℕ → ℕ → Edge → Type 0
+Stands t at e = (rest : List ℕ) × (drop at t ≡ lineWords (edgeLine e) ++ rest)
+
+pub under-yes : (action : ℕ) (e : Edge) (es : List Edge) → eqb (e .action) action ≡ true → under action (e ∷ es) ≡ e ∷ under action es
+unfolding under keep
+under-yes action e es h = rw (h, keep)
+
+pub under-no : (action : ℕ) (e : Edge) (es : List Edge) → eqb (e .action) action ≡ false → under action (e ∷ es) ≡ under action es
+unfolding under keep
+under-no action e es h = rw (h, keep)
+
+-- one step of the search
+module _ (t : List ℕ) (action n at : ℕ) where
+  abbrev next-edge : ℕ
+  next-edge = afterPredicate t (reach t at 3)
+
+  step-here : isUnder t action at ≡ true → edgeUnder t action 0 (suc n) at ≡ at
+  unfolding edgeUnder
+  step-here q = rw (q, edgeUnder)
+
+  step-on : (k : ℕ) → isUnder t action at ≡ true → edgeUnder t action (suc k) (suc n) at ≡ edgeUnder t action k n next-edge
+  unfolding edgeUnder still
+  step-on k q =
+      let one : suc k - 1 ≡ k = omega arith in
+      let z : eqb (suc k) 0 ≡ false = ne-eqb (suc k) 0 (λ y. absurd (omega arith)) in
+      let s : still (isUnder t action at) (suc k) ≡ k = rw (q, z, still) one in
+      rw (q, z, edgeUnder) (ap (λ j. edgeUnder t action j n next-edge) s)
+
+  step-past : (j : ℕ) → isUnder t action at ≡ false → edgeUnder t action j (suc n) at ≡ edgeUnder t action j n next-edge
+  unfolding edgeUnder still
+  step-past j q =
+      let s : still (isUnder t action at) j ≡ j = rw (q, still) in
+      rw (q, edgeUnder) (ap (λ i. edgeUnder t action i n next-edge) s)
+
+under-stands : (t : List ℕ) (action : ℕ) (es : List Edge) (j at : ℕ) (rest : List ℕ) → j < length (under action es) → drop at t ≡ edgeWords es ++ rest
+    → Stands t (edgeUnder t action j (length es) at) (getD (under action es) j noEdge)
+unfolding isUnder flatMap lineWords
+under-stands t action [] j at rest h e = let z : length (under action []) ≡ 0 = unfold under keep in refl in absurd (omega arith)
+under-stands t action (x ∷ es) j at rest h e = go (λ k l. under-stands t action es k (afterPredicate t (reach t at 3)) rest l past) (eqb (x .action) action) refl
+  where
+    here : drop at t ≡ lineWords (edgeLine x) ++ (edgeWords es ++ rest)
+    here = e ∙ append-assoc (lineWords (edgeLine x)) (edgeWords es) rest
+
+    action-is : getD t (reach t at 1) 0 ≡ x .action
+    action-is = read t (reach t at 1) (x .action) _ (reached t at 1 (x .from ∷ []) _ here refl)
+
+    past : drop (afterPredicate t (reach t at 3)) t ≡ edgeWords es ++ rest
+    past = after-predicate t (reach t at 3) (x .update) (edgeWords es ++ rest) (reached t at 3 (x .from ∷ x .action ∷ x .to ∷ []) _ here refl)
+
+    Later : Type 0
+    Later = (k : ℕ) → k < length (under action es) → Stands t (edgeUnder t action k (length es) (afterPredicate t (reach t at 3))) (getD (under action es) k noEdge)
+
+    found : Later → (k : ℕ) → eqb (x .action) action ≡ true → k < length (x ∷ under action es)
+        → Stands t (edgeUnder t action k (suc (length es)) at) (getD (x ∷ under action es) k noEdge)
+    found later zero q l =
+        let u : isUnder t action at ≡ true = ap (λ a. eqb a action) action-is ∙ q in
+        (edgeWords es ++ rest, ap (λ (p : ℕ). drop p t) (step-here t action (length es) at u) ∙ here)
+    found later (suc k) q l =
+        let u : isUnder t action at ≡ true = ap (λ a. eqb a action) action-is ∙ q in
+        let ih = later k (omega arith) in
+        (ih .0, ap (λ (p : ℕ). drop p t) (step-on t action (length es) at k u) ∙ ih .1)
+
+    go : Later → (b : Bool) → eqb (x .action) action ≡ b → Stands t (edgeUnder t action j (suc (length es)) at) (getD (under action (x ∷ es)) j noEdge)
+    go later true q = rw (under-yes action x es q) (found later j q (rw (under-yes action x es q) at h))
+    go later false q =
+        let u : isUnder t action at ≡ false = ap (λ a. eqb a action) action-is ∙ q in
+        let ih = later j (rw (under-no action x es q) at h) in
+        rw (under-no action x es q) (ih .0, ap (λ (p : ℕ). drop p t) (step-past t action (length es) at j u) ∙ ih .1)
+
+-- What one automaton's place adds to the edge: its taker's update, pointer moves, operands, and depth.
+record Adds (m : Model) (t : List ℕ) (i place : ℕ) (ts : List Taker) : Type 0 where
+  updates : updateAt t place ≡ codes (map (λ y. y .edge .update) ts)
+  moves : moveAt t (pointerOf (length (m .variables)) i) place ≡ codes (pointerMoves m ts)
+  operands-add : (sum : ℕ) → sum ≤ most → takerOperands sum place ≡ capped (sum + 3 * length ts)
+  deep : updateDeep t place ≡ exists (λ y. ltb 23 (depth (y .edge .update))) ts
+
+adds-none : (m : Model) (t : List ℕ) (i : ℕ) → Adds m t i 0 []
+unfolding updateAt moveAt takerOperands updateDeep exists preds words wordsAll wordsOf pointerMoves
+adds-none m t i = record { updates = refl; moves = refl; operands-add = λ sum h. rw (add-zero sum) (capped-is sum h); deep = refl }
+
+new-code : (k : ℕ) → k < 4294967296 → newNode k ≡ 8 + 16 * k
+unfolding newNode
+new-code k h = ap (λ n. 8 + 16 * n) (narrow-is k h)
+
+module _ (m : Model) (t : List ℕ) (i place : ℕ) (e : Edge) (rest : List ℕ) (at : drop place t ≡ lineWords (edgeLine e) ++ rest) (above : 1 ≤ place) where
+  taker : List Taker
+  taker = alone i e
+
+  isnt : eqb place 0 ≡ false
+  isnt = ne-eqb place 0 (λ z. absurd (omega arith))
+
+  update-place : drop (reach t place 3) t ≡ predWords (e .update) ++ rest
+  unfolding lineWords
+  update-place = reached t place 3 (e .from ∷ e .action ∷ e .to ∷ []) (predWords (e .update) ++ rest) at refl
+
+  from-read : getD t place 0 ≡ e .from
+  unfolding lineWords
+  from-read = read t place (e .from) _ at
+
+  to-read : getD t (reach t place 2) 0 ≡ e .to
+  unfolding lineWords
+  to-read = read t (reach t place 2) (e .to) _ (reached t place 2 (e .from ∷ e .action ∷ []) _ at refl)
+
+  adds-one : length (m .variables) < 2147483648 → i < 2147483648 → e .from < 4294967296 → e .to < 4294967296 → depth (e .update) ≤ maxDepth → Adds m t i place (alone i e)
+  unfolding updateAt moveAt takerOperands updateDeep exists preds words wordsAll wordsOf pointerMoves code biased
+  adds-one hv hi hf ht hd =
+      let k : pointerOf (length (m .variables)) i ≡ pointer m i = pointer-sum (length (m .variables)) i (omega arith) (omega arith) ∙ (unfold pointer in refl) in
+      let kh : pointer m i < 4294967296 = small hv hi in
+      let u : nodesAt t (reach t place 3) ≡ map code (words (e .update)) = nodes-stand t (reach t place 3) (e .update) rest update-place in
+      let one : codes (e .update ∷ []) ≡ map code (words (e .update)) = codes-cons (e .update) [] ∙ append-nil (map code (words (e .update))) in
+      record {
+        updates = rw (isnt, updateAt) (u ∙ sym one);
+        moves = rw (isnt, moveAt, k, from-read, to-read, old-code (pointer m i) kh, new-code (pointer m i) kh, number-code (e .from) hf, number-code (e .to) ht);
+        operands-add = λ sum h. rw (isnt, takerOperands) (ap capped (omega arith));
+        deep = rw (isnt, updateDeep) (deeper-stands t (e .update) 23 (reach t place 3) rest hd update-place ∙ or-none (ltb 23 (depth (e .update))));
+      }
+    where
+      small : length (m .variables) < 2147483648 → i < 2147483648 → pointer m i < 4294967296
+      small a b = unfold pointer in omega arith
+
+      or-none : (b : Bool) → b ≡ (b || false)
+      or-none true = refl
+      or-none false = refl
+
+-- the edges that stand at a lawful automaton's place
+taker-adds : (m : Model) (t : List ℕ) (A action i pick at : ℕ) (x : Automaton) (rest : List ℕ) → LawfulAutomaton (m .variables) A x → length (m .variables) < 2147483648 → i < 2147483648
+    → 1 ≤ length t → drop at t ≡ linesOf (automatonLines x) ++ rest → pick ≤ length (under action (x .edges)) → Adds m t i (takenAt t action pick at) (takerBy action i x pick)
+unfolding takenAt takerBy keep under
+taker-adds m t A action i zero at x rest lawful hv hi some e few = adds-none m t i
+taker-adds m t A action i (suc j) at x rest lawful hv hi some e few =
+    let z : eqb (suc j) 0 ≡ false = ne-eqb (suc j) 0 (λ y. absurd (omega arith)) in
+    let one : suc j - 1 ≡ j = omega arith in
+    let n : getD t (edgesAt t at) 0 ≡ length (x .edges) = read t (edgesAt t at) (length (x .edges)) _ (edges-at t rest x at e) in
+    let first = reach t (edgesAt t at) 1 in
+    let place = edgeUnder t action j (length (x .edges)) first in
+    let s = under-stands t action (x .edges) j first rest (omega arith) (first-edge t rest x at e) in
+    let above = under-above t action j (length (x .edges)) first some (reach-above t (edgesAt t at) 1 some (omega arith)) in
+    let d = getD (under action (x .edges)) j noEdge in
+    let l = lawful .edges d (keep-out (λ y. eqb (y .action) action) (x .edges) (member-at (under action (x .edges)) j (omega arith)) .0) in
+    let few-locations = lawful .few-locations in
+    let it : takenAt t action (suc j) at ≡ place = rw (z, one, n, takenAt) in
+    rw it (adds-one m t i place d (s .0) (s .1) above hv hi (omega (arith, l .from)) (omega (arith, l .to)) (l .update .shallow))
+  where
+    member-at : (l : List Edge) (k : ℕ) → k < length l → List·Memᴰ (getD l k noEdge) l
+    member-at [] k h = absurd (omega arith)
+    member-at (y ∷ l) zero h = List·Memᴰ·head refl
+    member-at (y ∷ l) (suc k) h = List·Memᴰ·tail (member-at l k (omega arith))
+
+-- What the places of all automata add.
+pub record AddsAll (m : Model) (t : List ℕ) (i : ℕ) (places : List ℕ) (ts : List Taker) : Type 0 where
+  pub updates : updatesAt t places ≡ codes (map (λ y. y .edge .update) ts)
+  pub moves : movesAt t (length (m .variables)) i places ≡ codes (pointerMoves m ts)
+  pub operands-add : (sum : ℕ) → sum ≤ most → takersOperands sum places ≡ capped (sum + 3 * length ts)
+  pub deep : updatesDeep t places ≡ exists (λ y. ltb 23 (depth (y .edge .update))) ts
+
+moves-append : (m : Model) (xs ys : List Taker) → pointerMoves m (xs ++ ys) ≡ pointerMoves m xs ++ pointerMoves m ys
+unfolding pointerMoves
+moves-append m [] ys = refl
+moves-append m (x ∷ xs) ys =
+    ap (λ (l : List Pred). eq (old (pointer m (x .automaton))) (num (pos (x .edge .from))) ∷ eq (new (pointer m (x .automaton))) (num (pos (x .edge .to))) ∷ l) (moves-append m xs ys)
+
+adds-more : (m : Model) (t : List ℕ) (i p : ℕ) (ps : List ℕ) (a b : List Taker) → Adds m t i p a → AddsAll m t (suc i) ps b → AddsAll m t i (p ∷ ps) (a ++ b)
+unfolding updatesAt movesAt takersOperands updatesDeep
+adds-more m t i p ps a b one others =
+    let u : Taker → Pred = λ y. y .edge .update in
+    let deep-one : Taker → Bool = λ y. ltb 23 (depth (y .edge .update)) in
+    record {
+      updates = ap₂ (λ (k l : List ℕ). k ++ l) (one .updates) (others .updates) ∙ sym (ap codes (map-append u a b) ∙ codes-append (map u a) (map u b));
+      moves = rw (add-one i) (ap₂ (λ (k l : List ℕ). k ++ l) (one .moves) (others .moves) ∙ sym (ap codes (moves-append m a b) ∙ codes-append (pointerMoves m a) (pointerMoves m b)));
+      operands-add = λ sum h.
+          let size : sum + 3 * length a + 3 * length b ≡ sum + 3 * length (a ++ b) = omega (arith, length-append a b) in
+          ap (λ s. takersOperands s ps) (one .operands-add sum h) ∙ others .operands-add (capped (sum + 3 * length a)) (capped-most (sum + 3 * length a)) ∙
+          capped-add (sum + 3 * length a) (3 * length b) ∙ ap capped size;
+      deep = ap₂ (λ (k l : Bool). k || l) (one .deep) (others .deep) ∙ sym (exists-append deep-one a b);
+    }
+
+adds-zeros : (m : Model) (t : List ℕ) (i k : ℕ) → AddsAll m t i (replicate k 0) []
+unfolding updatesAt movesAt takersOperands updatesDeep exists preds words wordsAll wordsOf pointerMoves
+adds-zeros m t i zero = record { updates = refl; moves = refl; operands-add = λ sum h. rw (add-zero sum) (capped-is sum h); deep = refl }
+adds-zeros m t i (suc k) = adds-more m t i 0 (replicate k 0) [] [] (adds-none m t i) (adds-zeros m t (suc i) k)
+
+adds-all : (m : Model) (t : List ℕ) (A action : ℕ) (picks : List ℕ) (xs : List Automaton) (i at k : ℕ) (rest : List ℕ) → ((x : Automaton) → List·Memᴰ x xs → LawfulAutomaton (m .variables) A x)
+    → length (m .variables) < 2147483648 → i + length xs < 2147483648 → 1 ≤ length t → drop at t ≡ automatonWords xs ++ rest → Valid action picks i xs
+    → AddsAll m t i (takenFrom t action picks i (length xs) at ++ replicate k 0) (takersFrom action picks i xs)
+unfolding takenFrom takersFrom Valid
+adds-all m t A action picks [] i at k rest lawful hv hi some e valid = adds-zeros m t i k
+adds-all m t A action picks (x ∷ xs) i at k rest lawful hv hi some e valid =
+    let f = automata-cons t at x xs rest e in
+    let others = automatonWords xs ++ rest in
+    let one = taker-adds m t A action i (getD picks i 0) at x others (lawful x (List·Memᴰ·head refl)) hv (omega arith) some f (valid .0) in
+    let more = adds-all m t A action picks xs (suc i) (afterAutomaton t at) k rest (λ y q. lawful y (List·Memᴰ·tail q)) hv (omega arith) some (after-automaton t others x at f) (valid .1) in
+    rw (add-one i) (adds-more m t i (takenAt t action (getD picks i 0) at) _ (takerBy action i x (getD picks i 0)) (takersFrom action picks (suc i) xs) one more)
+
+-- on any words: the count of the nodes is the number of words
+moves-size : (t : List ℕ) (k place : ℕ) (sum : ℕ) → sum ≤ most → takerNodes t sum place ≡ capped (sum + (length (updateAt t place) + length (moveAt t k place)))
+unfolding takerNodes updateAt moveAt nodesAt
+moves-size t k place sum h = go (eqb place 0) refl
+  where
+    go : (b : Bool) → eqb place 0 ≡ b → takerNodes t sum place ≡ capped (sum + (length (updateAt t place) + length (moveAt t k place)))
+    go true q = rw (q, takerNodes, updateAt, moveAt) (capped-is sum h ∙ ap capped (omega arith))
+    go false q =
+        let n = run-length t (reach t (reach t place 3) 1) (getD t (reach t place 3) 0) in
+        rw (q, takerNodes, updateAt, moveAt) (capped-add (sum + 6) (getD t (reach t place 3) 0) ∙ ap capped (omega arith))
+
+nodes-size : (t : List ℕ) (v i : ℕ) (places : List ℕ) (sum : ℕ) → sum ≤ most → takersNodes t sum places ≡ capped (sum + (length (updatesAt t places) + length (movesAt t v i places)))
+unfolding takersNodes updatesAt movesAt
+nodes-size t v i [] sum h = rw (add-zero sum) (capped-is sum h)
+nodes-size t v i (p ∷ ps) sum h =
+    let one = moves-size t (pointerOf v i) p sum h in
+    let s = sum + (length (updateAt t p) + length (moveAt t (pointerOf v i) p)) in
+    let few : takerNodes t sum p ≤ most = rw one (capped-most s) in
+    let others = length (updatesAt t ps) + length (movesAt t v (i + 1) ps) in
+    let size : s + others ≡ sum + (length (updateAt t p ++ updatesAt t ps) + length (moveAt t (pointerOf v i) p ++ movesAt t v (i + 1) ps)) =
+    omega (arith, length-append (updateAt t p) (updatesAt t ps), length-append (moveAt t (pointerOf v i) p) (movesAt t v (i + 1) ps)) in
+    nodes-size t v (i + 1) ps (takerNodes t sum p) few ∙ ap (λ x. capped (x + others)) one ∙ capped-add s others ∙ ap capped size
+
+-- how many places, zeros and takers there are
+abbrev pub zeros : ℕ → List ℕ
+zeros k = replicate k 0
+
+taken-length : (t : List ℕ) (action : ℕ) (picks : List ℕ) (i n at : ℕ) → length (takenFrom t action picks i n at) ≡ n
+unfolding takenFrom
+taken-length t action picks i zero at = refl
+taken-length t action picks i (suc n) at = ap suc (taken-length t action picks (i + 1) n (afterAutomaton t at))
+
+pub drop-zeros : (n k : ℕ) → n ≤ k → drop n (zeros k) ≡ zeros (k - n)
+drop-zeros zero k h = let z : k - 0 ≡ k = omega arith in rw z
+drop-zeros (suc n) zero h = absurd (omega arith)
+drop-zeros (suc n) (suc k) h = let z : suc k - suc n ≡ k - n = omega arith in rw z (drop-zeros n k (omega arith))
+
+one-few : (action i : ℕ) (x : Automaton) (pick : ℕ) → length (takerBy action i x pick) ≤ 1
+unfolding takerBy
+one-few action i x zero = omega arith
+one-few action i x (suc j) = omega arith
+
+named-few : (action : ℕ) (picks : List ℕ) (i : ℕ) (xs : List Automaton) → length (takersFrom action picks i xs) ≤ length xs
+unfolding takersFrom
+named-few action picks i [] = omega arith
+named-few action picks i (x ∷ xs) =
+    omega (arith, length-append (takerBy action i x (getD picks i 0)) (takersFrom action picks (suc i) xs), one-few action i x (getD picks i 0), named-few action picks (suc i) xs)
+
+-- The laws of a merged edge, where the picks are valid.
+module _ (m : Model) (lawful : Lawful m) (t rest : List ℕ) (e : t ≡ sheetWords m ++ rest) (action : ℕ) (picks : List ℕ) (valid : Valid action picks 0 (m .automata)) where
+  abbrev named : List Taker
+  named = takersFrom action picks 0 (m .automata)
+
+  places-are : takers t action picks ≡ takenFrom t action picks 0 (length (m .automata)) (automatonAt t 0) ++ replicate (16 - length (m .automata)) 0
+  unfolding takers
+  places-are =
+      let n = length (m .automata) in
+      let few = lawful .few-automata in
+      let count : atMost maxAutomata (automataOf t) ≡ n = ap (atMost maxAutomata) (automata-are m lawful t rest e) ∙ sym (at-most-is n few) in
+      let ps = takenFrom t action picks 0 n (automatonAt t 0) in
+      let size : length ps ≡ n = taken-length t action picks 0 n (automatonAt t 0) in
+      let end : 0 + length ps ≡ n = omega arith in
+      let room : 0 + length ps ≤ length (zeros 16) = omega (arith, length-replicate {A = ℕ} 16 0) in
+      ap (λ c. sets (zeros 16) 0 (takenFrom t action picks 0 c (automatonAt t 0))) count ∙ sets-eq ps (zeros 16) 0 room ∙
+      ap (λ (l : List ℕ). ps ++ l) (ap (λ c. drop c (zeros 16)) end ∙ drop-zeros n 16 few)
+
+  -- a sheet has words
+  some-words : 1 ≤ length t
+  some-words = omega (arith, ap length (sheet-parts t rest m e))
+
+  pub takers-add : AddsAll m t 0 (takers t action picks) named
+  takers-add =
+      let fv = lawful .few-variables in
+      let fn = lawful .few-automata in
+      rw places-are (adds-all m t (m .actions) action picks (m .automata) 0 (automatonAt t 0) (16 - length (m .automata)) _ (lawful .automata) (omega arith) (omega arith) some-words (automata-stand m lawful t rest e) valid)
+
+  -- row 33 for this edge
+  pub edge-deep : updatesDeep t (takers t action picks) ≡ exists (λ y. ltb 23 (depth (y .edge .update))) named
+  edge-deep = takers-add .deep
+
+  abbrev parts : List Pred
+  parts = map (λ y. y .edge .update) named ++ pointerMoves m named
+
+  nodes-read : takersNodes t 1 (takers t action picks) ≡ capped (nodeCount (all (preds parts)))
+  unfolding nodeCount words wordsAll wordsOf
+  nodes-read =
+      let a = takers-add in
+      let us = map (λ (y : Taker). y .edge .update) named in
+      let size : 1 + (length (codes us) + length (codes (pointerMoves m named))) ≡ suc (length (wordsAll (preds parts))) =
+      omega (arith, length-append (codes us) (codes (pointerMoves m named)), ap length (codes-append us (pointerMoves m named)), length-map (wordsAll (preds parts)) code) in
+      nodes-size t (length (m .variables)) 0 (takers t action picks) 1 (omega arith) ∙
+      ap₂ (λ (k l : List ℕ). capped (1 + (length k + length l))) (a .updates) (a .moves) ∙ ap capped size
+
+  -- row 34 for this edge
+  pub edge-nodes : takersNodes t 1 (takers t action picks) ≡ capped (nodeCount (mergedEdge m action named .update))
+  unfolding mergedEdge
+  edge-nodes = nodes-read
+
+  pub edge-words : nodeCount (mergedEdge m action named .update) ≤ most → edgeWordsAt t action picks ≡ lineWords (edgeLine (mergedEdge m action named))
+  unfolding edgeWordsAt edgeBy mergedEdge lineWords predWords words wordsAll wordsOf code
+  edge-words few =
+      let a = takers-add in
+      let us = map (λ (y : Taker). y .edge .update) named in
+      let fn = lawful .few-automata in
+      let fewer : length named ≤ length (m .automata) = named-few action picks 0 (m .automata) in
+      let total : 3 * length named ≡ operands (preds parts) =
+      omega (arith, preds-count parts, length-append us (pointerMoves m named), length-map named (λ (y : Taker). y .edge .update), pointers-length m named) in
+      let small : 3 * length named ≤ most = omega arith in
+      let node : allNode (takersOperands 0 (takers t action picks)) ≡ 0 + 16 * operands (preds parts) =
+      ap allNode (a .operands-add 0 (omega arith) ∙ ap capped (omega arith) ∙ sym (capped-is (3 * length named) small) ∙ total) ∙ all-code (operands (preds parts)) (omega arith) in
+      let nodes : takersNodes t 1 (takers t action picks) ≡ nodeCount (all (preds parts)) = nodes-read ∙ sym (capped-is (nodeCount (all (preds parts))) few) in
+      let both : updatesAt t (takers t action picks) ++ movesAt t (variablesOf t) 0 (takers t action picks) ≡ codes parts =
+      ap₂ (λ (k l : List ℕ). k ++ l) (a .updates) (ap (λ v. movesAt t v 0 (takers t action picks)) (variables-are m lawful t rest e) ∙ a .moves) ∙ sym (codes-append us (pointerMoves m named)) in
+      rw (nodes, node, both)

@@ -1,0 +1,91 @@
+-- The head of the merged sheet is that of the merged model.
+use mathlib.Core.Path.{_≡_, refl, sym, ap, ap₂, _∙_}
+use mathlib.Core.List.{List, [], _∷_, _++_, append-assoc, map, map-append, flatMap, List·Memᴰ, List·Memᴰ·head, List·Memᴰ·tail}
+use Prim.Native.Nat.{ℕ, zero, suc, pred, _+_, _-_, _≤_, _<_}
+use native.Mathlib.Omega.{arith}
+use native.Mathlib.Numerals.{sub-one}
+use lib.IntN.{pos}
+use lib.ListN.{length, getD, drop, length-append, length-map}
+use Rattle.model.specs.Bounds.{bias, maxLocations}
+use Rattle.model.specs.Predicate.{Range, range}
+use Rattle.model.specs.Model.{Automaton, Model}
+use Rattle.model.specs.Lawful.{Lawful}
+use Rattle.model.specs.Lines.{formatLine, actionsLine, variablesLine, variableLine, automataLine, composeLine, automatonLines}
+use Rattle.model.specs.Table.{biased, lineWords, sheetWords}
+use Rattle.model.specs.Linear.{pointerRange, linear}
+use Rattle.table_places.specs.Outline.{reach, afterAutomaton, countAt, automatonAt}
+use Rattle.table_places.proofs.OutlineLaws.{read, reached, wordsOf, automatonWords, words-append, locations-count, after-automaton, ranges-length, sheet-parts, count-at, automaton-at}
+use Rattle.merge_words.specs.Append.{narrow}
+use Rattle.merge_words.specs.Runs.{run}
+use Rattle.merge_words.specs.NodeWords.{upward, pointerOf}
+use Rattle.merge_words.specs.Head.{variablesOf, automataOf, lastLocationAt, pointerRanges, headWords}
+use Rattle.merge_table.proofs.Standing.{narrow-is, run-is, automata-cons}
+
+-- sums of small numbers
+pub pointer-sum : (v i : ℕ) → v < 4294967296 → i < 4294967296 → pointerOf v i ≡ v + i
+unfolding pointerOf
+pointer-sum v i h k = rw (narrow-is v h, narrow-is i k)
+
+pub upward-small : (z : ℕ) → z < 4294967296 → upward z ≡ bias + z
+unfolding upward
+upward-small z h = rw (narrow-is z h)
+
+-- the pointers' ranges
+pub pointers-are : (t : List ℕ) (xs : List Automaton) (rest : List ℕ) (at : ℕ) → ((x : Automaton) → List·Memᴰ x xs → length (x .locations) ≤ maxLocations)
+    → drop at t ≡ automatonWords xs ++ rest → pointerRanges t at (length xs) ≡ wordsOf (map variableLine (map pointerRange xs))
+unfolding pointerRanges lastLocationAt flatMap lineWords pointerRange range biased
+pointers-are t [] rest at few e = refl
+pointers-are t (x ∷ xs) rest at few e =
+    let f = automata-cons t at x xs rest e in
+    let n : getD t (reach t at 2) 0 ≡ length (x .locations) = read t (reach t at 2) (length (x .locations)) _ (locations-count t (automatonWords xs ++ rest) x at f) in
+    let s = few x (List·Memᴰ·head refl) in
+    let small : length (x .locations) - 1 < 4294967296 = omega arith in
+    let top : upward (getD t (reach t at 2) 0 - 1) ≡ bias + pred (length (x .locations)) =
+    ap (λ k. upward (k - 1)) n ∙ upward-small (length (x .locations) - 1) small ∙ ap (λ k. bias + k) (sub-one (length (x .locations))) in
+    ap₂ (λ (y : ℕ) (l : List ℕ). bias ∷ y ∷ l) top
+    (pointers-are t xs rest (afterAutomaton t at) (λ y i. few y (List·Memᴰ·tail i)) (after-automaton t (automatonWords xs ++ rest) x at f))
+
+module _ (m : Model) (lawful : Lawful m) (t rest : List ℕ) (e : t ≡ sheetWords m ++ rest) where
+  pub variables-are : variablesOf t ≡ length (m .variables)
+  variables-are = ap (λ (l : List ℕ). getD l 2 0) (sheet-parts t rest m e)
+
+  pub actions-are : getD t 1 0 ≡ m .actions
+  actions-are = ap (λ (l : List ℕ). getD l 1 0) (sheet-parts t rest m e)
+
+  pub automata-are : automataOf t ≡ length (m .automata)
+  automata-are = read t (countAt t) (length (m .automata)) _ (count-at t rest m e)
+
+  pub automata-stand : drop (automatonAt t 0) t ≡ automatonWords (m .automata) ++ (lineWords (composeLine (m .tree)) ++ rest)
+  automata-stand = automaton-at t rest m e 0 (omega arith)
+
+  pub few-locations : (x : Automaton) → List·Memᴰ x (m .automata) → length (x .locations) ≤ maxLocations
+  few-locations x i = lawful .automata x i .few-locations
+
+  -- the words up to the automaton's are those of the merged model's lines
+  pub head-words : headWords t
+      ≡ wordsOf (formatLine ∷ actionsLine (linear m .actions) ∷ variablesLine (length (linear m .variables)) ∷ (map variableLine (linear m .variables) ++ automataLine 1 ∷ []))
+  unfolding headWords linear flatMap lineWords
+  head-words =
+      let v = length (m .variables) in
+      let n = length (m .automata) in
+      let vs = wordsOf (map variableLine (m .variables)) in
+      let ps = wordsOf (map variableLine (map pointerRange (m .automata))) in
+      let fv = lawful .few-variables in
+      let fn = lawful .few-automata in
+      let sum : pointerOf (variablesOf t) (automataOf t) ≡ length (m .variables ++ map pointerRange (m .automata)) =
+      ap₂ pointerOf variables-are automata-are ∙ pointer-sum v n (omega arith) (omega arith) ∙ omega (arith, length-append (m .variables) (map pointerRange (m .automata)), length-map (m .automata) pointerRange) in
+      let twice : pointerOf (variablesOf t) (variablesOf t) ≡ length vs =
+      ap₂ pointerOf variables-are variables-are ∙ pointer-sum v v (omega arith) (omega arith) ∙ sym (ranges-length (m .variables)) in
+      let first = reached t 0 3 (1 ∷ m .actions ∷ v ∷ []) _ (sheet-parts t rest m e) refl in
+      let copied : run t (reach t 0 3) (pointerOf (variablesOf t) (variablesOf t)) ≡ vs = ap (run t (reach t 0 3)) twice ∙ run-is t vs _ (reach t 0 3) first in
+      let pointed : pointerRanges t (automatonAt t 0) (automataOf t) ≡ ps =
+      ap (pointerRanges t (automatonAt t 0)) automata-are ∙ pointers-are t (m .automata) _ (automatonAt t 0) few-locations automata-stand in
+      let joined : wordsOf (map variableLine (m .variables ++ map pointerRange (m .automata)) ++ automataLine 1 ∷ []) ≡ vs ++ (ps ++ 1 ∷ []) =
+      words-append (map variableLine (m .variables ++ map pointerRange (m .automata))) (automataLine 1 ∷ []) ∙ last in
+      rw (actions-are, sum, copied, pointed) (ap (λ (l : List ℕ). 1 ∷ m .actions ∷ length (m .variables ++ map pointerRange (m .automata)) ∷ l) (sym joined))
+    where
+      last : wordsOf (map variableLine (m .variables ++ map pointerRange (m .automata))) ++ wordsOf (automataLine 1 ∷ [])
+          ≡ wordsOf (map variableLine (m .variables)) ++ (wordsOf (map variableLine (map pointerRange (m .automata))) ++ 1 ∷ [])
+      last =
+          ap (λ (l : List ℕ). l ++ 1 ∷ []) (ap wordsOf (map-append variableLine (m .variables) (map pointerRange (m .automata))) ∙ words-append (map variableLine (m .variables)) (map variableLine (map pointerRange (m .automata)))) ∙
+          append-assoc (wordsOf (map variableLine (m .variables))) (wordsOf (map variableLine (map pointerRange (m .automata)))) (1 ∷ [])

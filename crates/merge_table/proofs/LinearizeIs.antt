@@ -1,0 +1,143 @@
+-- The code's linearization is that of Definition 4, with rows 18, 19 and 31 to 34.
+use mathlib.Core.Path.{_≡_, refl, sym, ap, ap₂, _∙_}
+use mathlib.Core.Bool.{Bool, true, false}
+use mathlib.Core.List.{List, _++_, map}
+use mathlib.Core.Option.{Option, none, some}
+use Prim.Native.Nat.{ℕ, suc, _+_, _≤_}
+use native.Mathlib.Omega.{arith}
+use lib.ListN.{length, replicate, length-replicate}
+use lib.Seq.{sets, length-sets}
+use lib.Dec.{eqb, ltb}
+use borrow.Author.Tests.{le-leb, eq-eqb, ne-eqb}
+use Rattle.model.specs.Bounds.{maxEdges, maxNodes, tableWords}
+use Rattle.model.specs.Model.{Model}
+use Rattle.model.specs.Lawful.{Lawful}
+use Rattle.model.specs.Limits.{broken}
+use Rattle.model.specs.Table.{sheetWords, tableOf, Opened, unopened, opened, openTable}
+use Rattle.model.specs.Linear.{linear, mergedCount, row31, row32, row33, row34, mergeFault}
+use Rattle.table_places.proofs.Opened.{sheet-of}
+use Rattle.table_check.specs.declared.Checked.{Checked}
+use Rattle.table_check.specs.declared.Checked.the-variants.{Good, Refused}
+use Rattle.table_check.specs.Check.{answered}
+use Rattle.merge_words.specs.declared.Linearization.{Linearization}
+use Rattle.merge_words.specs.Append.{narrow, placed, Appended}
+use Rattle.merge_words.specs.MergedEdge.{atMost}
+use Rattle.merge_words.specs.MergedEdges.{movesOf}
+use Rattle.merge_words.specs.MergedSheet.{mergedSheet}
+use Rattle.merge_words.specs.Sync.{ownSets}
+use Rattle.merge_words.specs.Survey.{surveyWhole}
+use Rattle.merge_words.specs.Linearize.{refusedBy, mergedTo, lastAction, isCrowded, faultBy, sheetTable, linearFor, linearBy}
+use Rattle.merge_table.specs.Linearization.{linearModel, linearizationOf, linearization}
+use Rattle.merge_table.proofs.HeadIs.{actions-are}
+use Rattle.merge_table.proofs.CountIs.{count-row, count-exact, counts-few, variables-row}
+use Rattle.merge_table.proofs.SurveyIs.{survey-deep, survey-row34}
+use Rattle.merge_table.proofs.WholeIs.{Kept, rows-kept, whole-table}
+
+module _ (m : Model) (lawful : Lawful m) (t rest : List ℕ) (e : t ≡ sheetWords m ++ rest) where
+  last-is : lastAction t ≡ m .actions
+  unfolding lastAction atMost
+  last-is =
+      let few = lawful .few-actions in
+      let z : atMost 63 (m .actions) ≡ m .actions = rw (le-leb (m .actions) 63 few, atMost) in
+      ap (atMost 63) (actions-are m lawful t rest e) ∙ z
+
+  abbrev own : List ℕ
+  own = ownSets t
+
+  abbrev counted : ℕ
+  counted = movesOf t own 0 (m .actions + 1) 0
+
+  abbrev found : Linearization
+  found = linearFor t own counted (m .actions)
+
+  -- a row that refuses
+  refuses : (row : ℕ) → faultBy t own counted (m .actions) ≡ suc row → mergeFault m ≡ some (suc row) → found ≡ linearModel m
+  unfolding linearFor linearModel
+  refuses row f g =
+      let z : eqb (faultBy t own counted (m .actions)) 0 ≡ false = ne-eqb (faultBy t own counted (m .actions)) 0 (λ q. let n : suc row ≡ 0 = sym f ∙ q in omega arith) in
+      rw (z, linearFor, g, linearModel, f)
+
+  -- no row refuses
+  merges : faultBy t own counted (m .actions) ≡ 0 → mergeFault m ≡ none → found ≡ linearModel m
+  unfolding linearFor linearModel sheetTable
+  merges f g =
+      let ws = mergedSheet t own counted (m .actions) in
+      let zeros : List ℕ = replicate tableWords 0 in
+      let long : length (sets zeros 0 (map narrow ws)) ≡ tableWords = length-sets zeros 0 (map narrow ws) ∙ length-replicate {A = ℕ} tableWords 0 in
+      let there : Appended ws 0 zeros (sets zeros 0 (map narrow ws)) (placed 0 (length ws)) = record { next = refl; memory = refl; long = long } in
+      let table : sheetTable t own counted (m .actions) ≡ tableOf (linear m) = whole-table m lawful t rest e g _ _ there in
+      let count : counted ≡ mergedCount m = count-exact m lawful t rest e (rows-kept m g .edges) in
+      rw (eq-eqb (faultBy t own counted (m .actions)) 0 f, linearFor, g, linearModel) (ap₂ mergedTo count table)
+
+  -- the tests over words are the rows
+  test31 : isCrowded t ≡ row31 m
+  unfolding isCrowded
+  test31 = variables-row m lawful t rest e
+
+  test32 : ltb maxEdges counted ≡ row32 m
+  test32 = count-row m lawful t rest e
+
+  module _ (a : row31 m ≡ false) where
+    module _ (b : row32 m ≡ false) where
+      test33 : surveyWhole t own (m .actions) .deep ≡ row33 m
+      test33 = survey-deep m lawful t rest e (counts-few m lawful t rest e b)
+
+      test34 : ltb maxNodes (surveyWhole t own (m .actions) .nodes) ≡ row34 m
+      test34 = survey-row34 m lawful t rest e (counts-few m lawful t rest e b)
+
+      in34 : row33 m ≡ false → (d : Bool) → row34 m ≡ d → found ≡ linearModel m
+      unfolding faultBy mergeFault broken
+      in34 c true d = refuses 33 (rw (test32 ∙ b, faultBy, test33 ∙ c, faultBy, test34 ∙ d, faultBy)) (rw (a, broken, b, broken, c, broken, d, broken))
+      in34 c false d = merges (rw (test32 ∙ b, faultBy, test33 ∙ c, faultBy, test34 ∙ d, faultBy)) (rw (a, broken, b, broken, c, broken, d, broken))
+
+      in33 : (c : Bool) → row33 m ≡ c → found ≡ linearModel m
+      unfolding faultBy mergeFault broken
+      in33 true c = refuses 32 (rw (test32 ∙ b, faultBy, test33 ∙ c, faultBy)) (rw (a, broken, b, broken, c, broken))
+      in33 false c = in34 c (row34 m) refl
+
+    in32 : (b : Bool) → row32 m ≡ b → found ≡ linearModel m
+    unfolding faultBy mergeFault broken
+    in32 true b = refuses 31 (rw (test32 ∙ b, faultBy)) (rw (a, broken, b, broken))
+    in32 false b = in33 b (row33 m) refl
+
+  -- with A as the code reads it
+  found-is : linearFor t own (movesOf t own 0 (lastAction t + 1) 0) (lastAction t) ≡ found
+  found-is = ap (λ (l : ℕ). linearFor t own (movesOf t own 0 (l + 1) 0) l) last-is
+
+  pub linear-by-is : linearBy t ≡ linearModel m
+  unfolding linearBy linearModel mergeFault broken
+  linear-by-is = in31 (row31 m) refl
+    where
+      in31 : (a : Bool) → row31 m ≡ a → linearBy t ≡ linearModel m
+      in31 true a =
+          let g : mergeFault m ≡ some 31 = rw (a, broken) in
+          rw (test31 ∙ a, linearBy, g, linearModel)
+      in31 false a = rw (test31 ∙ a, linearBy) (found-is ∙ in32 a (row32 m) refl)
+
+-- `linearize`
+module _ (t : List ℕ) (c : Checked) (e : c ≡ answered (openTable t)) (r : Linearization) where
+  pub linearize-refused : (row : ℕ) → c ≡ Refused row → r ≡ refusedBy row → r ≡ linearization t
+  unfolding linearization linearizationOf answered
+  linearize-refused row f h = go (openTable t) refl
+    where
+      go : (o : Opened) → openTable t ≡ o → r ≡ linearizationOf (openTable t)
+      go (unopened x) p =
+          let z : row ≡ x = cc (ap answered p) in
+          h ∙ ap refusedBy z ∙ sym (ap linearizationOf p)
+      go (opened m) p =
+          let z : _≡_ {A = ℕ} 0 1 = cc (ap answered p) in
+          absurd (omega arith)
+
+  pub linearize-good : c ≡ Good → r ≡ linearBy t → r ≡ linearization t
+  unfolding linearization linearizationOf answered
+  linearize-good f h = go (openTable t) refl
+    where
+      go : (o : Opened) → openTable t ≡ o → r ≡ linearizationOf (openTable t)
+      go (unopened x) p =
+          let z : _≡_ {A = ℕ} 0 1 = cc (ap answered p) in
+          absurd (omega arith)
+      go (opened m) p =
+          let s = sheet-of t m p in
+          h ∙ linear-by-is m (s .lawful) t (s .rest) (s .stands) ∙ sym (ap linearizationOf p)
+
+pub ruleset linearize-laws = (linearize-refused, linearize-good)

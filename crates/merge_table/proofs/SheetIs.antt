@@ -1,0 +1,70 @@
+-- The merged sheet's words are those of the merged model.
+use mathlib.Core.Path.{_≡_, refl, sym, ap, ap₂, _∙_}
+use mathlib.Core.Bool.{true, false}
+use mathlib.Core.List.{List, [], _∷_, _++_, append-assoc, append-nil, map, flatMap, List·Memᴰ}
+use Prim.Native.Nat.{ℕ, _+_, _≤_}
+use lib.ListN.{length}
+use Rattle.model.specs.Basic.{keep, countUp}
+use Rattle.model.specs.Bounds.{maxEdges}
+use Rattle.model.specs.Predicate.{nodeCount}
+use Rattle.model.specs.Composition.{leaf, nodes, treeSize}
+use Rattle.model.specs.Model.{Model, Automaton, inSet}
+use Rattle.model.specs.Rules.{Taker}
+use Rattle.model.specs.Lawful.{Lawful}
+use Rattle.model.specs.Lines.{Entry, formatLine, actionsLine, variablesLine, variableLine, automataLine, composeLine, locationLines, automatonLines, lines}
+use Rattle.model.specs.Table.{setWords, predWords, nodeWords, lineWords, sheetWords}
+use Rattle.model.specs.Moves.{moves, moveCount}
+use Rattle.model.specs.Linear.{mergedInit, mergedInv, mergedEdge, mergedEdges, linear}
+use Rattle.table_places.proofs.OutlineLaws.{wordsOf, edgeWords, words-append}
+use Rattle.merge_words.specs.NodeWords.{most}
+use Rattle.merge_words.specs.Head.{headWords}
+use Rattle.merge_words.specs.Clauses.{mergedWords}
+use Rattle.merge_words.specs.Sync.{ownSets, syncBy, syncWords}
+use Rattle.merge_words.specs.MergedEdges.{edgesOf}
+use Rattle.merge_words.specs.MergedSheet.{locationWords, automatonWords, mergedSheet}
+use Rattle.merge_table.proofs.HeadIs.{head-words}
+use Rattle.merge_table.proofs.ClausesAre.{init-words, inv-words}
+use Rattle.merge_table.proofs.SyncIs.{sync-words}
+use Rattle.merge_table.proofs.AllEdgesAre.{edges-words}
+
+module _ (m : Model) (lawful : Lawful m) (t rest : List ℕ) (e : t ≡ sheetWords m ++ rest)
+    (few : (a : ℕ) → a ≤ m .actions → moveCount m a (m .tree) ≤ maxEdges)
+    (init-small : nodeCount (mergedInit m) ≤ most) (inv-small : nodeCount (mergedInv m) ≤ most)
+    (small : (a : ℕ) → a ≤ m .actions → (ts : List Taker) → List·Memᴰ ts (moves m a (m .tree)) → nodeCount (mergedEdge m a ts .update) ≤ most) where
+  abbrev whole : Automaton
+  whole = record {
+    sync = keep (λ a. inSet m a (m .tree)) (countUp 1 (m .actions));
+    locations = record { init = mergedInit m; inv = mergedInv m } ∷ [];
+    edges = mergedEdges m;
+  }
+
+  abbrev front : List Entry
+  front = formatLine ∷ actionsLine (linear m .actions) ∷ variablesLine (length (linear m .variables)) ∷ (map variableLine (linear m .variables) ++ automataLine 1 ∷ [])
+
+  -- the lines of the merged model, in three parts
+  in-parts : lines (linear m) ≡ front ++ (automatonLines whole ++ composeLine (leaf 0) ∷ [])
+  unfolding lines linear flatMap
+  in-parts =
+      ap (λ (l : List Entry). formatLine ∷ actionsLine (linear m .actions) ∷ variablesLine (length (linear m .variables)) ∷ l)
+      (ap (λ (l : List Entry). map variableLine (linear m .variables) ++ (automataLine 1 ∷ (l ++ composeLine (leaf 0) ∷ []))) (append-nil (automatonLines whole)) ∙
+      sym (append-assoc (map variableLine (linear m .variables)) (automataLine 1 ∷ []) (automatonLines whole ++ composeLine (leaf 0) ∷ [])))
+
+  automaton-words : automatonWords t (ownSets t) (length (mergedEdges m)) (m .actions) ≡ wordsOf (automatonLines whole)
+  unfolding automatonWords locationWords automatonLines locationLines flatMap lineWords syncWords
+  automaton-words =
+      let set = sync-words m lawful t rest e in
+      rw (init-words m lawful t rest e init-small, inv-words m lawful t rest e inv-small, edges-words m lawful t rest e few small)
+      (ap (λ (l : List ℕ). l ++ (1 ∷ ((predWords (mergedInit m) ++ predWords (mergedInv m)) ++ (length (mergedEdges m) ∷ edgeWords (mergedEdges m))))) set ∙
+      ap (λ (l : List ℕ). setWords (whole .sync) ++ (1 ∷ l)) (append-assoc (predWords (mergedInit m)) (predWords (mergedInv m)) (length (mergedEdges m) ∷ edgeWords (mergedEdges m))))
+
+  tail-words : 1 ∷ 2 ∷ [] ≡ wordsOf (composeLine (leaf 0) ∷ [])
+  unfolding flatMap lineWords treeSize nodes nodeWords
+  tail-words = refl
+
+  -- the law of the whole
+  pub sheet-words : mergedSheet t (ownSets t) (length (mergedEdges m)) (m .actions) ≡ sheetWords (linear m)
+  unfolding mergedSheet sheetWords
+  sheet-words =
+      sym (ap wordsOf in-parts ∙ words-append front (automatonLines whole ++ composeLine (leaf 0) ∷ []) ∙
+      ap₂ (λ (k l : List ℕ). k ++ l) (sym (head-words m lawful t rest e))
+      (words-append (automatonLines whole) (composeLine (leaf 0) ∷ []) ∙ ap₂ (λ (k l : List ℕ). k ++ l) (sym automaton-words) (sym tail-words)))

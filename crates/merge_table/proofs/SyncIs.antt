@@ -1,0 +1,324 @@
+-- The synchronising set of the merged sheet is that of the merged model.
+use mathlib.Core.Path.{_≡_, refl, sym, ap, ap₂, _∙_}
+use mathlib.Core.Bool.{Bool, true, false, not, _&&_, and-false}
+use mathlib.Core.List.{List, [], _∷_, _++_, append-nil, map, flatMap, List·Memᴰ, List·Memᴰ·head, List·Memᴰ·tail}
+use Prim.Native.Nat.{ℕ, zero, suc, _+_, _-_, _*_, _^_, _%_, _≤_, _<_}
+use native.Mathlib.Omega.{arith}
+use native.Mathlib.Nat.{zero-add, add-zero, add-mul, mul-assoc, mul-comm, one-mul, zero-mul, mod-eq-of-lt}
+use lib.ListN.{length, getD, take, drop, replicate, length-map, length-replicate, List·getD-append, List·getD-map}
+use lib.Seq.{sets, sets-eq, take-at}
+use lib.Dec.{eqb, leb, ltb}
+use lib.Pow.{pow-pos, pow-mono, pow-add}
+use borrow.Author.Tests.{le-leb, lt-leb, ne-eqb}
+use Rattle.model.specs.Basic.{keep, member, countUp}
+use Rattle.model.specs.Bounds.{maxAutomata}
+use Rattle.model.specs.Composition.{treeSize}
+use Rattle.model.specs.Limits.{rises}
+use Rattle.model.specs.Model.{Automaton, Model, nobody, automaton, inSet}
+use Rattle.model.specs.Lawful.{Lawful}
+use Rattle.model.specs.Lines.{composeLine, automatonLines}
+use Rattle.model.specs.Table.{lowBits, highBits, setWords, bit, setOf, lineWords, sheetWords}
+use Rattle.model.proofs.Lists.{keep-append, keep-first, keep-skip, keep-same}
+use Rattle.model.proofs.Numbered.{numbered, size-is, Leaves, leaves-in}
+use Rattle.table_tree.specs.Sets.{oneWord}
+use Rattle.table_tree.specs.Nodes.{treeWords}
+use Rattle.table_tree.specs.Members.{inSetAt}
+use Rattle.table_tree.proofs.SetLaws.{set-member}
+use Rattle.table_tree.proofs.Inside.{list-back, in-set-of}
+use Rattle.table_places.specs.Outline.{reach, afterAutomaton, automatonAt, treeAt}
+use Rattle.table_places.proofs.OutlineLaws.{read, reached, automatonWords, after-automaton, tree-at}
+use Rattle.merge_words.specs.Head.{automataOf}
+use Rattle.merge_words.specs.MergedEdge.{atMost}
+use Rattle.merge_words.specs.Sync.{setsFrom, ownSets, isShared, shifted, bitsFrom, syncBy, syncWords}
+use Rattle.merge_words.proofs.EdgeLaws.{at-most-is}
+use Rattle.merge_table.proofs.Standing.{automata-cons}
+use Rattle.merge_table.proofs.HeadIs.{actions-are, automata-are, automata-stand}
+use Rattle.merge_table.proofs.EdgesAre.{zeros, drop-zeros}
+
+-- the sum of g over the numbers k below n of which f holds, counted from a number on
+unfoldable sumOf : (g : ℕ → ℕ) (f : ℕ → Bool) (from n : ℕ) → ℕ
+sumOf g f from zero = 0
+sumOf g f from (suc n) = elim (f (from + n)) [ true ↦ g n + sumOf g f from n | false ↦ sumOf g f from n ]
+
+abbrev power : ℕ → ℕ
+power k = 2 ^ k
+
+sum-below : (f : ℕ → Bool) (from n : ℕ) → sumOf power f from n < 2 ^ n
+unfolding sumOf
+sum-below f from zero = omega arith
+sum-below f from (suc n) = go (f (from + n)) (sum-below f from n)
+  where
+    two : 2 ^ suc n ≡ 2 ^ n * 2
+    two = let e : suc n ≡ n + 1 = omega arith in ap power e ∙ pow-add 2 n 1
+
+    go : (b : Bool) → sumOf power f from n < 2 ^ n → elim b as (λ c. ℕ) [ true ↦ 2 ^ n + sumOf power f from n | false ↦ sumOf power f from n ] < 2 ^ suc n
+    go true h = omega (arith, two)
+    go false h = omega (arith, two)
+
+sum-none : (f : ℕ → Bool) (from n : ℕ) → sumOf (λ k. 0) f from n ≡ 0
+unfolding sumOf
+sum-none f from zero = refl
+sum-none f from (suc n) = go (f (from + n)) (sum-none f from n)
+  where
+    go : (b : Bool) → sumOf (λ k. 0) f from n ≡ 0 → _≡_ {A = ℕ} (elim b as (λ c. ℕ) [ true ↦ 0 + sumOf (λ k. 0) f from n | false ↦ sumOf (λ k. 0) f from n ]) 0
+    go true h = omega arith
+    go false h = h
+
+-- the bits that the code puts together
+odd : (w P : ℕ) → (w * 2 + 1) * P ≡ w * (P * 2) + P
+odd w P = rw (add-mul (w * 2) 1 P, mul-assoc w 2 P, mul-comm 2 P, one-mul P)
+
+even : (w P : ℕ) → w * 2 * P ≡ w * (P * 2)
+even w P = rw (mul-assoc w 2 P, mul-comm 2 P)
+
+bits-are : (f : ℕ → Bool) (from n w : ℕ) → n ≤ 32 → w < 2 ^ (32 - n) → bitsFrom f from n w ≡ w * 2 ^ n + sumOf power f from n
+unfolding bitsFrom sumOf shifted
+bits-are f from zero w h l = omega arith
+bits-are f from (suc n) w h l = go (f (from + n)) refl (λ v k. bits-are f from n v (omega arith) k)
+  where
+    less : 2 ^ (32 - suc n) ≤ 2 ^ 31
+    less = let z : 32 - suc n ≤ 31 = omega arith in pow-mono z
+
+    same : w % 2147483648 ≡ w
+    same = mod-eq-of-lt (omega (arith, less))
+
+    half : 2 ^ (32 - n) ≡ 2 ^ (32 - suc n) * 2
+    half = let e : 32 - n ≡ 32 - suc n + 1 = omega arith in ap power e ∙ pow-add 2 (32 - suc n) 1
+
+    two : 2 ^ suc n ≡ 2 ^ n * 2
+    two = let e : suc n ≡ n + 1 = omega arith in ap power e ∙ pow-add 2 n 1
+
+    go : (b : Bool) → f (from + n) ≡ b → ((v : ℕ) → v < 2 ^ (32 - n) → bitsFrom f from n v ≡ v * 2 ^ n + sumOf power f from n)
+        → bitsFrom f from n (shifted w (f (from + n))) ≡ w * 2 ^ suc n + elim (f (from + n)) [ true ↦ 2 ^ n + sumOf power f from n | false ↦ sumOf power f from n ]
+    go true q ih =
+        let s : shifted w (f (from + n)) ≡ w * 2 + 1 = rw (q, same) in
+        rw (q, two) (ap (bitsFrom f from n) (ap (shifted w) (sym q) ∙ s) ∙ ih (w * 2 + 1) (omega (arith, half)) ∙ omega (arith, odd w (2 ^ n)))
+    go false q ih =
+        let s : shifted w (f (from + n)) ≡ w * 2 = rw (q, same) in
+        rw (q, two) (ap (bitsFrom f from n) (ap (shifted w) (sym q) ∙ s) ∙ ih (w * 2) (omega (arith, half)) ∙ omega (arith, even w (2 ^ n)))
+
+whole-bits : (f : ℕ → Bool) (from : ℕ) → bitsFrom f from 32 0 ≡ sumOf power f from 32
+whole-bits f from = bits-are f from 32 0 (omega arith) (omega arith) ∙ ap (λ x. x + sumOf power f from 32) (zero-mul (2 ^ 32)) ∙ zero-add (sumOf power f from 32)
+
+-- the numbers counted up, in two parts
+count-split : (s a b : ℕ) → countUp s (a + b) ≡ countUp s a ++ countUp (s + a) b
+unfolding countUp
+count-split s zero b = rw (zero-add b, add-zero s)
+count-split s (suc a) b =
+    let e : suc a + b ≡ suc (a + b) = omega arith in
+    let g : s + suc a ≡ suc s + a = omega arith in
+    rw (e, g) (ap (λ (l : List ℕ). s ∷ l) (count-split (suc s) a b))
+
+count-last : (s n : ℕ) → countUp s (suc n) ≡ countUp s n ++ (s + n) ∷ []
+unfolding countUp
+count-last s n = let e : suc n ≡ n + 1 = omega arith in ap (countUp s) e ∙ count-split s n 1
+
+keep-alike : (f g : ℕ → Bool) (n c : ℕ) → ((k : ℕ) → n ≤ k → k < n + c → f k ≡ g k) → keep f (countUp n c) ≡ keep g (countUp n c)
+unfolding countUp keep
+keep-alike f g n zero h = refl
+keep-alike f g n (suc c) h =
+    keep-same f g n (countUp (suc n) c) (h n (omega arith) (omega arith)) (keep-alike f g (suc n) c (λ k a b. h k (omega arith) (omega arith)))
+
+keep-nothing : (f : ℕ → Bool) (n c : ℕ) → ((k : ℕ) → n ≤ k → f k ≡ false) → keep f (countUp n c) ≡ []
+unfolding countUp keep
+keep-nothing f n zero h = refl
+keep-nothing f n (suc c) h = keep-skip f n (countUp (suc n) c) (h n (omega arith)) ∙ keep-nothing f (suc n) c (λ k a. h k (omega arith))
+
+-- the bits of the numbers that are kept, where B adds up the bits of a list
+kept-sum : (B : List ℕ → ℕ) → B [] ≡ 0 → ((k l : List ℕ) → B (k ++ l) ≡ B k + B l) → (g : ℕ → ℕ) (f : ℕ → Bool) (s n : ℕ) → ((k : ℕ) → k < n → B ((s + k) ∷ []) ≡ g k)
+    → B (keep f (countUp s n)) ≡ sumOf g f s n
+unfolding sumOf countUp keep
+kept-sum B nil app g f s zero single = nil
+kept-sum B nil app g f s (suc n) single =
+    ap (λ (l : List ℕ). B (keep f l)) (count-last s n) ∙ ap B (keep-append f (countUp s n) ((s + n) ∷ [])) ∙ app (keep f (countUp s n)) (keep f ((s + n) ∷ [])) ∙
+    go (f (s + n)) refl (kept-sum B nil app g f s n (λ k h. single k (omega arith))) (single n (omega arith))
+  where
+    go : (b : Bool) → f (s + n) ≡ b → B (keep f (countUp s n)) ≡ sumOf g f s n → B ((s + n) ∷ []) ≡ g n
+        → B (keep f (countUp s n)) + B (keep f ((s + n) ∷ [])) ≡ elim (f (s + n)) [ true ↦ g n + sumOf g f s n | false ↦ sumOf g f s n ]
+    go true q ih one =
+        let e : B (keep f ((s + n) ∷ [])) ≡ g n = ap B (keep-first f (s + n) [] q) ∙ one in
+        rw q (omega arith)
+    go false q ih one =
+        let e : B (keep f ((s + n) ∷ [])) ≡ 0 = ap B (keep-skip f (s + n) [] q) ∙ nil in
+        rw q (omega arith)
+
+low-append : (k l : List ℕ) → lowBits (k ++ l) ≡ lowBits k + lowBits l
+unfolding lowBits
+low-append [] l = sym (zero-add (lowBits l))
+low-append (x ∷ k) l = go (leb x 31) (low-append k l)
+  where
+    go : (b : Bool) → lowBits (k ++ l) ≡ lowBits k + lowBits l
+        → elim b as (λ c. ℕ) [ true ↦ 2 ^ x + lowBits (k ++ l) | false ↦ lowBits (k ++ l) ] ≡ elim b as (λ c. ℕ) [ true ↦ 2 ^ x + lowBits k | false ↦ lowBits k ] + lowBits l
+    go true h = omega arith
+    go false h = h
+
+high-append : (k l : List ℕ) → highBits (k ++ l) ≡ highBits k + highBits l
+unfolding highBits
+high-append [] l = sym (zero-add (highBits l))
+high-append (x ∷ k) l = go (leb x 31) (high-append k l)
+  where
+    go : (b : Bool) → highBits (k ++ l) ≡ highBits k + highBits l
+        → elim b as (λ c. ℕ) [ true ↦ highBits (k ++ l) | false ↦ 2 ^ (x - 32) + highBits (k ++ l) ] ≡ elim b as (λ c. ℕ) [ true ↦ highBits k | false ↦ 2 ^ (x - 32) + highBits k ] + highBits l
+    go true h = h
+    go false h = omega arith
+
+low-one : (x : ℕ) → x ≤ 31 → lowBits (x ∷ []) ≡ 2 ^ x
+unfolding lowBits
+low-one x h = rw (le-leb x 31 h, lowBits) (add-zero (2 ^ x))
+
+low-none : (x : ℕ) → 31 < x → lowBits (x ∷ []) ≡ 0
+unfolding lowBits
+low-none x h = rw (lt-leb x 31 h, lowBits)
+
+high-one : (x : ℕ) → 31 < x → highBits (x ∷ []) ≡ 2 ^ (x - 32)
+unfolding highBits
+high-one x h = rw (lt-leb x 31 h, highBits) (add-zero (2 ^ (x - 32)))
+
+high-none : (x : ℕ) → x ≤ 31 → highBits (x ∷ []) ≡ 0
+unfolding highBits
+high-none x h = rw (le-leb x 31 h, highBits)
+
+nothing-low : lowBits [] ≡ 0
+unfolding lowBits
+nothing-low = refl
+
+nothing-high : highBits [] ≡ 0
+unfolding highBits
+nothing-high = refl
+
+-- the two words of the actions below 64 of which f holds
+halves : (f : ℕ → Bool) → keep f (countUp 0 64) ≡ keep f (countUp 0 32) ++ keep f (countUp 32 32)
+halves f = ap (keep f) (count-split 0 32 32) ∙ keep-append f (countUp 0 32) (countUp 32 32)
+
+low-word : (f : ℕ → Bool) → lowBits (keep f (countUp 0 64)) ≡ sumOf power f 0 32
+low-word f =
+    let a : lowBits (keep f (countUp 0 32)) ≡ sumOf power f 0 32 =
+    kept-sum lowBits nothing-low low-append power f 0 32 (λ k h. low-one (0 + k) (omega arith) ∙ ap power (zero-add k)) in
+    let b : lowBits (keep f (countUp 32 32)) ≡ 0 = kept-sum lowBits nothing-low low-append (λ k. 0) f 32 32 (λ k h. low-none (32 + k) (omega arith)) ∙ sum-none f 32 32 in
+    ap lowBits (halves f) ∙ low-append (keep f (countUp 0 32)) (keep f (countUp 32 32)) ∙ omega arith
+
+high-word : (f : ℕ → Bool) → highBits (keep f (countUp 0 64)) ≡ sumOf power f 32 32
+high-word f =
+    let a : highBits (keep f (countUp 0 32)) ≡ 0 = kept-sum highBits nothing-high high-append (λ k. 0) f 0 32 (λ k h. high-none (0 + k) (omega arith)) ∙ sum-none f 0 32 in
+    let b : highBits (keep f (countUp 32 32)) ≡ sumOf power f 32 32 =
+    kept-sum highBits nothing-high high-append power f 32 32 (λ k h. let z : 32 + k - 32 ≡ k = omega arith in high-one (32 + k) (omega arith) ∙ ap power z) in
+    ap highBits (halves f) ∙ high-append (keep f (countUp 0 32)) (keep f (countUp 32 32)) ∙ omega arith
+
+-- the words of a rising list have 32 bits
+pub set-fits : (A : ℕ) (list : List ℕ) → A ≤ 63 → rises A 0 list ≡ true → (lowBits list < 4294967296) × (highBits list < 4294967296)
+unfolding setOf
+set-fits A list few r =
+    let low = lowBits list in
+    let high = highBits list in
+    let p = keep (bit low) (countUp 0 32) in
+    let q = keep (λ k. bit high (k - 32)) (countUp 32 32) in
+    let back : p ++ q ≡ list = list-back A list few r in
+    let a : lowBits p ≡ sumOf power (bit low) 0 32 = kept-sum lowBits nothing-low low-append power (bit low) 0 32 (λ k h. low-one (0 + k) (omega arith) ∙ ap power (zero-add k)) in
+    let b : lowBits q ≡ 0 = kept-sum lowBits nothing-low low-append (λ k. 0) (λ k. bit high (k - 32)) 32 32 (λ k h. low-none (32 + k) (omega arith)) ∙ sum-none (λ k. bit high (k - 32)) 32 32 in
+    let c : highBits p ≡ 0 = kept-sum highBits nothing-high high-append (λ k. 0) (bit low) 0 32 (λ k h. high-none (0 + k) (omega arith)) ∙ sum-none (bit low) 0 32 in
+    let d : highBits q ≡ sumOf power (λ k. bit high (k - 32)) 32 32 =
+    kept-sum highBits nothing-high high-append power (λ k. bit high (k - 32)) 32 32 (λ k h. let z : 32 + k - 32 ≡ k = omega arith in high-one (32 + k) (omega arith) ∙ ap power z) in
+    let l : lowBits list ≡ sumOf power (bit low) 0 32 = ap lowBits (sym back) ∙ low-append p q ∙ omega arith in
+    let h : highBits list ≡ sumOf power (λ k. bit high (k - 32)) 32 32 = ap highBits (sym back) ∙ high-append p q ∙ omega arith in
+    (omega (arith, sum-below (bit low) 0 32), omega (arith, sum-below (λ k. bit high (k - 32)) 32 32))
+
+-- the automata's own sets
+abbrev pub ownOf : Automaton → ℕ
+ownOf x = oneWord (lowBits (x .sync)) (highBits (x .sync))
+
+sets-are : (t : List ℕ) (xs : List Automaton) (at : ℕ) (rest : List ℕ) → drop at t ≡ automatonWords xs ++ rest → setsFrom t (length xs) at ≡ map ownOf xs
+unfolding setsFrom flatMap automatonLines lineWords setWords
+sets-are t [] at rest e = refl
+sets-are t (x ∷ xs) at rest e =
+    let f = automata-cons t at x xs rest e in
+    let low : getD t at 0 ≡ lowBits (x .sync) = read t at (lowBits (x .sync)) _ f in
+    let high : getD t (reach t at 1) 0 ≡ highBits (x .sync) = read t (reach t at 1) (highBits (x .sync)) _ (reached t at 1 (lowBits (x .sync) ∷ []) _ f refl) in
+    ap₂ (λ (y : ℕ) (l : List ℕ). y ∷ l) (ap₂ oneWord low high) (sets-are t xs (afterAutomaton t at) rest (after-automaton t (automatonWords xs ++ rest) x at f))
+
+module _ (m : Model) (lawful : Lawful m) (t rest : List ℕ) (e : t ≡ sheetWords m ++ rest) where
+  own-are : ownSets t ≡ map ownOf (m .automata) ++ zeros (16 - length (m .automata))
+  unfolding ownSets
+  own-are =
+      let n = length (m .automata) in
+      let few = lawful .few-automata in
+      let count : atMost maxAutomata (automataOf t) ≡ n = ap (atMost maxAutomata) (automata-are m lawful t rest e) ∙ sym (at-most-is n few) in
+      let ps = map ownOf (m .automata) in
+      let size : length ps ≡ n = length-map (m .automata) ownOf in
+      let end : 0 + length ps ≡ n = omega arith in
+      let room : 0 + length ps ≤ length (zeros 16) = omega (arith, length-replicate {A = ℕ} 16 0) in
+      ap (λ c. sets (zeros 16) 0 (setsFrom t c (automatonAt t 0))) count ∙ ap (sets (zeros 16) 0) (sets-are t (m .automata) (automatonAt t 0) _ (automata-stand m lawful t rest e)) ∙
+      sets-eq ps (zeros 16) 0 room ∙ ap (λ (l : List ℕ). ps ++ l) (ap (λ c. drop c (zeros 16)) end ∙ drop-zeros n 16 few)
+
+  own-at : (k : ℕ) → k < length (m .automata) → getD (ownSets t) k 0 ≡ ownOf (automaton m k)
+  unfolding oneWord lowBits highBits
+  own-at k h =
+      let inside : k < length (map ownOf (m .automata)) = omega (arith, length-map (m .automata) ownOf) in
+      ap (λ (l : List ℕ). getD l k 0) own-are ∙ List·getD-append (map ownOf (m .automata)) (zeros (16 - length (m .automata))) 0 k inside ∙ List·getD-map ownOf (m .automata) k nobody
+
+  -- each says of an action what the model says
+  pub own-agree : (action k : ℕ) → k < length (m .automata) → bit (getD (ownSets t) k 0) action ≡ member action (automaton m k .sync)
+  own-agree action k h =
+      let r = rising k h in
+      let f = set-fits (m .actions) (automaton m k .sync) (lawful .few-actions) r in
+      set-member (lowBits (automaton m k .sync)) (highBits (automaton m k .sync)) (f .0) (f .1) (getD (ownSets t) k 0) (own-at k h) action ∙
+      ap (member action) (list-back (m .actions) (automaton m k .sync) (lawful .few-actions) r)
+    where
+      among : (xs : List Automaton) (i : ℕ) → i < length xs → List·Memᴰ (getD xs i nobody) xs
+      among [] i l = absurd (omega arith)
+      among (x ∷ xs) zero l = List·Memᴰ·head refl
+      among (x ∷ xs) (suc i) l = List·Memᴰ·tail (among xs i (omega arith))
+
+      rising : (i : ℕ) → i < length (m .automata) → rises (m .actions) 0 (automaton m i .sync) ≡ true
+      rising i l = lawful .automata (automaton m i) (among (m .automata) i l) .sync
+
+  -- where the tree's nodes stand
+  pub tree-stands : take (length (treeWords (m .tree))) (drop (reach t (treeAt t) 1) t) ≡ treeWords (m .tree)
+  unfolding lineWords
+  tree-stands =
+      let d : drop (reach t (treeAt t) 1) t ≡ treeWords (m .tree) ++ rest = reached t (treeAt t) 1 (treeSize (m .tree) ∷ []) (treeWords (m .tree) ++ rest) (tree-at t rest m e) refl in
+      ap (take (length (treeWords (m .tree)))) d ∙ take-at (treeWords (m .tree)) rest (length (treeWords (m .tree))) refl
+
+  in-set-is : (action : ℕ) → inSetAt t (ownSets t) action (reach t (treeAt t) 1) ≡ inSet m action (m .tree)
+  in-set-is action =
+      in-set-of t (ownSets t) m action (m .actions) (lawful .few-actions) (m .tree) (reach t (treeAt t) 1) (lawful .tree .size) tree-stands (lawful .tree .lists)
+      (leaves-in (m .tree) 0 (numbered (m .tree) _ (lawful .tree .in-order)) (λ k p q. own-agree action k (omega (arith, size-is (m .tree) _ (lawful .tree .in-order)))))
+
+  abbrev inWhole : ℕ → Bool
+  inWhole a = inSet m a (m .tree)
+
+  abbrev test : ℕ → Bool
+  test = isShared t (ownSets t)
+
+  test-none : test 0 ≡ false
+  unfolding isShared
+  test-none = refl
+
+  test-in : (a : ℕ) → 1 ≤ a → a < 1 + m .actions → test a ≡ inWhole a
+  unfolding isShared
+  test-in a h l =
+      let z : eqb a 0 ≡ false = ne-eqb a 0 (λ y. absurd (omega arith)) in
+      let u : leb a (getD t 1 0) ≡ true = ap (leb a) (actions-are m lawful t rest e) ∙ le-leb a (m .actions) (omega arith) in
+      rw (z, u) (in-set-is a)
+
+  test-past : (a : ℕ) → 1 + m .actions ≤ a → test a ≡ false
+  unfolding isShared
+  test-past a h =
+      let z : eqb a 0 ≡ false = ne-eqb a 0 (λ y. absurd (omega arith)) in
+      let u : leb a (getD t 1 0) ≡ false = ap (leb a) (actions-are m lawful t rest e) ∙ lt-leb a (m .actions) (omega arith) in
+      rw (z, u)
+
+  kept-is : keep test (countUp 0 64) ≡ keep inWhole (countUp 1 (m .actions))
+  kept-is =
+      let A = m .actions in
+      let few = lawful .few-actions in
+      let first : keep test (countUp 0 64) ≡ keep test (countUp 1 63) = unfold countUp in keep-skip test 0 (countUp 1 63) test-none in
+      let n : 63 ≡ A + (63 - A) = omega arith in
+      first ∙ ap (λ c. keep test (countUp 1 c)) n ∙ ap (keep test) (count-split 1 A (63 - A)) ∙ keep-append test (countUp 1 A) (countUp (1 + A) (63 - A)) ∙
+      ap₂ (λ (k l : List ℕ). k ++ l) (keep-alike test inWhole 1 A test-in) (keep-nothing test (1 + A) (63 - A) test-past) ∙ append-nil (keep inWhole (countUp 1 A))
+
+  -- the law: the two words are those of the merged automaton's set
+  pub sync-words : syncWords t ≡ setWords (keep (λ a. inSet m a (m .tree)) (countUp 1 (m .actions)))
+  unfolding syncWords syncBy setWords
+  sync-words =
+      ap₂ (λ x y. x ∷ y ∷ []) (whole-bits test 0 ∙ sym (low-word test)) (whole-bits test 32 ∙ sym (high-word test)) ∙
+      ap (λ (l : List ℕ). lowBits l ∷ highBits l ∷ []) kept-is

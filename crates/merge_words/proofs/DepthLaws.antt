@@ -1,0 +1,180 @@
+-- Each way out of the code of src/depth.rt.
+use mathlib.Core.Path.{_≡_, refl, sym, ap, ap₂, _∙_}
+use mathlib.Core.Bool.{Bool, true, false, _||_}
+use mathlib.Core.List.{List, [], _∷_, _++_}
+use Prim.Native.Nat.{ℕ, zero, suc, _+_, _-_, _/_, _%_, _≤_, _<_}
+use native.Mathlib.Omega.{arith}
+use native.Mathlib.Numerals.{sub-one, add-one}
+use lib.ListN.{length, getD, drop, drop-of-length-le}
+use lib.Dec.{eqb, leb, ltb}
+use borrow.Author.Tests.{eq-eqb, ne-eqb, le-leb, lt-leb, lt-ltb, le-ltb}
+use Rattle.model.specs.Bounds.{maxDepth}
+use Rattle.table_places.specs.Outline.{reach, afterPredicate, afterAutomaton, countAt, automatonAt}
+use Rattle.merge_words.specs.declared.depth.Depth.{Depth}
+use Rattle.merge_words.specs.NodeWords.{capped}
+use Rattle.merge_words.specs.Head.{automataOf}
+use Rattle.merge_words.specs.Clauses.{partAt}
+use Rattle.merge_words.specs.Depths.{operandsBy, operandsOf, depthTo, greater, deepest, depthAt, isDeeper, locationsDeeper, automataDeeper, mergedDeep, updateDeep, updatesDeep}
+use Rattle.merge_words.proofs.EdgeLaws.{one-more, no-more}
+
+-- `operands_of`
+module _ (w : ℕ) where
+  pub kind-one : w % 16 ≤ 1 → w / 16 ≡ operandsOf w
+  unfolding operandsOf operandsBy
+  kind-one a = rw (le-leb (w % 16) 1 a, operandsBy)
+
+  module _ (n1 : 1 < w % 16) where
+    pub kind-two : w % 16 ≡ 2 → 1 ≡ operandsOf w
+    unfolding operandsOf operandsBy
+    kind-two a = rw (lt-leb (w % 16) 1 n1, operandsBy, eq-eqb (w % 16) 2 a)
+
+    module _ (n2 : w % 16 ≡ 2 → ⊥) where
+      pub kind-five : w % 16 ≤ 5 → 2 ≡ operandsOf w
+      unfolding operandsOf operandsBy
+      kind-five a = rw (lt-leb (w % 16) 1 n1, operandsBy, ne-eqb (w % 16) 2 n2, le-leb (w % 16) 5 a)
+
+      module _ (n5 : 5 < w % 16) where
+        pub kind-eight : w % 16 ≤ 8 → 0 ≡ operandsOf w
+        unfolding operandsOf operandsBy
+        kind-eight a = rw (lt-leb (w % 16) 1 n1, operandsBy, ne-eqb (w % 16) 2 n2, lt-leb (w % 16) 5 n5, le-leb (w % 16) 8 a)
+
+        module _ (n8 : 8 < w % 16) where
+          pub kind-eleven : w % 16 ≤ 11 → 2 ≡ operandsOf w
+          unfolding operandsOf operandsBy
+          kind-eleven a = rw (lt-leb (w % 16) 1 n1, operandsBy, ne-eqb (w % 16) 2 n2, lt-leb (w % 16) 5 n5, lt-leb (w % 16) 8 n8, le-leb (w % 16) 11 a)
+
+          module _ (n11 : 11 < w % 16) where
+            pub kind-twelve : w % 16 ≡ 12 → 3 ≡ operandsOf w
+            unfolding operandsOf operandsBy
+            kind-twelve a = rw (lt-leb (w % 16) 1 n1, operandsBy, ne-eqb (w % 16) 2 n2, lt-leb (w % 16) 5 n5, lt-leb (w % 16) 8 n8, lt-leb (w % 16) 11 n11, eq-eqb (w % 16) 12 a)
+
+            pub kind-other : (w % 16 ≡ 12 → ⊥) → 0 ≡ operandsOf w
+            unfolding operandsOf operandsBy
+            kind-other a = rw (lt-leb (w % 16) 1 n1, operandsBy, ne-eqb (w % 16) 2 n2, lt-leb (w % 16) 5 n5, lt-leb (w % 16) 8 n8, lt-leb (w % 16) 11 n11, ne-eqb (w % 16) 12 a)
+
+pub ruleset kind-laws = (kind-one, kind-two, kind-five, kind-eight, kind-eleven, kind-twelve, kind-other)
+
+-- `greater`
+module _ (a b : ℕ) where
+  pub greater-second : a < b → b ≡ greater a b
+  unfolding greater
+  greater-second h = rw (lt-ltb a b h, greater)
+
+  pub greater-first : b ≤ a → a ≡ greater a b
+  unfolding greater
+  greater-first h = rw (le-ltb a b h, greater)
+
+pub ruleset greater-laws = (greater-second, greater-first)
+
+-- `depth_at`
+module _ (t : List ℕ) where
+  abbrev D : ℕ → ℕ → Depth
+  D = depthAt t
+
+  pub depth-none : (left at : ℕ) → left ≡ 0 → depthTo 0 at ≡ D left at
+  unfolding depthAt
+  depth-none left at z = rw z
+
+  pub deepest-first : (left at w k s : ℕ) → w ≡ getD t at 0 → k ≡ operandsOf w → s ≡ reach t at 1 → deepest (D (left - 1)) k s 0 ≡ deepest (D (left - 1)) (operandsOf (getD t at 0)) (reach t at 1) 0
+  deepest-first left at w k s ew ek es = rw (es, ek, ew)
+
+  module _ (below rest next d : ℕ) (whole : Depth) (i : deepest (D below) rest next d ≡ whole) where
+    pub deepest-turn : (rest ≡ 0 → ⊥) → (x : Depth) (g : ℕ) → x ≡ D below next → g ≡ greater d (x .depth) → deepest (D below) (rest - 1) (x .next) g ≡ whole
+    unfolding deepest
+    deepest-turn y x g ex eg = rw (eg, ex) (go rest y i)
+      where
+        go : (n : ℕ) → (n ≡ 0 → ⊥) → deepest (D below) n next d ≡ whole → deepest (D below) (n - 1) (D below next .next) (greater d (D below next .depth)) ≡ whole
+        go zero z j = absurd (z refl)
+        go (suc n) z j = rw (sub-one (suc n)) j
+
+  pub depth-is : (left at rest next d r : ℕ) → (left ≡ 0 → ⊥) → deepest (D (left - 1)) rest next d ≡ deepest (D (left - 1)) (operandsOf (getD t at 0)) (reach t at 1) 0
+      → rest ≡ 0 → r ≡ capped (1 + d) → depthTo r next ≡ D left at
+  unfolding depthAt deepest
+  depth-is zero at rest next d r y i z e = absurd (y refl)
+  depth-is (suc n) at rest next d r y i z e =
+      let m : suc n - 1 ≡ n = omega arith in
+      let j : depthTo d next ≡ deepest (D n) (operandsOf (getD t at 0)) (reach t at 1) 0 = rw (z, m) at i in
+      rw (← j, e)
+
+pub ruleset depth-laws = (depth-none, deepest-first, deepest-turn, depth-is)
+
+-- `is_deeper`
+pub deeper-is : (t : List ℕ) (most at s : ℕ) (d : Depth) → s ≡ reach t at 1 → d ≡ depthAt t 25 s → ltb most (d .depth) ≡ isDeeper t most at
+unfolding isDeeper
+deeper-is t most at s d e f = rw (f, e)
+
+-- `locations_deeper`
+module _ (t : List ℕ) (inv : Bool) (most left place : ℕ) (whole : Bool) (i : locationsDeeper t inv most left place ≡ whole) where
+  pub locations-none : left ≡ 0 → false ≡ whole
+  unfolding locationsDeeper
+  locations-none z = rw z at i
+
+  module _ (y : left ≡ 0 → ⊥) (part : ℕ) (b : Bool) (ep : part ≡ partAt t inv place) (eb : b ≡ isDeeper t most part) where
+    split : (n : ℕ) → (n ≡ 0 → ⊥) → locationsDeeper t inv most n place ≡ whole → (b || locationsDeeper t inv most (n - 1) (afterPredicate t (afterPredicate t place))) ≡ whole
+    unfolding locationsDeeper
+    split zero z j = absurd (z refl)
+    split (suc n) z j = rw (sub-one (suc n), eb, ep) j
+
+    pub locations-deep : b ≡ true → true ≡ whole
+    locations-deep h = rw h at (split left y i)
+
+    pub locations-on : b ≡ false → (c d : ℕ) → c ≡ afterPredicate t place → d ≡ afterPredicate t c → locationsDeeper t inv most (left - 1) d ≡ whole
+    locations-on h c d ec ed = rw (ed, ec) (rw h at (split left y i))
+
+pub ruleset locations-deeper-laws = (locations-none, locations-deep, locations-on)
+
+-- `automata_deeper`
+module _ (t : List ℕ) (inv : Bool) (most left place : ℕ) (whole : Bool) (i : automataDeeper t inv most left place ≡ whole) where
+  pub automata-none : left ≡ 0 → false ≡ whole
+  unfolding automataDeeper
+  automata-none z = rw z at i
+
+  module _ (y : left ≡ 0 → ⊥) (s l f : ℕ) (b : Bool) (es : s ≡ reach t place 2) (el : l ≡ getD t s 0) (ef : f ≡ reach t place 3) (eb : b ≡ locationsDeeper t inv most l f) where
+    split-automata : (n : ℕ) → (n ≡ 0 → ⊥) → automataDeeper t inv most n place ≡ whole → (b || automataDeeper t inv most (n - 1) (afterAutomaton t place)) ≡ whole
+    unfolding automataDeeper
+    split-automata zero z j = absurd (z refl)
+    split-automata (suc n) z j = rw (sub-one (suc n), eb, el, es, ef) j
+
+    pub automata-deep : b ≡ true → true ≡ whole
+    automata-deep h = rw h at (split-automata left y i)
+
+    pub automata-on : b ≡ false → (p : ℕ) → p ≡ afterAutomaton t place → automataDeeper t inv most (left - 1) p ≡ whole
+    automata-on h p ep = rw ep (rw h at (split-automata left y i))
+
+pub ruleset automata-deeper-laws = (automata-none, automata-deep, automata-on)
+
+-- `merged_deep`
+pub merged-deep-is : (t : List ℕ) (inv : Bool) (cp n first : ℕ) (r : Bool) → cp ≡ countAt t → n ≡ getD t cp 0 → first ≡ automatonAt t 0 → r ≡ automataDeeper t inv 22 n first → r ≡ mergedDeep t inv
+unfolding mergedDeep
+merged-deep-is t inv cp n first r ec en ef er = rw (er, en, ec, ef)
+
+-- `update_deep`
+module _ (t : List ℕ) (place : ℕ) where
+  pub update-deep-none : place ≡ 0 → false ≡ updateDeep t place
+  unfolding updateDeep
+  update-deep-none z = rw (eq-eqb place 0 z, updateDeep)
+
+  pub update-deep-is : (place ≡ 0 → ⊥) → (s : ℕ) (r : Bool) → s ≡ reach t place 3 → r ≡ isDeeper t 23 s → r ≡ updateDeep t place
+  unfolding updateDeep
+  update-deep-is y s r es er = rw (ne-eqb place 0 y, updateDeep, ← es) er
+
+pub ruleset update-deep-laws = (update-deep-none, update-deep-is)
+
+-- `updates_deep`
+module _ (t places : List ℕ) (i : ℕ) (whole : Bool) (e : length places ≡ 16) (u : updatesDeep t (drop i places) ≡ whole) where
+  pub updates-none : 16 ≤ i → false ≡ whole
+  unfolding updatesDeep
+  updates-none h = sym (ap (updatesDeep t) (no-more places i e h)) ∙ u
+
+  module _ (h : i < 16) (p : ℕ) (b : Bool) (ep : p ≡ getD places i 0) (eb : b ≡ updateDeep t p) where
+    split-updates : (b || updatesDeep t (drop (i + 1) places)) ≡ whole
+    unfolding updatesDeep
+    split-updates = rw (eb, ep) (sym (ap (updatesDeep t) (one-more places i e h)) ∙ u)
+
+    pub updates-deep : b ≡ true → true ≡ whole
+    updates-deep q = rw q at split-updates
+
+    pub updates-on : b ≡ false → updatesDeep t (drop (i + 1) places) ≡ whole
+    updates-on q = rw q at split-updates
+
+pub ruleset updates-deep-laws = (updates-none, updates-deep, updates-on)

@@ -1,0 +1,59 @@
+-- Each way out of the code of src/head.rt.
+use mathlib.Core.Path.{_≡_, refl, sym, ap, ap₂, _∙_}
+use mathlib.Core.List.{List, [], _∷_, _++_}
+use Prim.Native.Nat.{ℕ, zero, suc, _+_, _-_, _≤_, _<_}
+use native.Mathlib.Omega.{arith}
+use native.Mathlib.Numerals.{sub-one}
+use lib.ListN.{length, getD}
+use Rattle.model.specs.Bounds.{bias}
+use Rattle.table_places.specs.Outline.{reach, afterAutomaton, countAt, automatonAt}
+use Rattle.merge_words.specs.Append.{Appended}
+use Rattle.merge_words.specs.Runs.{run}
+use Rattle.merge_words.specs.NodeWords.{upward, pointerOf}
+use Rattle.merge_words.specs.Head.{variablesOf, automataOf, lastLocationAt, pointerRanges, headWords}
+use Rattle.merge_words.proofs.AppendLaws.{then, Underway, begun, on-by, ended}
+
+-- `last_location`
+module _ (t : List ℕ) (at p n : ℕ) (e : p ≡ reach t at 2) (f : n ≡ getD t p 0) where
+  pub last-none : n ≡ 0 → 0 ≡ lastLocationAt t at
+  unfolding lastLocationAt
+  last-none z = let g : getD t (reach t at 2) 0 ≡ 0 = ap (λ k. getD t k 0) (sym e) ∙ sym f ∙ z in rw g
+
+  pub last-is : n - 1 ≡ lastLocationAt t at
+  unfolding lastLocationAt
+  last-is = rw (f, e)
+
+pub ruleset last-laws = (last-none, last-is)
+
+-- `range` and `tail`
+pub two-words : (g h at a r : ℕ) (old mid new : List ℕ) → Appended (g ∷ []) at old mid a → Appended (h ∷ []) a mid new r → Appended (g ∷ h ∷ []) at old new r
+two-words g h at a r old mid new p q = then p q
+
+-- `pointers`
+module _ (t whole old now : List ℕ) (at place left next : ℕ) (u : Underway whole at old (pointerRanges t place left) next now) where
+  pub pointers-turn : (left ≡ 0 → ⊥) → (l h p r : ℕ) (new : List ℕ) → l ≡ lastLocationAt t place → h ≡ upward l → Appended (bias ∷ h ∷ []) next now new r → p ≡ afterAutomaton t place
+      → Underway whole at old (pointerRanges t p (left - 1)) r new
+  unfolding pointerRanges
+  pointers-turn y l h p r new e f a g = rw g (on-by u (go left y) a)
+    where
+      go : (n : ℕ) → (n ≡ 0 → ⊥) → pointerRanges t place n ≡ (bias ∷ h ∷ []) ++ pointerRanges t (afterAutomaton t place) (n - 1)
+      go zero z = absurd (z refl)
+      go (suc n) z = rw (sub-one (suc n), f, e)
+
+  pub pointers-end : left ≡ 0 → Appended whole at old now next
+  unfolding pointerRanges
+  pointers-end z = ended u (rw z)
+
+pub ruleset pointers-laws = (begun, pointers-turn, pointers-end)
+
+-- `head`
+module _ (t : List ℕ) (v cp n : ℕ) (ev : v ≡ getD t 2 0) (ec : cp ≡ countAt t) (en : n ≡ getD t cp 0) where
+  module _ (acts s3 vn vv first : ℕ) (ea : acts ≡ getD t 1 0) (es : s3 ≡ reach t 0 3) (evn : vn ≡ pointerOf v n) (evv : vv ≡ pointerOf v v) (ef : first ≡ automatonAt t 0) where
+    pub head-is : (at a b c d e r : ℕ) (o m1 m2 m3 m4 m5 new : List ℕ)
+        → Appended (1 ∷ []) at o m1 a → Appended (acts ∷ []) a m1 m2 b → Appended (vn ∷ []) b m2 m3 c
+        → Appended (run t s3 vv) c m3 m4 d → Appended (pointerRanges t first n) d m4 m5 e → Appended (1 ∷ []) e m5 new r
+        → Appended (headWords t) at o new r
+    unfolding headWords
+    head-is at a b c d e r o m1 m2 m3 m4 m5 new p1 p2 p3 p4 p5 p6 =
+        let count : n ≡ automataOf t = en ∙ ap (λ k. getD t k 0) ec in
+        rw (← ea, ← es, ← count, ← ev, ← evn, ← evv, ← ef) (then p1 (then p2 (then p3 (then p4 (then p5 p6)))))

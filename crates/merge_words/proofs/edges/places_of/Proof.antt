@@ -1,0 +1,18 @@
+-- `merge_words::edges::places_of` meets its contract.
+use Rattle.merge_words.proofs.Ahead.{layout-edges}
+use Rattle.merge_words.proofs.AllEdgesLaws.{places-are}
+use borrow.Author.Needs.{needs}
+use Rattle.merge_words.proofs.edges.places_of.Statement.{statement}
+use Rattle.merge_words.proofs.edges.places_of.Tie as tie
+
+pick-requires : tie.Need-pick-requires
+pick-requires c κs = search needs
+
+takers-of-requires : tie.Need-takers-of-requires
+takers-of-requires c κs = search (needs, layout-edges)
+
+returns : tie.Need-returns
+returns c = search (needs, places-are)
+
+pub places-of-spec : {M : Type 1} → statement M
+places-of-spec = tie.close (tie.spec pick-requires takers-of-requires returns)

@@ -1,0 +1,46 @@
+-- `merge_words::merged_edge::pointer_move` meets its contract: each way out is a law of EdgeLaws.
+use Rattle.merge_words.proofs.EdgeLaws.{move-laws}
+use borrow.Author.Needs.{needs}
+use Rattle.merge_words.proofs.merged_edge.pointer_move.Statement.{statement}
+use Rattle.merge_words.proofs.merged_edge.pointer_move.Tie as tie
+
+returns : tie.Need-returns
+returns c = search (needs, move-laws)
+
+word-requires : tie.Need-word-requires
+word-requires c κs = search needs
+
+step-requires : tie.Need-step-requires
+step-requires c κs = search needs
+
+word-requires-2 : tie.Need-word-requires-2
+word-requires-2 c κs = search needs
+
+old-node-requires : tie.Need-old-node-requires
+old-node-requires c κs = search needs
+
+equal-requires : tie.Need-equal-requires
+equal-requires c κs = search needs
+
+new-node-requires : tie.Need-new-node-requires
+new-node-requires c κs = search needs
+
+equal-requires-2 : tie.Need-equal-requires-2
+equal-requires-2 c κs = search needs
+
+returns-2 : tie.Need-returns-2
+returns-2 c = search (needs, move-laws)
+
+pub pointer-move-spec : {M : Type 1} → statement M
+pointer-move-spec =
+    tie.close
+    (tie.spec
+    returns
+    word-requires
+    step-requires
+    word-requires-2
+    old-node-requires
+    equal-requires
+    new-node-requires
+    equal-requires-2
+    returns-2)

@@ -1,0 +1,24 @@
+-- `merge_words::rows::crowded` meets its contract.
+use Rattle.merge_words.proofs.LinearizeLaws.{crowded-is}
+use borrow.Author.Needs.{needs}
+use Rattle.merge_words.proofs.rows.crowded.Statement.{statement}
+use Rattle.merge_words.proofs.rows.crowded.Tie as tie
+
+count-at-requires : tie.Need-count-at-requires
+count-at-requires c κs = search needs
+
+word-requires : tie.Need-word-requires
+word-requires c κs = search needs
+
+word-requires-2 : tie.Need-word-requires-2
+word-requires-2 c κs = search needs
+
+pointer-requires : tie.Need-pointer-requires
+pointer-requires c κs = search needs
+
+returns : tie.Need-returns
+returns c = search (needs, crowded-is)
+
+pub crowded-spec : {M : Type 1} → statement M
+crowded-spec =
+    tie.close (tie.spec count-at-requires word-requires word-requires-2 pointer-requires returns)

@@ -1,0 +1,17 @@
+-- `merge_words::survey::whole` meets its contract.
+use Rattle.merge_words.proofs.SurveyLaws.{whole-is}
+use borrow.Author.Needs.{needs}
+use Rattle.merge_words.proofs.survey.whole.Statement.{statement}
+use Rattle.merge_words.proofs.survey.whole.Tie as tie
+
+start-requires : tie.Need-start-requires
+start-requires c κs = search needs
+
+all-survey-requires : tie.Need-all-survey-requires
+all-survey-requires c κs = search needs
+
+returns : tie.Need-returns
+returns c = search (needs, whole-is)
+
+pub whole-spec : {M : Type 1} → statement M
+whole-spec = tie.close (tie.spec start-requires all-survey-requires returns)

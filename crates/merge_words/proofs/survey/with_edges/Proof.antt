@@ -1,0 +1,37 @@
+-- `merge_words::survey::with_edges` meets its contract: from each turn on, the definition goes on to the same survey. The measure is the moves left.
+use Rattle.merge_words.proofs.SurveyLaws.{with-edges-laws}
+use mathlib.Core.Path.{_≡_}
+use Prim.Native.Nat.{_-_, _≤_}
+use Rattle.merge_words.specs.Survey.{surveyFrom}
+use borrow.Author.Needs.{needs}
+use Rattle.merge_words.proofs.survey.with_edges.Statement.{statement}
+use Rattle.merge_words.proofs.survey.with_edges.Tie as tie
+
+abbrev Inv-loop : tie.InvT-loop
+Inv-loop t x action cells count k₀ sofar₀ k sofar = (k ≤ count) × (surveyFrom t cells action k (count - k) sofar ≡ surveyFrom t cells action 0 count sofar₀)
+
+abbrev μ-loop : tie.MeasureT-loop
+μ-loop t x action cells count k₀ sofar₀ k sofar = count - k
+
+loop-holds : tie.Need-loop-holds Inv-loop μ-loop
+loop-holds c = search (needs, with-edges-laws)
+
+with-edge-requires : tie.Need-with-edge-requires Inv-loop μ-loop
+with-edge-requires c κs = search needs
+
+add-k : tie.Need-add-k Inv-loop μ-loop
+add-k c = search needs
+
+loop-less : tie.Need-loop-less Inv-loop μ-loop
+loop-less c = search needs
+
+loop-again : tie.Need-loop-again Inv-loop μ-loop
+loop-again c = search (needs, with-edges-laws)
+
+returns : tie.Need-returns Inv-loop μ-loop
+returns c = search (needs, with-edges-laws)
+
+pub with-edges-spec : {M : Type 1} → statement M
+with-edges-spec =
+    tie.close
+    (tie.spec Inv-loop μ-loop loop-holds with-edge-requires add-k loop-less loop-again returns)

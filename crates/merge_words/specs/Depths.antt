@@ -1,0 +1,86 @@
+-- How deep the nodes nest that stand from a place on. On the words of a predicate it is the predicate's depth: the law depth-of.
+use mathlib.Core.Bool.{Bool, true, false, _||_}
+use mathlib.Core.List.{List, [], _∷_}
+use Prim.Native.Nat.{ℕ, zero, suc, _+_, _/_, _%_, max}
+use lib.ListN.{getD}
+use lib.Dec.{eqb, leb, ltb}
+use Rattle.model.specs.Bounds.{maxDepth}
+use Rattle.table_places.specs.Outline.{reach, afterPredicate, afterAutomaton, automatonAt}
+use Rattle.merge_words.specs.declared.depth.Depth.{Depth}
+use Rattle.merge_words.specs.Head.{automataOf}
+use Rattle.merge_words.specs.Clauses.{partAt}
+use Rattle.merge_words.specs.NodeWords.{capped}
+
+-- the operands of a node, by its kind: K of `all` and `any`; one of `not`; two of `imp`, `eq`, `le`; none of a number or a
+-- variable; two of `add`, `sub`, `mul`; three of `if`
+unfoldable pub operandsBy : (kind argument : ℕ) → ℕ
+operandsBy kind k =
+    elim (leb kind 1) [
+      | true ↦ k
+      | false ↦
+          elim (eqb kind 2) [
+            | true ↦ 1
+            | false ↦
+                elim (leb kind 5) [
+                  | true ↦ 2
+                  | false ↦
+                      elim (leb kind 8) [
+                        | true ↦ 0
+                        | false ↦
+                            elim (leb kind 11) [
+                              | true ↦ 2
+                              | false ↦
+                                  elim (eqb kind 12) [ true ↦ 3 | false ↦ 0 ]
+                            ]
+                      ]
+                ]
+          ]
+    ]
+
+unfoldable pub operandsOf : (word : ℕ) → ℕ
+operandsOf w = operandsBy (w % 16) (w / 16)
+
+abbrev pub depthTo : (depth next : ℕ) → Depth
+depthTo d next = record { depth = d; next = next }
+
+unfoldable pub greater : ℕ → ℕ → ℕ
+greater a b = elim (ltb a b) [ true ↦ b | false ↦ a ]
+
+-- the deepest of n operands in a row, where D reads the one at a place
+unfoldable pub deepest : (D : ℕ → Depth) (n at d : ℕ) → Depth
+deepest D zero at d = depthTo d at
+deepest D (suc n) at d = deepest D n (D at .next) (greater d (D at .depth))
+
+-- the node at a place, and its operands, nested at most `left` deep; deeper ones are not read
+unfoldable pub depthAt : (t : List ℕ) (left at : ℕ) → Depth
+depthAt t zero at = depthTo 0 at
+depthAt t (suc n) at =
+    depthTo (capped (1 + deepest (λ a. depthAt t n a) (operandsOf (getD t at 0)) (reach t at 1) 0 .depth))
+    (deepest (λ a. depthAt t n a) (operandsOf (getD t at 0)) (reach t at 1) 0 .next)
+
+-- is the predicate at a place deeper than `most`?
+unfoldable pub isDeeper : (t : List ℕ) (most at : ℕ) → Bool
+isDeeper t most at = ltb most (depthAt t (maxDepth + 1) (reach t at 1) .depth)
+
+-- is one of n locations' inits (or invs) deeper?
+unfoldable pub locationsDeeper : (t : List ℕ) (inv : Bool) (most n at : ℕ) → Bool
+locationsDeeper t inv most zero at = false
+locationsDeeper t inv most (suc n) at =
+    isDeeper t most (partAt t inv at) || locationsDeeper t inv most n (afterPredicate t (afterPredicate t at))
+
+unfoldable pub automataDeeper : (t : List ℕ) (inv : Bool) (most n at : ℕ) → Bool
+automataDeeper t inv most zero at = false
+automataDeeper t inv most (suc n) at =
+    locationsDeeper t inv most (getD t (reach t at 2) 0) (reach t at 3) || automataDeeper t inv most n (afterAutomaton t at)
+
+-- so the merged init, two deeper, is too deep
+unfoldable pub mergedDeep : (t : List ℕ) (inv : Bool) → Bool
+mergedDeep t inv = automataDeeper t inv 22 (automataOf t) (automatonAt t 0)
+
+-- and a merged edge's update, one deeper than the takers'
+unfoldable pub updateDeep : (t : List ℕ) (place : ℕ) → Bool
+updateDeep t place = elim (eqb place 0) [ true ↦ false | false ↦ isDeeper t 23 (reach t place 3) ]
+
+unfoldable pub updatesDeep : (t : List ℕ) (places : List ℕ) → Bool
+updatesDeep t [] = false
+updatesDeep t (p ∷ ps) = updateDeep t p || updatesDeep t ps

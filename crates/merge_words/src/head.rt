@@ -1,0 +1,75 @@
+// The merged sheet's words before its automaton.
+use crate::node_words::{self};
+use crate::put::{self};
+ghost use mathlib.Core.Path.{_≡_};
+ghost use mathlib.Core.List.{[], _∷_};
+ghost use lib.ListN.{length};
+ghost use Rattle.model.specs.Bounds.{tableWords, bias};
+ghost use Rattle.merge_words.specs.Append.{Appended};
+ghost use Rattle.merge_words.specs.Head.{lastLocationAt, pointerRanges, headWords};
+
+// The last location of the automaton at a place.
+fn last_location(t: &[u32], at: usize) -> usize
+    ensures { λ r. ⌜ r ≡ lastLocationAt (now (t .entry)) at ⌝ }
+{
+    let locations = table_places::word(t, table_places::step(t, at, 2));
+    if locations == 0 {
+        return 0;
+    }
+    locations - 1
+}
+
+// A pointer's range: from 0 to the last location.
+fn range(high: usize, out: &mut [u32; 8192], at: usize) -> usize
+    requires { ⌜ length (now out) ≡ tableWords ⌝ }
+    ensures { λ r. ⌜ Appended (bias ∷ high ∷ []) at (now (out .entry)) (now (out .exit)) r ⌝ }
+{
+    let next = put::put(32768, out, at);
+    put::put(high, out, next)
+}
+
+// The ranges of `count` pointers, the first one's automaton standing at `first`.
+fn pointers(t: &[u32], first: usize, count: usize, out: &mut [u32; 8192], at: usize) -> usize
+    requires { ⌜ length (now out) ≡ tableWords ⌝ }
+    ensures { λ r. ⌜ Appended (pointerRanges (now (t .entry)) first count) at (now (out .entry)) (now (out .exit)) r ⌝ }
+{
+    let mut left = count;
+    let mut place = first;
+    let mut next = at;
+    while left != 0 {
+        next = range(node_words::upward(last_location(t, place)), out, next);
+        place = table_places::after_automaton(t, place);
+        left -= 1;
+    }
+    next
+}
+
+// Format, actions, V + N, the ranges, and one automaton.
+pub fn head(t: &[u32], out: &mut [u32; 8192], at: usize) -> usize
+    requires { ⌜ length (now out) ≡ tableWords ⌝ }
+    ensures { λ r. ⌜ Appended (headWords (now (t .entry))) at (now (out .entry)) (now (out .exit)) r ⌝ }
+{
+    let variables = table_places::word(t, 2);
+    let automata = table_places::word(t, table_places::count_at(t));
+    let a = put::put(1, out, at);
+    let b = put::put(table_places::word(t, 1), out, a);
+    let c = put::put(node_words::pointer(variables, automata), out, b);
+    let d = put::copy(
+        t,
+        table_places::step(t, 0, 3),
+        node_words::pointer(variables, variables),
+        out,
+        c,
+    );
+    let e = pointers(t, table_places::automaton_at(t, 0), automata, out, d);
+    put::put(1, out, e)
+}
+
+// The merged sheet's last words: a tree of one leaf.
+pub fn tail(out: &mut [u32; 8192], at: usize) -> usize
+    requires { ⌜ length (now out) ≡ tableWords ⌝ }
+    ensures { λ r. ⌜ Appended (1 ∷ 2 ∷ []) at (now (out .entry)) (now (out .exit)) r ⌝ }
+{
+    let next = put::put(1, out, at);
+    put::put(2, out, next)
+}

@@ -1,0 +1,281 @@
+-- Each way out of the code of src/edge.rt.
+use Prim.Native.Nat.{ℕ, zero, suc, _+_, _-_, _≤_, _<_}
+use mathlib.Core.Path.{_≡_, refl, sym, _∙_, ap}
+use mathlib.Core.Bool.{Bool, true, false, not, _||_}
+use mathlib.Core.List.{List, [], _∷_}
+use mathlib.Core.Option.{Option, none, some}
+use native.Mathlib.Omega.{arith}
+use lib.ListN.{length, getD, take, drop}
+use lib.IntN.{pos}
+use lib.Dec.{leb, ltb}
+use Rattle.model.specs.Bounds.{maxNodes}
+use Rattle.model.specs.Limits.{broken}
+use Rattle.line_order.specs.declared.Counts.{Counts}
+use Rattle.format.specs.Bytes.{Bytes, comma}
+use Rattle.format.specs.Number.{within, naturalOf}
+use Rattle.text_bytes.specs.Find.{firstFrom}
+use Rattle.text_bytes.specs.Number.{naturalIn}
+use Rattle.text_bytes.specs.declared.answer.Natural.{Natural}
+use Rattle.text_bytes.specs.declared.answer.Natural.the-variants.{In, Out}
+use Rattle.text_bytes.proofs.NumberLaws.{natural-said, natural-denied}
+use Rattle.text_bytes.proofs.FindLaws.{find-after}
+use Rattle.read_predicate.proofs.Parting.{partsFrom, from-start, from-past, from-step}
+use Rattle.read_line.specs.declared.LineRead.{LineRead}
+use Rattle.read_line.specs.declared.LineRead.the-variants.{Sound, Fault}
+use Rattle.read_line.specs.declared.predicates.Nodes.the-variants as N
+use Rattle.read_line.specs.declared.predicates.Nodes.{Nodes}
+use Rattle.read_line.specs.declared.edge.Ends.{Ends}
+use Rattle.read_line.specs.declared.edge.Ends.the-variants.{Are, Unsound}
+use Rattle.read_line.specs.Append.{nextPlace, put}
+use Rattle.read_line.specs.Form.{valueAfter, misformed}
+use Rattle.read_line.specs.Predicate.{codesOf, predicateFault, PredicateRead, counted, lineTold, lineAfter}
+use Rattle.read_line.specs.Edge.{fieldIn, endsSound, endsIn, astray, thenRow, valueFault, valueWords, valueRead, afterValue, edgeName, edgeFault, edgeRead, edgeAfter}
+use Rattle.read_line.proofs.PredicateLaws.{told-are, told-row, are-few, more-next, more-put, line-row, line-kept, line-sound, line-put, broken-hit, broken-past}
+
+-- `field`: what is left of the fields, from a place on
+pub record Fields (v : Bytes) (number at left : ℕ) : Type 0 where
+  pub inside : at ≤ length v
+  pub same : getD (partsFrom comma v at) left [] ≡ fieldIn number v
+
+pub field-first : (v : Bytes) (number : ℕ) → Fields v number 0 number
+unfolding fieldIn
+field-first v number = record { inside = omega arith; same = ap (λ (l : List Bytes). getD l number []) (from-start comma v) }
+
+later : (x : Bytes) (l : List Bytes) (left : ℕ) → (left ≡ 0 → ⊥) → getD (x ∷ l) left [] ≡ getD l (left - 1) []
+later x l zero h = absurd (h refl)
+later x l (suc n) h = ap (λ (m : ℕ). getD l m []) (omega arith)
+
+module _ (v : Bytes) (number at left : ℕ) (inv : Fields v number at left) (r : ℕ) (e : r ≡ firstFrom v at 44) where
+  turn : partsFrom comma v at ≡ take (r - at) (drop at v) ∷ partsFrom comma v (r + 1)
+  turn = from-step comma v at r (inv .inside) e
+
+  pub field-after : at ≤ r
+  field-after = find-after v at 44 r (inv .inside) e
+
+  module _ (more : left ≡ 0 → ⊥) where
+    rest-is : getD (partsFrom comma v (r + 1)) (left - 1) [] ≡ fieldIn number v
+    rest-is = sym (later (take (r - at) (drop at v)) (partsFrom comma v (r + 1)) left more) ∙ ap (λ (l : List Bytes). getD l left []) (sym turn) ∙ inv .same
+
+    pub field-none : length v ≤ r → _≡_ {A = List ℕ} [] (fieldIn number v)
+    field-none h = ap (λ (l : List Bytes). getD l (left - 1) []) (sym (from-past comma v (r + 1) (omega arith))) ∙ rest-is
+
+    pub field-on : r < length v → Fields v number (r + 1) (left - 1)
+    field-on h = record { inside = omega arith; same = rest-is }
+
+  pub field-here : left ≡ 0 → take (r - at) (drop at v) ≡ fieldIn number v
+  field-here h = ap (λ (l : List Bytes). getD l 0 []) (sym turn) ∙ ap (λ (n : ℕ). getD (partsFrom comma v at) n []) (sym h) ∙ inv .same
+
+pub ruleset field-laws = (field-first, field-after, field-none, field-on, field-here)
+
+-- `read_ends`
+ends-no : (v : Bytes) → endsSound v ≡ false → Unsound ≡ endsIn v
+unfolding endsIn
+ends-no v h = rw (h, endsIn)
+
+ends-yes : (v : Bytes) → endsSound v ≡ true → Are (naturalOf (fieldIn 0 v)) (naturalOf (fieldIn 1 v)) (naturalOf (fieldIn 2 v)) ≡ endsIn v
+unfolding endsIn
+ends-yes v h = rw (h, endsIn)
+
+-- one number
+module _ (s f : Bytes) (hf : f ≡ s) (high : ℕ) (m : Natural) (hm : m ≡ naturalIn f high) where
+  number-is : naturalIn s high ≡ m
+  number-is = ap (λ (x : Bytes). naturalIn x high) (sym hf) ∙ sym hm
+
+  number-out : m ≡ Out → within (pos 0) (pos high) s ≡ false
+  number-out e = natural-denied s high (number-is ∙ e)
+
+  number-in : (n : ℕ) → m ≡ In n → (within (pos 0) (pos high) s ≡ true) × (naturalOf s ≡ n)
+  number-in n e = natural-said s high n (number-is ∙ e)
+
+module _ (v f : Bytes) (hf : f ≡ fieldIn 0 v) (m : Natural) (hm : m ≡ naturalIn f 31) where
+  pub ends-from : m ≡ Out → Unsound ≡ endsIn v
+  unfolding endsSound
+  ends-from e = ends-no v (rw (number-out (fieldIn 0 v) f hf 31 m hm e))
+
+  module _ (from : ℕ) (e : m ≡ In from) (g : Bytes) (hg : g ≡ fieldIn 1 v) (k : Natural) (hk : k ≡ naturalIn g 63) where
+    pub ends-action : k ≡ Out → Unsound ≡ endsIn v
+    unfolding endsSound
+    ends-action i = ends-no v (rw (number-in (fieldIn 0 v) f hf 31 m hm from e .0, number-out (fieldIn 1 v) g hg 63 k hk i))
+
+    module _ (action : ℕ) (i : k ≡ In action) (h : Bytes) (hh : h ≡ fieldIn 2 v) (l : Natural) (hl : l ≡ naturalIn h 31) where
+      pub ends-to : l ≡ Out → Unsound ≡ endsIn v
+      unfolding endsSound
+      ends-to j =
+          ends-no v
+          (rw (number-in (fieldIn 0 v) f hf 31 m hm from e .0, number-in (fieldIn 1 v) g hg 63 k hk action i .0, number-out (fieldIn 2 v) h hh 31 l hl j))
+
+      pub ends-are : (to : ℕ) → l ≡ In to → Are from action to ≡ endsIn v
+      unfolding endsSound
+      ends-are to j =
+          let a = number-in (fieldIn 0 v) f hf 31 m hm from e in
+          let b = number-in (fieldIn 1 v) g hg 63 k hk action i in
+          let d = number-in (fieldIn 2 v) h hh 31 l hl to j in
+          let all : endsSound v ≡ true = rw (a .0, b .0, d .0) in
+          rw (← a .1, ← b .1, ← d .1) (ends-yes v all)
+
+pub ruleset ends-laws = (ends-from, ends-action, ends-to, ends-are)
+
+-- `astray`
+pub astray-by : (c : Counts) (from action to i j k : ℕ) → i ≡ from → j ≡ action → k ≡ to → (leb (c .locations) i || (ltb (c .actions) j || leb (c .locations) k)) ≡ astray c from action to
+unfolding astray
+astray-by c from action to i j k hi hj hk = rw (hi, hj, hk)
+
+-- `append_edge`: three words, and then those of the predicate
+module _ (at from action to n : ℕ) (l : List ℕ) (a : ℕ) (ha : a ≡ nextPlace at 1) (b : ℕ) (hb : b ≡ nextPlace a 1) (d : ℕ) (hd : d ≡ nextPlace b 1) where
+  pub edge-next : (r : ℕ) → r ≡ nextPlace d (suc (length l)) → r ≡ nextPlace at (suc (suc (suc (suc (length l)))))
+  edge-next r hr = more-next at from (action ∷ to ∷ n ∷ l) a ha r (more-next a action (to ∷ n ∷ l) b hb r (more-next b to (n ∷ l) d hd r hr))
+
+  pub edge-filled : (old x y z new : List ℕ) → x ≡ put at (from ∷ []) old → y ≡ put a (action ∷ []) x → z ≡ put b (to ∷ []) y → new ≡ put d (n ∷ l) z
+      → new ≡ put at (from ∷ action ∷ to ∷ n ∷ l) old
+  edge-filled old x y z new hx hy hz hn =
+      more-put at from (action ∷ to ∷ n ∷ l) a ha old x new hx (more-put a action (to ∷ n ∷ l) b hb x y new hy (more-put b to (n ∷ l) d hd y z new hz hn))
+
+pub ruleset append-edge-laws = (edge-next, edge-filled)
+
+-- `read_value`
+ends-none : (v : Bytes) → endsIn v ≡ Unsound → endsSound v ≡ false
+unfolding endsIn
+ends-none v e = go (endsSound v) e
+  where
+    go : (b : Bool) → elim b as (λ x. Ends) [ true ↦ Are (naturalOf (fieldIn 0 v)) (naturalOf (fieldIn 1 v)) (naturalOf (fieldIn 2 v)) | false ↦ Unsound ] ≡ Unsound → b ≡ false
+    go true k = absurd (let q : _≡_ {A = ℕ} 0 1 = cc in omega arith)
+    go false k = refl
+
+record EndsOf (v : Bytes) (from action to : ℕ) : Type 0 where
+  sound : endsSound v ≡ true
+  first : naturalOf (fieldIn 0 v) ≡ from
+  second : naturalOf (fieldIn 1 v) ≡ action
+  third : naturalOf (fieldIn 2 v) ≡ to
+
+ends-some : (v : Bytes) (from action to : ℕ) → endsIn v ≡ Are from action to → EndsOf v from action to
+unfolding endsIn
+ends-some v from action to e = go (endsSound v) refl e
+  where
+    go : (b : Bool) → endsSound v ≡ b
+        → elim b as (λ x. Ends) [ true ↦ Are (naturalOf (fieldIn 0 v)) (naturalOf (fieldIn 1 v)) (naturalOf (fieldIn 2 v)) | false ↦ Unsound ] ≡ Are from action to
+        → EndsOf v from action to
+    go true h k = record { sound = h; first = cc; second = cc; third = cc }
+    go false h k = absurd (let q : _≡_ {A = ℕ} 0 1 = cc in omega arith)
+
+module _ (v : Bytes) (c : Counts) (t : List ℕ) (at : ℕ) (q : Ends) (hq : q ≡ endsIn v) where
+  -- a row that is broken is the answer, and the buffer is left as it was
+  row-told : (row : ℕ) → valueFault c t v ≡ some row → Fault row ≡ valueRead c t v at
+  unfolding valueRead
+  row-told row h = line-row _ row _ at _ h
+
+  row-kept : (row : ℕ) → valueFault c t v ≡ some row → t ≡ afterValue c t v at
+  unfolding afterValue
+  row-kept row h = line-kept _ row at _ t h
+
+  module _ (e : q ≡ Unsound) where
+    ends-row : valueFault c t v ≡ some 3
+    unfolding valueFault
+    ends-row = broken-hit 3 _ _ (ap not (ends-none v (sym hq ∙ e)))
+
+    pub value-unsound : Fault 3 ≡ valueRead c t v at
+    value-unsound = row-told 3 ends-row
+
+    pub value-unsound-kept : t ≡ afterValue c t v at
+    value-unsound-kept = row-kept 3 ends-row
+
+  module _ (from action to : ℕ) (e : q ≡ Are from action to) (f : Bytes) (hf : f ≡ fieldIn 3 v) (scratch : List ℕ) (r : Nodes)
+      (k : PredicateRead f (predicateFault f false c t) scratch r) where
+    ends-of : EndsOf v from action to
+    ends-of = ends-some v from action to (sym hq ∙ e)
+
+    past-ends : valueFault c t v ≡ thenRow (predicateFault f false c t) (broken 12 (astray c from action to) none)
+    unfolding valueFault
+    past-ends = broken-past 3 _ _ (ap not (ends-of .sound)) ∙ rw (ends-of .first, ends-of .second, ends-of .third, ← hf)
+
+    module _ (row : ℕ) (g : r ≡ N.Unsound row) where
+      its-row : valueFault c t v ≡ some row
+      unfolding thenRow
+      its-row = past-ends ∙ ap (λ (o : Option ℕ). thenRow o (broken 12 (astray c from action to) none)) (told-row _ row _ (sym (k .answered) ∙ g))
+
+      pub value-row : Fault row ≡ valueRead c t v at
+      value-row = row-told row its-row
+
+      pub value-row-kept : t ≡ afterValue c t v at
+      value-row-kept = row-kept row its-row
+
+    module _ (n : ℕ) (g : r ≡ N.Are n) where
+      fine : (predicateFault f false c t ≡ none) × (n ≡ length (codesOf f))
+      fine = told-are _ n _ (sym (k .answered) ∙ g)
+
+      last-row : valueFault c t v ≡ broken 12 (astray c from action to) none
+      unfolding thenRow
+      last-row = past-ends ∙ ap (λ (o : Option ℕ). thenRow o (broken 12 (astray c from action to) none)) (fine .0)
+
+      pub value-few : n ≤ maxNodes
+      value-few = are-few f false c t scratch r n k g
+
+      module _ (w : Bool) (hw : w ≡ astray c from action to) where
+        module _ (i : w ≡ true) where
+          pub value-astray : Fault 12 ≡ valueRead c t v at
+          value-astray = row-told 12 (last-row ∙ broken-hit 12 _ _ (sym hw ∙ i))
+
+          pub value-astray-kept : t ≡ afterValue c t v at
+          value-astray-kept = row-kept 12 (last-row ∙ broken-hit 12 _ _ (sym hw ∙ i))
+
+        module _ (i : w ≡ false) where
+          unbroken-all : valueFault c t v ≡ none
+          unbroken-all = last-row ∙ broken-past 12 _ _ (sym hw ∙ i)
+
+          stand : _≡_ {A = List ℕ} (n ∷ take n scratch) (counted (codesOf (fieldIn 3 v)))
+          stand = ap (λ (l : List ℕ). n ∷ l) (k .stands n g) ∙ ap (λ (m : ℕ). m ∷ codesOf f) (fine .1) ∙ ap (λ (x : Bytes). counted (codesOf x)) hf
+
+          all-words : _≡_ {A = List ℕ} (from ∷ action ∷ to ∷ n ∷ take n scratch) (valueWords v)
+          unfolding valueWords
+          all-words =
+              ap (λ (l : List ℕ). from ∷ action ∷ to ∷ l) stand ∙
+              rw (← ends-of .first, ← ends-of .second, ← ends-of .third)
+
+          size : n ≡ length (codesOf (fieldIn 3 v))
+          size = fine .1 ∙ ap (λ (x : Bytes). length (codesOf x)) hf
+
+          pub value-are : (next : ℕ) → next ≡ nextPlace at (suc (suc (suc (suc (length (take n scratch)))))) → Sound 0 n next ≡ valueRead c t v at
+          unfolding valueRead
+          value-are next hn =
+              ap (Sound 0 n) (hn ∙ ap (λ (l : List ℕ). nextPlace at (length l)) all-words) ∙
+              ap (λ (m : ℕ). Sound 0 m (nextPlace at (length (valueWords v)))) size ∙
+              line-sound _ _ at _ unbroken-all
+
+          pub value-put : (new : List ℕ) → new ≡ put at (from ∷ action ∷ to ∷ n ∷ take n scratch) t → new ≡ afterValue c t v at
+          unfolding afterValue
+          value-put new hn = hn ∙ ap (λ (l : List ℕ). put at l t) all-words ∙ line-put _ at _ t unbroken-all
+
+pub ruleset value-laws = (value-unsound, value-unsound-kept, value-row, value-row-kept, value-few, value-astray, value-astray-kept, value-are, value-put)
+
+-- `edge`
+module _ (s : Bytes) (ended : Bool) (c : Counts) (t : List ℕ) (at : ℕ) (p : Bool) (hp : p ≡ misformed edgeName 4 s ended) where
+  module _ (h : p ≡ true) where
+    form-row : edgeFault s ended c t ≡ some 2
+    unfolding edgeFault
+    form-row = broken-hit 2 _ _ (sym hp ∙ h)
+
+    pub edge-form : Fault 2 ≡ edgeRead s ended c t at
+    unfolding edgeRead
+    edge-form = line-row _ 2 _ at _ form-row
+
+    pub edge-form-kept : t ≡ edgeAfter s ended c t at
+    unfolding edgeAfter
+    edge-form-kept = line-kept _ 2 at _ t form-row
+
+  module _ (h : p ≡ false) (v : Bytes) (hv : v ≡ valueAfter edgeName s) where
+    rest-row : valueFault c t v ≡ edgeFault s ended c t
+    unfolding edgeFault
+    rest-row = ap (valueFault c t) hv ∙ sym (broken-past 2 _ _ (sym hp ∙ h))
+
+    pub edge-value : (r : LineRead) → r ≡ valueRead c t v at → r ≡ edgeRead s ended c t at
+    unfolding valueRead edgeRead
+    edge-value r hr =
+        hr ∙ ap (λ (o : Option ℕ). lineTold o (length (codesOf (fieldIn 3 v))) at (valueWords v)) rest-row ∙
+        ap (λ (x : Bytes). lineTold (edgeFault s ended c t) (length (codesOf (fieldIn 3 x))) at (valueWords x)) hv
+
+    pub edge-value-put : (new : List ℕ) → new ≡ afterValue c t v at → new ≡ edgeAfter s ended c t at
+    unfolding afterValue edgeAfter
+    edge-value-put new hn =
+        hn ∙ ap (λ (o : Option ℕ). lineAfter o at (valueWords v) t) rest-row ∙
+        ap (λ (x : Bytes). lineAfter (edgeFault s ended c t) at (valueWords x) t) hv
+
+pub ruleset edge-laws = (edge-form, edge-form-kept, edge-value, edge-value-put)

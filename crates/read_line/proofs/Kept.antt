@@ -1,0 +1,69 @@
+-- Reading a line leaves the buffer as long as it was.
+use Prim.Native.Nat.{ℕ}
+use mathlib.Core.Path.{_≡_, refl}
+use mathlib.Core.Bool.{Bool}
+use mathlib.Core.List.{List, [], _∷_}
+use mathlib.Core.Option.{Option, none, some}
+use lib.ListN.{length}
+use Rattle.model.specs.Bounds.{maxActions, maxVariables, maxAutomata, maxLocations, maxEdges}
+use Rattle.model.specs.Lines as Lines
+use Rattle.model.specs.Table.{biased}
+use Rattle.line_order.specs.declared.Key.{Key}
+use Rattle.line_order.specs.declared.Key.the-variants.{Format, Actions, Variables, Variable, Automata, Sync, Locations, Init, Inv, Edges, Edge, Compose, End}
+use Rattle.line_order.specs.declared.Counts.{Counts}
+use Rattle.format.specs.Bytes.{Bytes}
+use Rattle.format.specs.Spelling.{spelling}
+use Rattle.read_line.specs.declared.number.Count.{Count}
+use Rattle.read_line.specs.declared.number.Count.the-variants as Count
+use Rattle.read_line.specs.declared.number.Bounds.{Bounds}
+use Rattle.read_line.specs.declared.number.Bounds.the-variants as Bounds
+use Rattle.read_line.specs.Append.{put}
+use Rattle.read_line.specs.Outcome.{written}
+use Rattle.read_line.specs.Number.{countIn, numberAfter, fewEdges, boundsIn, boundsAfter}
+use Rattle.read_line.specs.Sync.{syncFault, syncAfter}
+use Rattle.read_line.specs.Composition.{composeFault, composeAfter}
+use Rattle.read_line.specs.Line.{lineAfter}
+use Rattle.read_line.proofs.AppendLaws.{put-kept}
+use Rattle.read_line.proofs.PredicateRows.{location-kept}
+use Rattle.read_line.proofs.EdgeRows.{edge-kept}
+
+number-kept : (c : Count) (at : ℕ) (words : List ℕ) → length (numberAfter c at words) ≡ length words
+unfolding numberAfter
+number-kept (Count.Is n) at words = put-kept (n ∷ []) at words
+number-kept (Count.Unsound row) at words = refl
+
+bounds-kept : (b : Bounds) (at : ℕ) (words : List ℕ) → length (boundsAfter b at words) ≡ length words
+unfolding boundsAfter
+bounds-kept (Bounds.Are low high) at words = put-kept (biased low ∷ biased high ∷ []) at words
+bounds-kept (Bounds.Unsound row) at words = refl
+
+-- the buffer after a line
+written-kept : (o : Option ℕ) (at : ℕ) (ws words : List ℕ) → length (written o (put at ws words) words) ≡ length words
+unfolding written
+written-kept none at ws words = put-kept ws at words
+written-kept (some row) at ws words = refl
+
+module _ (s : Bytes) (ended : Bool) (c : Counts) (words : List ℕ) (at : ℕ) where
+  pub sync-kept : length (syncAfter s ended c words at) ≡ length words
+  unfolding syncAfter
+  sync-kept = written-kept (syncFault s ended c) at _ words
+
+  pub compose-kept : length (composeAfter s ended c words at) ≡ length words
+  unfolding composeAfter
+  compose-kept = written-kept (composeFault s ended c) at _ words
+
+pub line-kept : (s : Bytes) (ended : Bool) (k : Key) (c : Counts) (words : List ℕ) (at : ℕ) → length (lineAfter s ended k c words at) ≡ length words
+unfolding lineAfter
+line-kept s ended Format c words at = number-kept _ at words
+line-kept s ended Actions c words at = number-kept _ at words
+line-kept s ended Variables c words at = number-kept _ at words
+line-kept s ended Variable c words at = bounds-kept _ at words
+line-kept s ended Automata c words at = number-kept _ at words
+line-kept s ended Sync c words at = sync-kept s ended c words at
+line-kept s ended Locations c words at = number-kept _ at words
+line-kept s ended Init c words at = location-kept (spelling Lines.init) s ended c words at
+line-kept s ended Inv c words at = location-kept (spelling Lines.inv) s ended c words at
+line-kept s ended Edges c words at = number-kept _ at words
+line-kept s ended Edge c words at = edge-kept s ended c words at
+line-kept s ended Compose c words at = compose-kept s ended c words at
+line-kept s ended End c words at = refl

@@ -1,0 +1,69 @@
+-- The reader of one line says exactly what `fault` and `entry` say.
+use Prim.Native.Nat.{ℕ, _≤_}
+use mathlib.Core.Path.{_≡_}
+use mathlib.Core.Bool.{Bool}
+use mathlib.Core.List.{List}
+use mathlib.Core.Option.{Option, none, some}
+use lib.ListN.{length}
+use Rattle.model.specs.Bounds.{maxBytes}
+use Rattle.model.specs.Lines.{Key, format, actions, variables, variable, automata, sync, locations, init, inv, edges, edge, compose, Reading}
+use Rattle.model.specs.Table.{lineWords}
+use Rattle.line_order.specs.declared.Counts.{Counts}
+use Rattle.line_order.specs.Due.{codeOf, numberOf}
+use Rattle.line_order.specs.Counts.{nodesOf, Counted}
+use Rattle.table_check.specs.Scan.{Declared}
+use Rattle.format.specs.Bytes.{Bytes}
+use Rattle.format.specs.Rows.{fault, entry, theRange}
+use Rattle.model.specs.Predicate.{range}
+use Rattle.read_line.specs.declared.LineRead.{LineRead}
+use Rattle.read_line.specs.declared.LineRead.the-variants.{Sound, Fault}
+use Rattle.read_line.specs.Append.{nextPlace, put}
+use Rattle.read_line.specs.Exact.{lineOf, ReadsLines}
+use Rattle.read_line.specs.Line.{lineRead, lineAfter}
+use Rattle.read_line.proofs.Answered.{answered-fault, answered-sound, left-new}
+use Rattle.read_line.proofs.NumberLines.{format-read, format-left, actions-read, actions-left, variables-read, variables-left, automata-read, automata-left, locations-read, locations-left, edges-read, edges-left}
+use Rattle.read_line.proofs.RangeLines.{variable-read, variable-left}
+use Rattle.read_line.proofs.SyncLaws.{sync-faulty, sync-sound}
+use Rattle.read_line.proofs.CompositionLaws.{compose-faulty, compose-sound}
+use Rattle.read_line.proofs.PredicateRows.{init-of, inv-of, location-faulty, location-sound}
+use Rattle.read_line.proofs.EdgeRows.{edge-faulty, edge-sound}
+
+module _ (r : Reading) (c : Counts) (words : List ℕ) (at : ℕ) (s : Bytes) (ended : Bool) (n : Counted r c) (d : Declared words r) (short : length s ≤ maxBytes) where
+  faulty : (k : Key) (row : ℕ) → fault r k (lineOf s ended) ≡ some row → lineRead s ended (codeOf k) c words at ≡ Fault row
+  unfolding lineRead codeOf
+  faulty format row h = answered-fault _ row _ _ (format-read r s ended at words) h
+  faulty actions row h = answered-fault _ row _ _ (actions-read r s ended at words) h
+  faulty variables row h = answered-fault _ row _ _ (variables-read r s ended at words) h
+  faulty variable row h = answered-fault _ row _ _ (variable-read r s ended at words) h
+  faulty automata row h = answered-fault _ row _ _ (automata-read r s ended at words) h
+  faulty sync row h = sync-faulty r c words at s ended n row h
+  faulty locations row h = answered-fault _ row _ _ (locations-read r s ended at words) h
+  faulty init row h = location-faulty init init-of s ended r c words n d short at row h
+  faulty inv row h = location-faulty inv inv-of s ended r c words n d short at row h
+  faulty edges row h = answered-fault _ row _ _ (edges-read r s ended at words (c .edges) (n .edges)) h
+  faulty edge row h = edge-faulty s ended r c words n d short at row h
+  faulty compose row h = compose-faulty r c words at s ended n row h
+
+  sound : (k : Key) → fault r k (lineOf s ended) ≡ none
+      → (lineRead s ended (codeOf k) c words at ≡ Sound (numberOf (entry k (lineOf s ended))) (nodesOf (entry k (lineOf s ended))) (nextPlace at (length (lineWords (entry k (lineOf s ended))))))
+      × (lineAfter s ended (codeOf k) c words at ≡ put at (lineWords (entry k (lineOf s ended))) words)
+  unfolding lineRead lineAfter codeOf entry numberOf nodesOf lineWords theRange range
+  sound format h = (answered-sound _ _ _ (format-read r s ended at words) h, left-new _ _ words _ (format-left r s ended at words) h)
+  sound actions h = (answered-sound _ _ _ (actions-read r s ended at words) h, left-new _ _ words _ (actions-left r s ended at words) h)
+  sound variables h = (answered-sound _ _ _ (variables-read r s ended at words) h, left-new _ _ words _ (variables-left r s ended at words) h)
+  sound variable h = (answered-sound _ _ _ (variable-read r s ended at words) h, left-new _ _ words _ (variable-left r s ended at words) h)
+  sound automata h = (answered-sound _ _ _ (automata-read r s ended at words) h, left-new _ _ words _ (automata-left r s ended at words) h)
+  sound sync h = sync-sound r c words at s ended n h
+  sound locations h = (answered-sound _ _ _ (locations-read r s ended at words) h, left-new _ _ words _ (locations-left r s ended at words) h)
+  sound init h = location-sound init init-of s ended r c words n d short at h
+  sound inv h = location-sound inv inv-of s ended r c words n d short at h
+  sound edges h = (answered-sound _ _ _ (edges-read r s ended at words (c .edges) (n .edges)) h, left-new _ _ words _ (edges-left r s ended at words (c .edges) (n .edges)) h)
+  sound edge h = edge-sound s ended r c words n d short at h
+  sound compose h = compose-sound r c words at s ended n h
+
+pub reads-lines : ReadsLines lineRead lineAfter
+reads-lines =
+    record {
+      faulty = λ r c words at k s ended row n d short h. faulty r c words at s ended n d short k row h;
+      sound = λ r c words at k s ended n d short h. sound r c words at s ended n d short k h;
+    }

@@ -1,0 +1,31 @@
+-- `extent` meets its contract: each way out is a law of PredicateLaws.
+use Rattle.read_line.proofs.PredicateLaws.{extent-laws}
+use borrow.Author.Needs.{needs}
+use Rattle.read_line.proofs.predicates.extent.Statement.{statement}
+use Rattle.read_line.proofs.predicates.extent.Tie as tie
+
+ranges-requires : tie.Need-ranges-requires
+ranges-requires c κs = search needs
+
+walk-requires : tie.Need-walk-requires
+walk-requires c κs = search needs
+
+returns : tie.Need-returns
+returns c = search (needs, extent-laws)
+
+returns-2 : tie.Need-returns-2
+returns-2 c = search (needs, extent-laws)
+
+fits-requires : tie.Need-fits-requires
+fits-requires c κs = search needs
+
+returns-3 : tie.Need-returns-3
+returns-3 c = search (needs, extent-laws)
+
+returns-4 : tie.Need-returns-4
+returns-4 c = search (needs, extent-laws)
+
+pub extent-spec : {M : Type 1} → statement M
+extent-spec =
+    tie.close
+    (tie.spec ranges-requires walk-requires returns returns-2 fits-requires returns-3 returns-4)

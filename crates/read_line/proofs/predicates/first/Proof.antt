@@ -1,0 +1,17 @@
+-- `first` meets its contract: each way out is a law of PredicateLaws.
+use Rattle.read_line.proofs.PredicateLaws.{first-laws}
+use borrow.Author.Needs.{needs}
+use Rattle.read_line.proofs.predicates.first.Statement.{statement}
+use Rattle.read_line.proofs.predicates.first.Tie as tie
+
+returns : tie.Need-returns
+returns c = search (needs, first-laws)
+
+slice-aggregate-result : tie.Need-slice-aggregate-result
+slice-aggregate-result c = search (needs, first-laws)
+
+returns-2 : tie.Need-returns-2
+returns-2 c = search needs
+
+pub first-spec : {M : Type 1} → statement M
+first-spec = tie.close (tie.spec returns slice-aggregate-result returns-2)

@@ -1,0 +1,141 @@
+// The line `edge=FROM,ACT,TO,P`.
+use crate::LineRead;
+use crate::append::{self};
+use crate::form::{self};
+use crate::predicates::Nodes;
+use crate::predicates::{self};
+use line_order::Counts;
+use model::Model;
+use text_bytes::Natural;
+ghost use mathlib.Core.Path.{_≡_};
+ghost use mathlib.Core.List.{_∷_};
+ghost use Prim.Native.Nat.{suc, _≤_};
+ghost use lib.ListN.{length, take};
+ghost use Rattle.model.specs.Bounds.{maxNodes};
+ghost use Rattle.read_predicate.specs.Scratch.{Scratch};
+ghost use Rattle.read_line.specs.Append.{nextPlace, put};
+ghost use Rattle.read_line.specs.Edge.{fieldIn, endsIn, astray, valueRead, afterValue, edgeRead, edgeAfter};
+
+// FROM, ACT and TO, or that one of them is no number in its range.
+pub enum Ends {
+    Are(u32, u32, u32),
+    Unsound,
+}
+
+// The field with this number, of those that commas part; empty where there are fewer.
+fn field(value: &[u8], number: usize) -> &[u8]
+    ensures { λ r. ⌜ now r ≡ fieldIn number (now (value .entry)) ⌝ }
+{
+    let mut at = 0;
+    let mut left = number;
+    while left != 0 {
+        let end = text_bytes::find(value, at, 44);
+        if value.len() <= end {
+            return &value[..0];
+        }
+        at = end + 1;
+        left -= 1;
+    }
+    let end = text_bytes::find(value, at, 44);
+    &value[at..end]
+}
+
+// Row 3 of the first three fields.
+fn read_ends(value: &[u8]) -> Ends
+    ensures { λ r. ⌜ r ≡ endsIn (now (value .entry)) ⌝ }
+{
+    let Natural::In(from) = text_bytes::natural(field(value, 0), Model::LAST_LOCATION as u32) else {
+        return Ends::Unsound;
+    };
+    let Natural::In(action) = text_bytes::natural(field(value, 1), Model::LAST_ACTION as u32) else {
+        return Ends::Unsound;
+    };
+    let Natural::In(to) = text_bytes::natural(field(value, 2), Model::LAST_LOCATION as u32) else {
+        return Ends::Unsound;
+    };
+    Ends::Are(from, action, to)
+}
+
+// Row 12.
+fn astray(counts: Counts, from: u32, action: u32, to: u32) -> bool
+    ensures { λ r. ⌜ r ≡ astray counts from action to ⌝ }
+{
+    let l = counts.locations;
+    let a = counts.actions;
+    (l <= arithmetic::index(from))
+        | ((a < arithmetic::index(action)) | (l <= arithmetic::index(to)))
+}
+
+// FROM, ACT, TO, and then a predicate's words.
+fn append_edge(
+    words: &mut [u32; 8192],
+    at: usize,
+    from: u32,
+    action: u32,
+    to: u32,
+    nodes: &[u32],
+    n: usize,
+) -> usize
+    requires { ⌜ n ≤ maxNodes ⌝ }
+    ensures { λ r. ⌜ (r ≡ nextPlace at (suc (suc (suc (suc (length (take n (now (nodes .entry))))))))) × (now (words .exit) ≡ put at (from ∷ action ∷ to ∷ n ∷ take n (now (nodes .entry))) (now (words .entry))) ⌝ }
+{
+    let second = append::append_one(words, at, from);
+    let third = append::append_one(words, second, action);
+    let fourth = append::append_one(words, third, to);
+    predicates::append_nodes(words, fourth, nodes, n)
+}
+
+// What stands after the key: row 3, the rows of P, where new values may stand, and then row 12. Nothing is written where one is broken.
+fn read_value(
+    value: &[u8],
+    counts: Counts,
+    words: &mut [u32; 8192],
+    at: usize,
+    scratch: &mut [u32; 32768],
+    sorts: &mut [bool; 32768],
+) -> LineRead
+    ensures { λ r. ⌜ (r ≡ valueRead counts (now (words .entry)) (now (value .entry)) at) × (now (words .exit) ≡ afterValue counts (now (words .entry)) (now (value .entry)) at) ⌝ }
+    ensures { λ _. ⌜ Scratch (now (scratch .entry)) (now (scratch .exit))
+        × Scratch (now (sorts .entry)) (now (sorts .exit)) ⌝ }
+{
+    let Ends::Are(from, action, to) = read_ends(value) else {
+        return LineRead::Fault(3);
+    };
+    let nodes = predicates::predicate(field(value, 3), false, counts, words, scratch, sorts);
+    match nodes {
+        Nodes::Are(n) => {
+            if astray(counts, from, action, to) {
+                return LineRead::Fault(12);
+            }
+            LineRead::Sound(0, n, append_edge(words, at, from, action, to, scratch, n))
+        }
+        Nodes::Unsound(row) => LineRead::Fault(row),
+    }
+}
+
+// Row 2, and then those of the value.
+pub fn edge(
+    line: &[u8],
+    ended: bool,
+    counts: Counts,
+    words: &mut [u32; 8192],
+    at: usize,
+    scratch: &mut [u32; 32768],
+    sorts: &mut [bool; 32768],
+) -> LineRead
+    ensures { λ r. ⌜ (r ≡ edgeRead (now (line .entry)) ended counts (now (words .entry)) at) × (now (words .exit) ≡ edgeAfter (now (line .entry)) ended counts (now (words .entry)) at) ⌝ }
+    ensures { λ _. ⌜ Scratch (now (scratch .entry)) (now (scratch .exit))
+        × Scratch (now (sorts .entry)) (now (sorts .exit)) ⌝ }
+{
+    if form::misformed(line, ended, b"edge=", 4) {
+        return LineRead::Fault(2);
+    }
+    read_value(
+        form::value(line, b"edge="),
+        counts,
+        words,
+        at,
+        scratch,
+        sorts,
+    )
+}

@@ -1,0 +1,89 @@
+// One line of the sheet text: which row it breaks, or what it says, with its words put into the table that is being read.
+mod append;
+mod composition;
+mod edge;
+mod form;
+mod number;
+mod predicates;
+mod sync;
+
+use line_order::Counts;
+use line_order::Key;
+use model::Model;
+ghost use mathlib.Core.Path.{_≡_};
+ghost use Rattle.read_predicate.specs.Scratch.{Scratch};
+ghost use Rattle.read_line.specs.Line.{lineRead, lineAfter};
+
+// Sound: the line's number if it counts something, the nodes of its predicate, and the place of the next word. Fault: the smallest row that it breaks.
+pub enum LineRead {
+    Sound(usize, usize, usize),
+    Fault(u32),
+}
+
+// The line's bytes without the LF, and whether an LF ended it; `words` is the table so far, `at` the place of its next
+// word, `scratch` is for a predicate's words, and `sorts` for their sorts: scratch memory both.
+pub fn read(
+    line: &[u8],
+    ended: bool,
+    key: Key,
+    counts: Counts,
+    words: &mut [u32; 8192],
+    at: usize,
+    scratch: &mut [u32; 32768],
+    sorts: &mut [bool; 32768],
+) -> LineRead
+    ensures { λ r. ⌜ (r ≡ lineRead (now (line .entry)) ended key counts (now (words .entry)) at) × (now (words .exit) ≡ lineAfter (now (line .entry)) ended key counts (now (words .entry)) at) ⌝ }
+    ensures { λ _. ⌜ Scratch (now (scratch .entry)) (now (scratch .exit))
+        × Scratch (now (sorts .entry)) (now (sorts .exit)) ⌝ }
+{
+    match key {
+        Key::Format => number::format(line, ended, words, at),
+        Key::Actions => number::counting_line(
+            line,
+            ended,
+            b"actions=",
+            0,
+            Model::ACTIONS,
+            words,
+            at,
+        ),
+        Key::Variables => number::counting_line(
+            line,
+            ended,
+            b"variables=",
+            0,
+            Model::VARIABLES as u32,
+            words,
+            at,
+        ),
+        Key::Variable => number::variable(line, ended, words, at),
+        Key::Automata => number::counting_line(
+            line,
+            ended,
+            b"automata=",
+            1,
+            Model::AUTOMATA as u32,
+            words,
+            at,
+        ),
+        Key::Sync => sync::sync(line, ended, counts, words, at),
+        Key::Locations => number::counting_line(
+            line,
+            ended,
+            b"locations=",
+            1,
+            Model::LOCATIONS as u32,
+            words,
+            at,
+        ),
+        Key::Init => predicates::location(line, ended, b"init=", counts, words, at, scratch, sorts),
+        Key::Inv => predicates::location(line, ended, b"inv=", counts, words, at, scratch, sorts),
+        Key::Edges => {
+            let before = counts.edges;
+            number::edges(line, ended, before, words, at)
+        }
+        Key::Edge => edge::edge(line, ended, counts, words, at, scratch, sorts),
+        Key::Compose => composition::composition(line, ended, counts, words, at),
+        Key::End => LineRead::Fault(2),
+    }
+}

@@ -1,0 +1,321 @@
+-- Sorts: each way out of the code of src/formed.rt.
+use Prim.Native.Nat.{ℕ, zero, suc, _+_, _-_, _%_, _/_, _≤_, _<_}
+use mathlib.Core.Path.{_≡_, refl, sym, _∙_, ap, subst}
+use mathlib.Core.Bool.{Bool, true, false, not, Bool·beq, _&&_}
+use mathlib.Core.List.{List, _∷_, map}
+use mathlib.Core.Option.{Option, none, some}
+use native.Mathlib.Omega.{arith}
+use native.Mathlib.Numerals.{add-one}
+use borrow.Author.Tests.{not-true, not-false, le-leb, lt-leb, ne-eqb}
+use lib.ListN.{length, getD, take, drop, set, length-set, drop-of-length-le}
+use lib.Seq.{getD-set-same, getD-set-other, drop-cons, length-take-le, getD-take}
+use lib.Dec.{leb, eqb}
+use mir.Syntax.{w64}
+use mir.Val.{Fits}
+use Rattle.model.specs.Basic.{onSome, lacks}
+use Rattle.model.specs.Predicate.{Word, stray}
+use Rattle.model.specs.Parse.{readPred}
+use Rattle.model.specs.Table.{kinds, wordOf}
+use Rattle.model.proofs.WordKinds.{kind-from}
+use Rattle.read_predicate.specs.Formed.{arityOf, takeOff, pushSort, sortStack, sole, stacked, stackAt, takenFrom, Below, Pushed}
+use Rattle.read_predicate.specs.Scratch.{Scratch}
+use Rattle.read_predicate.specs.declared.formed.Arity.{Arity}
+use Rattle.read_predicate.specs.declared.formed.Arity.the-variants.{Takes, Stray}
+use Rattle.read_predicate.specs.declared.formed.Height.{Height}
+use Rattle.read_predicate.specs.declared.formed.Height.the-variants.{Of, Off}
+use Rattle.read_predicate.proofs.ScratchLaws.{scratch-same}
+use Rattle.read_predicate.proofs.SortLaws.{formed-by-sorts, sorts-none}
+
+-- `arity_of`: the kinds by their ranges
+reach : (P : ℕ → Type 0) (a n j : ℕ) → ((i : ℕ) → i ≤ n → P (a + i)) → a ≤ j → j ≤ a + n → P j
+reach P a n j f l h =
+    let e : a + (j - a) ≡ j = omega arith in
+    subst P e (f (j - a) (omega arith))
+
+module _ (k : ℕ) where
+  abbrev At : Arity → ℕ → Type 0
+  At a j = a ≡ arityOf (getD (kinds k) j stray)
+
+  at-lists : (i : ℕ) → i ≤ 1 → At (Takes k 0 true) (0 + i)
+  unfolding arityOf kinds
+  at-lists zero h = refl
+  at-lists (suc zero) h = refl
+  at-lists (suc (suc i)) h = absurd (omega arith)
+
+  at-not : (i : ℕ) → i ≤ 0 → At (Takes 1 0 true) (2 + i)
+  unfolding arityOf kinds
+  at-not zero h = refl
+  at-not (suc i) h = absurd (omega arith)
+
+  at-imp : (i : ℕ) → i ≤ 0 → At (Takes 2 0 true) (3 + i)
+  unfolding arityOf kinds
+  at-imp zero h = refl
+  at-imp (suc i) h = absurd (omega arith)
+
+  at-comparisons : (i : ℕ) → i ≤ 1 → At (Takes 0 2 true) (4 + i)
+  unfolding arityOf kinds
+  at-comparisons zero h = refl
+  at-comparisons (suc zero) h = refl
+  at-comparisons (suc (suc i)) h = absurd (omega arith)
+
+  at-values : (i : ℕ) → i ≤ 2 → At (Takes 0 0 false) (6 + i)
+  unfolding arityOf kinds
+  at-values zero h = refl
+  at-values (suc zero) h = refl
+  at-values (suc (suc zero)) h = refl
+  at-values (suc (suc (suc i))) h = absurd (omega arith)
+
+  at-sums : (i : ℕ) → i ≤ 2 → At (Takes 0 2 false) (9 + i)
+  unfolding arityOf kinds
+  at-sums zero h = refl
+  at-sums (suc zero) h = refl
+  at-sums (suc (suc zero)) h = refl
+  at-sums (suc (suc (suc i))) h = absurd (omega arith)
+
+  at-if : (i : ℕ) → i ≤ 0 → At (Takes 1 2 false) (12 + i)
+  unfolding arityOf kinds
+  at-if zero h = refl
+  at-if (suc i) h = absurd (omega arith)
+
+module _ (w : ℕ) where
+  pub arity-lists : (k : ℕ) → k ≡ w / 16 → w % 16 ≤ 1 → Takes k 0 true ≡ arityOf (wordOf w)
+  unfolding wordOf
+  arity-lists k e h = rw e (reach (At (w / 16) (Takes (w / 16) 0 true)) 0 1 (w % 16) (at-lists (w / 16)) (omega arith) h)
+
+  pub arity-not : 1 < w % 16 → w % 16 ≤ 2 → Takes 1 0 true ≡ arityOf (wordOf w)
+  unfolding wordOf
+  arity-not l h = reach (At (w / 16) (Takes 1 0 true)) 2 0 (w % 16) (at-not (w / 16)) l (omega arith)
+
+  pub arity-imp : 2 < w % 16 → w % 16 ≤ 3 → Takes 2 0 true ≡ arityOf (wordOf w)
+  unfolding wordOf
+  arity-imp l h = reach (At (w / 16) (Takes 2 0 true)) 3 0 (w % 16) (at-imp (w / 16)) l (omega arith)
+
+  pub arity-comparisons : 3 < w % 16 → w % 16 ≤ 5 → Takes 0 2 true ≡ arityOf (wordOf w)
+  unfolding wordOf
+  arity-comparisons l h = reach (At (w / 16) (Takes 0 2 true)) 4 1 (w % 16) (at-comparisons (w / 16)) l (omega arith)
+
+  pub arity-values : 5 < w % 16 → w % 16 ≤ 8 → Takes 0 0 false ≡ arityOf (wordOf w)
+  unfolding wordOf
+  arity-values l h = reach (At (w / 16) (Takes 0 0 false)) 6 2 (w % 16) (at-values (w / 16)) l (omega arith)
+
+  pub arity-sums : 8 < w % 16 → w % 16 ≤ 11 → Takes 0 2 false ≡ arityOf (wordOf w)
+  unfolding wordOf
+  arity-sums l h = reach (At (w / 16) (Takes 0 2 false)) 9 2 (w % 16) (at-sums (w / 16)) l (omega arith)
+
+  pub arity-if : 11 < w % 16 → w % 16 ≤ 12 → Takes 1 2 false ≡ arityOf (wordOf w)
+  unfolding wordOf
+  arity-if l h = reach (At (w / 16) (Takes 1 2 false)) 12 0 (w % 16) (at-if (w / 16)) l (omega arith)
+
+  pub arity-stray : 12 < w % 16 → Stray ≡ arityOf (wordOf w)
+  unfolding arityOf kinds
+  arity-stray l = kind-from (λ (x : Word). Stray ≡ arityOf x) w 13 refl l
+
+pub ruleset arity-laws = (arity-lists, arity-not, arity-imp, arity-comparisons, arity-values, arity-sums, arity-if, arity-stray)
+
+-- `taken`
+taken-top : (sorts : List Bool) (sort : Bool) (k h : ℕ) (v : Bool) → Bool·beq (getD sorts h false) sort ≡ v
+    → takenFrom sorts sort (suc k) (suc h) ≡ elim v as (λ x. Height) [ true ↦ takenFrom sorts sort k h | false ↦ Off ]
+unfolding takenFrom
+taken-top sorts sort k h v e = ap (λ (x : Bool). elim x as (λ y. Height) [ true ↦ takenFrom sorts sort k h | false ↦ Off ]) e
+
+taken-empty : (sorts : List Bool) (sort : Bool) (k : ℕ) → takenFrom sorts sort (suc k) 0 ≡ Off
+unfolding takenFrom
+taken-empty sorts sort k = refl
+
+module _ (sorts : List Bool) (sort : Bool) (left h : ℕ) (whole : Height) (inv : takenFrom sorts sort left h ≡ whole) where
+  pub taken-all : left ≡ 0 → Of h ≡ whole
+  unfolding takenFrom
+  taken-all z = rw z at inv
+
+  module _ (z : left ≡ 0 → ⊥) where
+    pub taken-bare : h ≡ 0 → Off ≡ whole
+    taken-bare e =
+        let a : left ≡ suc (left - 1) = omega arith in
+        sym (taken-empty sorts sort (left - 1)) ∙ (rw (a, e) at inv)
+
+    module _ (u : h ≡ 0 → ⊥) where
+      by-top : (v : Bool) → Bool·beq (getD sorts (h - 1) false) sort ≡ v → elim v as (λ x. Height) [ true ↦ takenFrom sorts sort (left - 1) (h - 1) | false ↦ Off ] ≡ whole
+      by-top v e =
+          let a : left ≡ suc (left - 1) = omega arith in
+          let b : h ≡ suc (h - 1) = omega arith in
+          sym (taken-top sorts sort (left - 1) (h - 1) v e) ∙ (rw (a, b) at inv)
+
+      pub taken-other : not (Bool·beq (getD sorts (h - 1) false) sort) ≡ true → Off ≡ whole
+      taken-other e = by-top false (not-true _ e)
+
+      pub taken-on : not (Bool·beq (getD sorts (h - 1) false) sort) ≡ false → takenFrom sorts sort (left - 1) (h - 1) ≡ whole
+      taken-on e = by-top true (not-false _ e)
+
+pub ruleset taken-laws = (taken-all, taken-bare, taken-other, taken-on)
+
+-- what is left is lower, and is the stack with so many taken off
+taken-below : (sorts : List Bool) (sort : Bool) (k h : ℕ) → Below h (takenFrom sorts sort k h)
+unfolding takenFrom Below
+taken-below sorts sort zero h = omega arith
+taken-below sorts sort (suc k) zero = tt
+taken-below sorts sort (suc k) (suc h) = go (Bool·beq (getD sorts h false) sort) (takenFrom sorts sort k h) (taken-below sorts sort k h)
+  where
+    up : (r : Height) → Below h r → Below (suc h) r
+    up (Of x) l = omega arith
+    up Off l = tt
+
+    go : (v : Bool) (r : Height) → Below h r → Below (suc h) (elim v [ true ↦ r | false ↦ Off ])
+    go true r l = up r l
+    go false r l = tt
+
+taken-low : (sorts : List Bool) (sort : Bool) (k h : ℕ) (r : Height) (x : ℕ) → r ≡ takenFrom sorts sort k h → r ≡ Of x → x ≤ h
+unfolding Below
+taken-low sorts sort k h r x e f = subst (Below h) (sym e ∙ f) (taken-below sorts sort k h)
+
+-- so there is room for one more
+module _ (sorts : List Bool) (sort : Bool) (k h : ℕ) (r : Height) (x : ℕ) (e : r ≡ takenFrom sorts sort k h) (f : r ≡ Of x) (l : h < 32768) where
+  pub room-once : (size : ℕ) → size ≡ 32768 → x ≤ size
+  room-once size z = let u : x ≤ h = taken-low sorts sort k h r x e f in omega arith
+
+  module _ (other : Bool) (j : ℕ) (s : Height) (y : ℕ) (g : s ≡ takenFrom sorts other j x) (i : s ≡ Of y) where
+    pub room-twice : (size : ℕ) → size ≡ 32768 → y < size
+    room-twice size z =
+        let u : x ≤ h = taken-low sorts sort k h r x e f in
+        let v : y ≤ x = taken-low sorts other j x s y g i in
+        omega arith
+
+    pub room-next : Fits w64 (y + 1)
+    room-next = record { fits = omega (arith, room-twice 32768 refl) }
+
+taken-stack : (sorts : List Bool) (sort : Bool) (k h : ℕ) → stackAt sorts (takenFrom sorts sort k h) ≡ takeOff k sort (stacked sorts h)
+unfolding takenFrom stackAt takeOff stacked
+taken-stack sorts sort zero h = refl
+taken-stack sorts sort (suc k) zero = refl
+taken-stack sorts sort (suc k) (suc h) = go (Bool·beq (getD sorts h false) sort) (taken-stack sorts sort k h)
+  where
+    go : (v : Bool) → stackAt sorts (takenFrom sorts sort k h) ≡ takeOff k sort (stacked sorts h)
+        → stackAt sorts (elim v [ true ↦ takenFrom sorts sort k h | false ↦ Off ]) ≡ elim v as (λ x. Option (List Bool)) [ true ↦ takeOff k sort (stacked sorts h) | false ↦ none ]
+    go true ih = ih
+    go false ih = refl
+
+-- a sort that is put above the height
+stacked-above : (sorts : List Bool) (i : ℕ) (v : Bool) (h : ℕ) → h ≤ i → stacked (set sorts i v) h ≡ stacked sorts h
+unfolding stacked
+stacked-above sorts i v zero l = refl
+stacked-above sorts i v (suc h) l =
+    rw (getD-set-other sorts i h v false (λ e. omega arith), stacked-above sorts i v h (omega arith))
+
+stacked-put : (sorts : List Bool) (h : ℕ) (v : Bool) → h < length sorts → stacked (set sorts h v) (h + 1) ≡ v ∷ stacked sorts h
+unfolding stacked
+stacked-put sorts h v l = rw (add-one h, getD-set-same sorts h v false l, stacked-above sorts h v h (omega arith))
+
+-- `step`
+module _ (a x : Arity) (e : x ≡ a) (old : List Bool) (h : ℕ) where
+  off : pushSort a (stacked old h) ≡ none → Pushed a old old h Off
+  unfolding stackAt Below
+  off z = record { stack = sym z; low = tt; kept = record { long = refl } }
+
+  pub step-stray : x ≡ Stray → Pushed a old old h Off
+  unfolding pushSort
+  step-stray s = off (rw (← e, s))
+
+  module _ (p q : ℕ) (sort : Bool) (s : x ≡ Takes p q sort) (r : Height) (f : r ≡ takenFrom old true p h) where
+    pushed : (y : Height) → r ≡ y → pushSort a (stacked old h) ≡ onSome (λ s₁. onSome (λ s₂. some (sort ∷ s₂)) (takeOff q false s₁)) (stackAt old y)
+    unfolding pushSort
+    pushed y g = rw (← e, s, ← taken-stack old true p h, ← f, g)
+
+    pub step-preds : r ≡ Off → Pushed a old old h Off
+    unfolding stackAt onSome
+    step-preds g = off (pushed Off g)
+
+    module _ (b : ℕ) (g : r ≡ Of b) (t : Height) (k : t ≡ takenFrom old false q b) where
+      pushed-on : (y : Height) → t ≡ y → pushSort a (stacked old h) ≡ onSome (λ s₂. some (sort ∷ s₂)) (stackAt old y)
+      unfolding onSome stackAt
+      pushed-on y z = pushed (Of b) g ∙ rw (← taken-stack old false q b, ← k, z)
+
+      pub step-exprs : t ≡ Off → Pushed a old old h Off
+      unfolding stackAt onSome
+      step-exprs z = off (pushed-on Off z)
+
+      module _ (top : ℕ) (z : t ≡ Of top) (room : h < 32768) (long : length old ≡ 32768) where
+        step-top : top ≤ h
+        step-top =
+            let u : b ≤ h = taken-low old true p h r b f g in
+            let v : top ≤ b = taken-low old false q b t top k z in
+            omega arith
+
+        pub step-on : Pushed a old (set old top sort) h (Of (top + 1))
+        unfolding stackAt onSome Below
+        step-on =
+            record {
+              stack = ap some (stacked-put old top sort (omega (arith, step-top))) ∙ sym (pushed-on (Of top) z);
+              low = omega (arith, step-top);
+              kept = record { long = length-set old top sort };
+            }
+
+pub ruleset step-laws = (step-stray, step-preds, step-exprs, step-on)
+
+pub ruleset room-laws = (room-once, room-twice, room-next)
+
+-- one predicate is left
+sole-is : (sorts : List Bool) (h : ℕ) → (eqb h 1 && getD sorts 0 false) ≡ sole (some (stacked sorts h))
+unfolding sole stacked
+sole-is sorts zero = refl
+sole-is sorts (suc zero) = refl
+sole-is sorts (suc (suc h)) = rw (ne-eqb (suc (suc h)) 1 (λ e. omega arith))
+
+-- the stack is as long as before
+pub scratch-pushed : (old sorts new : List Bool) (a : Arity) (height : ℕ) (r : Height) → Scratch old sorts → Pushed a sorts new height r → Scratch old new
+scratch-pushed old sorts new a height r s p = record { long = p .kept .long ∙ s .long }
+
+-- `well_formed`: what the loop keeps. The sorts of the words from i on are on the stack, and they are not more than those words.
+pub record Sorted (words : List ℕ) (n : ℕ) (sorts : List Bool) (height i : ℕ) : Type 0 where
+  pub stack : sortStack (map wordOf (drop i (take n words))) ≡ some (stacked sorts height)
+  pub few : height + i ≤ n
+
+-- what it answers
+abbrev formed : List ℕ → ℕ → Bool
+formed words n = leb n 32768 && (leb n (length words) && not (lacks (readPred (map wordOf (take n words)))))
+
+module _ (words : List ℕ) (n : ℕ) where
+  pub formed-many : 32768 < n → false ≡ formed words n
+  formed-many h = rw (lt-leb n 32768 h)
+
+  module _ (a : n ≤ 32768) where
+    pub formed-short : length words < n → false ≡ formed words n
+    formed-short h = rw (le-leb n 32768 a, lt-leb n (length words) h)
+
+    module _ (b : n ≤ length words) where
+      by-sorts : (o : Option (List Bool)) → sortStack (map wordOf (take n words)) ≡ o → formed words n ≡ sole o
+      by-sorts o e = rw (le-leb n 32768 a, le-leb n (length words) b, formed-by-sorts (map wordOf (take n words)), e)
+
+      pub formed-start : (sorts : List Bool) → Sorted words n sorts 0 n
+      unfolding sortStack stacked
+      formed-start sorts =
+          let z : length (take n words) ≤ n = omega (arith, length-take-le n words b) in
+          record { stack = rw (drop-of-length-le (take n words) z); few = omega arith }
+
+      module _ (sorts : List Bool) (height i : ℕ) (inv : Sorted words n sorts height i) where
+        pub formed-room : (i ≡ 0 → ⊥) → height < 32768
+        formed-room z = omega (arith, inv .few)
+
+        module _ (z : i ≡ 0 → ⊥) (new : List Bool) (r : Height) (p : Pushed (arityOf (wordOf (getD words (i - 1) 0))) sorts new height r) where
+          onward : sortStack (map wordOf (drop (i - 1) (take n words))) ≡ stackAt new r
+          unfolding sortStack onSome
+          onward =
+              let u : i - 1 < length (take n words) = omega (arith, length-take-le n words b, inv .few) in
+              let v : suc (i - 1) ≡ i = omega arith in
+              let w : i - 1 < n = omega (arith, inv .few) in
+              let d : drop (i - 1) (take n words) ≡ getD words (i - 1) 0 ∷ drop i (take n words) =
+              drop-cons (take n words) (i - 1) 0 u ∙ rw (getD-take n words (i - 1) 0 w, v) in
+              ap (λ (l : List ℕ). sortStack (map wordOf l)) d ∙ ap (onSome (pushSort (arityOf (wordOf (getD words (i - 1) 0))))) (inv .stack) ∙ sym (p .stack)
+
+          pub formed-off : r ≡ Off → false ≡ formed words n
+          unfolding stackAt sole
+          formed-off e = sym (by-sorts none (sorts-none wordOf (i - 1) (take n words) (onward ∙ rw e)))
+
+          pub formed-on : (h : ℕ) → r ≡ Of h → Sorted words n new h (i - 1)
+          unfolding stackAt Below
+          formed-on h e =
+              let l : h ≤ height + 1 = subst (Below (height + 1)) e (p .low) in
+              record { stack = onward ∙ rw e; few = omega (arith, inv .few) }
+
+        pub formed-end : i ≡ 0 → (eqb height 1 && getD sorts 0 false) ≡ formed words n
+        formed-end z = sole-is sorts height ∙ sym (by-sorts _ (rw z at (inv .stack)))
+
+pub ruleset formed-laws = (scratch-same, scratch-pushed, formed-many, formed-short, formed-start, formed-room, formed-off, formed-on, formed-end)

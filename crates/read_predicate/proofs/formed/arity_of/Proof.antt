@@ -1,0 +1,45 @@
+use Rattle.read_predicate.proofs.FormedLaws.{arity-laws}
+use borrow.Author.Needs.{needs}
+use Rattle.read_predicate.proofs.formed.arity_of.Statement.{statement}
+use Rattle.read_predicate.proofs.formed.arity_of.Tie as tie
+
+index-requires : tie.Need-index-requires
+index-requires c κs = search needs
+
+returns : tie.Need-returns
+returns c = search (needs, arity-laws)
+
+returns-2 : tie.Need-returns-2
+returns-2 c = search (needs, arity-laws)
+
+returns-3 : tie.Need-returns-3
+returns-3 c = search (needs, arity-laws)
+
+returns-4 : tie.Need-returns-4
+returns-4 c = search (needs, arity-laws)
+
+returns-5 : tie.Need-returns-5
+returns-5 c = search (needs, arity-laws)
+
+returns-6 : tie.Need-returns-6
+returns-6 c = search (needs, arity-laws)
+
+returns-7 : tie.Need-returns-7
+returns-7 c = search (needs, arity-laws)
+
+returns-8 : tie.Need-returns-8
+returns-8 c = search (needs, arity-laws)
+
+pub arity-of-spec : {M : Type 1} → statement M
+arity-of-spec =
+    tie.close
+    (tie.spec
+    index-requires
+    returns
+    returns-2
+    returns-3
+    returns-4
+    returns-5
+    returns-6
+    returns-7
+    returns-8)

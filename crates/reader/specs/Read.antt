@@ -1,0 +1,116 @@
+-- What the reader answers, line by line, and what it leaves in the lent table. It is what `readAnswer` and `tableAfter`
+-- say: the laws answer-exact and after-exact.
+use Prim.Native.Nat.{ℕ, zero, suc, _+_, _-_}
+use mathlib.Core.Bool.{Bool, true, false}
+use mathlib.Core.List.{List, _++_}
+use lib.ListN.{length, take, drop, replicate}
+use lib.Dec.{leb, ltb}
+use Rattle.model.specs.Bounds.{maxBytes, tableWords}
+use Rattle.model.specs.Table.{row18}
+use Rattle.line_order.specs.Due.{isEnd, dueFirst, dueAfter}
+use Rattle.line_order.specs.Counts.{countsNone, countsAfter}
+use Rattle.format.specs.Bytes.{Bytes, LF}
+use Rattle.format.specs.Reader as Reader
+use Rattle.format.specs.Reader.{row1}
+use Rattle.text_bytes.specs.Find.{firstFrom}
+use Rattle.read_line.specs.declared.LineRead.{LineRead}
+use Rattle.read_line.specs.declared.LineRead.the-variants as LineRead
+use Rattle.read_line.specs.Line.{lineRead, lineAfter}
+use Rattle.reader.specs.declared.ReadAnswer.{ReadAnswer}
+use Rattle.reader.specs.declared.ReadAnswer.the-variants.{Accepted, Refused}
+use Rattle.reader.specs.declared.Place.{Place}
+use Rattle.reader.specs.declared.Round.{Round}
+use Rattle.reader.specs.declared.Round.the-variants.{Done, On}
+
+-- what each answer of the definitions is as the function gives it
+unfoldable pub readOf : Reader.ReadAnswer → ReadAnswer
+readOf (Reader.refused row line) = Refused row line
+readOf (Reader.accepted m) = Accepted
+
+unfoldable pub placeFirst : Place
+placeFirst = record { due = dueFirst; counts = countsNone; at = 0; byte = 0 }
+
+-- after a line with this number and so many nodes, which ended before byte `stop`
+unfoldable pub placeAfter : Place → (number nodes next stop : ℕ) → Place
+placeAfter p number nodes next stop =
+    record { due = dueAfter (p .due) number; counts = countsAfter (p .counts) (p .due .key) number nodes; at = next; byte = stop + 1 }
+
+-- the answer, and the buffer with the words of the lines so far
+pub record Outcome : Type 0 where
+  pub answer : ReadAnswer
+  pub words : List ℕ
+
+abbrev pub outcome : ReadAnswer → List ℕ → Outcome
+outcome a words = record { answer = a; words = words }
+
+module _ (text : Bytes) where
+  -- where the line at a place ends, and its bytes
+  unfoldable pub stopAt : Place → ℕ
+  stopAt p = firstFrom text (p .byte) LF
+
+  unfoldable pub lineAt : Place → Bytes
+  lineAt p = take (stopAt p - p .byte) (drop (p .byte) text)
+
+  -- what the line at a place comes to, by its number, and the buffer then
+  unfoldable pub onLine : (line : ℕ) → Place → LineRead → Round
+  onLine line p (LineRead.Fault row) = Done (Refused row line)
+  onLine line p (LineRead.Sound number nodes next) = On (placeAfter p number nodes next (stopAt p))
+
+  unfoldable pub lineRound : (line : ℕ) → Place → List ℕ → Round
+  lineRound line p words = onLine line p (lineRead (lineAt p) (ltb (stopAt p) (length text)) (p .due .key) (p .counts) words (p .at))
+
+  unfoldable pub lineRoundAfter : Place → List ℕ → List ℕ
+  lineRoundAfter p words = lineAfter (lineAt p) (ltb (stopAt p) (length text)) (p .due .key) (p .counts) words (p .at)
+
+  -- one round: no line is left, or none is due, or a line is read
+  unfoldable pub roundAt : (line : ℕ) → Place → List ℕ → Round
+  roundAt line p words =
+      elim (leb (length text) (p .byte)) [
+        | true ↦ elim (isEnd (p .due .key)) [ true ↦ Done Accepted | false ↦ Done (Refused 2 line) ]
+        | false ↦ elim (isEnd (p .due .key)) [ true ↦ Done (Refused 2 line) | false ↦ lineRound line p words ]
+      ]
+
+  unfoldable pub roundAfter : Place → List ℕ → List ℕ
+  roundAfter p words =
+      elim (leb (length text) (p .byte)) [
+        | true ↦ words
+        | false ↦ elim (isEnd (p .due .key)) [ true ↦ words | false ↦ lineRoundAfter p words ]
+      ]
+
+  -- from a place on, at most so many rounds; `go` reads on
+  unfoldable pub onRound : (go : Place → List ℕ → Outcome) → Round → List ℕ → Outcome
+  onRound go (Done a) words = outcome a words
+  onRound go (On q) words = go q words
+
+  unfoldable pub readFrom : (left line : ℕ) → Place → List ℕ → Outcome
+  readFrom zero line p words = outcome (Refused 2 0) words
+  readFrom (suc n) line p words = onRound (λ q ws. readFrom n (line + 1) q ws) (roundAt line p words) (roundAfter p words)
+
+  -- each line takes a byte at least, and the last round finds the end
+  unfoldable pub sheetRead : List ℕ → Outcome
+  sheetRead words = readFrom (maxBytes + 1) 1 placeFirst words
+
+-- the words into the first places of a table that has as many
+unfoldable pub stored : (words table : List ℕ) → List ℕ
+stored words table = elim (leb (length words) (length table)) [ true ↦ words ++ drop (length words) table | false ↦ table ]
+
+unfoldable pub storedIf : Outcome → List ℕ → List ℕ
+storedIf o table = elim (o .answer) [ Accepted ↦ stored (o .words) table | Refused row line ↦ table ]
+
+-- the table that reading begins with
+abbrev pub blank : List ℕ
+blank = replicate tableWords 0
+
+unfoldable pub readTo : Bytes → List ℕ → ReadAnswer
+readTo text table =
+    elim (row18 (length table)) [
+      | true ↦ Refused 18 0
+      | false ↦ elim (row1 text) [ true ↦ Refused 1 0 | false ↦ sheetRead text blank .answer ]
+    ]
+
+unfoldable pub readAfter : Bytes → List ℕ → List ℕ
+readAfter text table =
+    elim (row18 (length table)) [
+      | true ↦ table
+      | false ↦ elim (row1 text) [ true ↦ table | false ↦ storedIf (sheetRead text blank) table ]
+    ]

@@ -1,0 +1,142 @@
+// The loop over a text's lines.
+use crate::Place;
+use crate::ReadAnswer;
+use crate::Round;
+use line_order::Counts;
+use line_order::Due;
+use model::Model;
+use read_line::LineRead;
+ghost use mathlib.Core.Path.{_≡_};
+ghost use Prim.Native.Nat.{_+_, _≤_, _<_};
+ghost use lib.ListN.{length};
+ghost use Rattle.model.specs.Bounds.{maxBytes, tableWords};
+ghost use Rattle.format.specs.Bytes.{LF};
+ghost use Rattle.text_bytes.specs.Find.{firstFrom};
+ghost use Rattle.reader.specs.Read.{placeFirst, placeAfter, lineRound, lineRoundAfter, roundAt, roundAfter, sheetRead};
+
+impl Place {
+    fn first() -> Place
+        ensures { λ r. ⌜ r ≡ placeFirst ⌝ }
+    {
+        Place {
+            due: Due::first(),
+            counts: Counts::none(),
+            at: 0,
+            byte: 0,
+        }
+    }
+
+    // After a line with this number and so many nodes, which ended before byte `stop`.
+    fn after(self, number: usize, nodes: usize, next: usize, stop: usize) -> Place
+        requires { ⌜ stop ≤ maxBytes ⌝ }
+        ensures { λ r. ⌜ r ≡ placeAfter self number nodes next stop ⌝ }
+    {
+        let due = self.due;
+        let counts = self.counts;
+        let key = due.key;
+        Place {
+            due: due.after(number),
+            counts: counts.after(key, number, nodes),
+            at: next,
+            byte: stop + 1,
+        }
+    }
+}
+
+// Where the line that begins at `byte` ends: at its LF, or at the end of the text.
+fn stop_from(text: &[u8], byte: usize) -> usize
+    requires { ⌜ byte < length (now text) ⌝ }
+    ensures { λ r. ⌜ (r ≡ firstFrom (now (text .entry)) byte LF) × (byte ≤ r) × (r ≤ length (now (text .entry))) ⌝ }
+{
+    text_bytes::find(text, byte, 10)
+}
+
+// The line at a place, which has this number.
+fn line(
+    text: &[u8],
+    number: usize,
+    place: Place,
+    words: &mut [u32; 8192],
+    scratch: &mut [u32; 32768],
+    sorts: &mut [bool; 32768],
+) -> Round
+    requires { ⌜ (place .byte < length (now text)) × (length (now text) ≤ maxBytes) ⌝ }
+    ensures { λ r. ⌜ (r ≡ lineRound (now (text .entry)) number place (now (words .entry))) × (now (words .exit) ≡ lineRoundAfter (now (text .entry)) place (now (words .entry))) ⌝ }
+{
+    let byte = place.byte;
+    let at = place.at;
+    let due = place.due;
+    let counts = place.counts;
+    let key = due.key;
+    let stop = stop_from(text, byte);
+    let ended = stop < text.len();
+    let read = read_line::read(
+        &text[byte..stop],
+        ended,
+        key,
+        counts,
+        words,
+        at,
+        scratch,
+        sorts,
+    );
+    match read {
+        LineRead::Fault(row) => Round::Done(ReadAnswer::Refused(row, number)),
+        LineRead::Sound(count, nodes, next) => Round::On(place.after(count, nodes, next, stop)),
+    }
+}
+
+// One round: no line is left, or none is due, or a line is read.
+fn round(
+    text: &[u8],
+    number: usize,
+    place: Place,
+    words: &mut [u32; 8192],
+    scratch: &mut [u32; 32768],
+    sorts: &mut [bool; 32768],
+) -> Round
+    requires { ⌜ (length (now text) ≤ maxBytes) ⌝ }
+    ensures { λ r. ⌜ (r ≡ roundAt (now (text .entry)) number place (now (words .entry))) × (now (words .exit) ≡ roundAfter (now (text .entry)) place (now (words .entry))) ⌝ }
+{
+    let byte = place.byte;
+    let due = place.due;
+    let key = due.key;
+    let end = line_order::end(key);
+    if text.len() <= byte {
+        if end {
+            return Round::Done(ReadAnswer::Accepted);
+        }
+        return Round::Done(ReadAnswer::Refused(2, number));
+    }
+    if end {
+        return Round::Done(ReadAnswer::Refused(2, number));
+    }
+    line(text, number, place, words, scratch, sorts)
+}
+
+// The text's lines into `words`, one after the other.
+pub(crate) fn sheet(text: &[u8], words: &mut [u32; 8192]) -> ReadAnswer
+    requires { ⌜ length (now text) ≤ maxBytes ⌝ }
+    ensures { λ r. ⌜ (r ≡ sheetRead (now (text .entry)) (now (words .entry)) .answer) × (now (words .exit) ≡ sheetRead (now (text .entry)) (now (words .entry)) .words) ⌝ }
+{
+    let mut scratch = [0u32; 32768];
+    let mut sorts = [false; 32768];
+    let mut place = Place::first();
+    // Each line takes a byte at least, so the text has been read before the rounds are over; the last finds the end.
+    let mut left = Model::BYTES + 1;
+    let mut number: usize = 1;
+    while left != 0 {
+        let next = round(text, number, place, words, &mut scratch, &mut sorts);
+        match next {
+            Round::Done(answer) => {
+                return answer;
+            }
+            Round::On(later) => {
+                place = later;
+            }
+        }
+        left -= 1;
+        number += 1;
+    }
+    ReadAnswer::Refused(2, 0)
+}

@@ -1,0 +1,37 @@
+-- Each way out of the code of src/lib.rt.
+use Prim.Native.Nat.{ℕ, _≤_, _<_}
+use mathlib.Core.Path.{_≡_, sym, _∙_}
+use mathlib.Core.Bool.{Bool, true, false}
+use mathlib.Core.List.{List}
+use lib.ListN.{length, take}
+use lib.Seq.{length-take-le}
+use borrow.Author.Tests.{lt-ltb, le-ltb}
+use Rattle.model.specs.Table.{row18}
+use Rattle.table_check.specs.declared.Checked.the-variants.{Good, Refused}
+use Rattle.table_check.specs.Scan.{scannedSheet}
+use Rattle.table_check.specs.Line.{lineAt}
+use Rattle.table_check.specs.Check.{checkedTable}
+
+-- `check`
+pub cut-whole : (t : List ℕ) → 8192 ≤ length t → 8192 ≡ length (take 8192 t)
+cut-whole t h = sym (length-take-le 8192 t h)
+
+module _ (t : List ℕ) where
+  pub check-short : length t < 8192 → Refused 18 ≡ checkedTable t
+  unfolding checkedTable row18
+  check-short h = rw (lt-ltb (length t) 8192 h, checkedTable)
+
+  module _ (h : 8192 ≤ length t) (r : Bool) (e : r ≡ scannedSheet (lineAt (take 8192 t)) (take 8192 t)) where
+    pub check-good : r ≡ true → Good ≡ checkedTable t
+    unfolding checkedTable row18
+    check-good g =
+        let u : scannedSheet (lineAt (take 8192 t)) (take 8192 t) ≡ true = sym e ∙ g in
+        rw (le-ltb (length t) 8192 h, checkedTable, u, checkedTable)
+
+    pub check-bad : r ≡ false → Refused 19 ≡ checkedTable t
+    unfolding checkedTable row18
+    check-bad g =
+        let u : scannedSheet (lineAt (take 8192 t)) (take 8192 t) ≡ false = sym e ∙ g in
+        rw (le-ltb (length t) 8192 h, checkedTable, u, checkedTable)
+
+pub ruleset check-laws = (check-short, check-good, check-bad)

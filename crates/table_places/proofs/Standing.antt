@@ -1,0 +1,91 @@
+-- What stands at the place of one part; and no place is past the table's end.
+use mathlib.Core.Path.{_≡_, ap, _∙_}
+use mathlib.Core.List.{List, _++_, append-assoc, flatMap}
+use Prim.Native.Nat.{ℕ, zero, suc, _≤_, _<_}
+use native.Mathlib.Omega.{arith}
+use lib.ListN.{length, getD, drop}
+use lib.Seq.{drop-cons}
+use Rattle.model.specs.Model.{Location, Edge, Automaton, Model, nowhere, nobody, automaton}
+use Rattle.model.specs.Lines.{edgeLine, composeLine, locationLines, automatonLines}
+use Rattle.model.specs.Table.{predWords, lineWords, sheetWords}
+use Rattle.table_places.specs.Outline.{reach, afterPredicate, locationAt, edgeAt, edgesAt, afterAutomaton, countAt, passed, automatonAt, treeAt}
+use Rattle.table_places.proofs.OutlineLaws.{reach-inside, after-predicate, words-append, wordsOf, locationWords, edgeWords, automatonWords, location-at, edge-at, automaton-at}
+
+-- location j, of a list
+module _ (t rest : List ℕ) (ls : List Location) (at j : ℕ) (h : j < length ls) (e : drop at t ≡ locationWords ls ++ rest) where
+  pub init-stands : drop (locationAt t at j) t ≡ predWords (getD ls j nowhere .init) ++ (predWords (getD ls j nowhere .inv) ++ (locationWords (drop (suc j) ls) ++ rest))
+  unfolding flatMap locationLines lineWords
+  init-stands =
+      let i = predWords (getD ls j nowhere .init) in
+      let v = predWords (getD ls j nowhere .inv) in
+      let others = locationWords (drop (suc j) ls) in
+      let l : j ≤ length ls = omega arith in
+      location-at t rest ls at j l e ∙ ap (λ (k : List Location). locationWords k ++ rest) (drop-cons ls j nowhere h) ∙
+      append-assoc i (v ++ others) rest ∙ ap (λ (r : List ℕ). i ++ r) (append-assoc v others rest)
+
+  pub inv-stands : drop (afterPredicate t (locationAt t at j)) t ≡ predWords (getD ls j nowhere .inv) ++ (locationWords (drop (suc j) ls) ++ rest)
+  inv-stands =
+      let others = predWords (getD ls j nowhere .inv) ++ (locationWords (drop (suc j) ls) ++ rest) in
+      after-predicate t (locationAt t at j) (getD ls j nowhere .init) others init-stands
+
+-- edge k, of a list
+pub edge-stands : (t rest : List ℕ) (es : List Edge) (at k : ℕ) (d : Edge) → k < length es → drop at t ≡ edgeWords es ++ rest
+    → drop (edgeAt t at k) t ≡ lineWords (edgeLine (getD es k d)) ++ (edgeWords (drop (suc k) es) ++ rest)
+unfolding flatMap
+edge-stands t rest es at k d h e =
+    let l : k ≤ length es = omega arith in
+    edge-at t rest es at k l e ∙ ap (λ (x : List Edge). edgeWords x ++ rest) (drop-cons es k d h) ∙
+    append-assoc (lineWords (edgeLine (getD es k d))) (edgeWords (drop (suc k) es)) rest
+
+-- automaton k
+pub automaton-stands : (t rest : List ℕ) (m : Model) (k : ℕ) → k < length (m .automata) → t ≡ sheetWords m ++ rest
+    → drop (automatonAt t k) t ≡ wordsOf (automatonLines (automaton m k)) ++ (automatonWords (drop (suc k) (m .automata)) ++ (lineWords (composeLine (m .tree)) ++ rest))
+unfolding flatMap
+automaton-stands t rest m k h e =
+    let l : k ≤ length (m .automata) = omega arith in
+    let after = lineWords (composeLine (m .tree)) ++ rest in
+    let others = drop (suc k) (m .automata) in
+    let x = automatonLines (automaton m k) in
+    automaton-at t rest m e k l ∙ ap (λ (xs : List Automaton). automatonWords xs ++ after) (drop-cons (m .automata) k nobody h) ∙
+    ap (λ (ws : List ℕ). ws ++ after) (words-append x (flatMap automatonLines others)) ∙ append-assoc (wordsOf x) (automatonWords others) after
+
+-- no place is past the end
+module _ (t : List ℕ) where
+  pub predicate-inside : (at : ℕ) → afterPredicate t at ≤ length t
+  unfolding afterPredicate
+  predicate-inside at = reach-inside t (reach t at 1) (getD t at 0)
+
+  pub location-inside : (at j : ℕ) → at ≤ length t → locationAt t at j ≤ length t
+  unfolding locationAt
+  location-inside at zero h = h
+  location-inside at (suc j) h = location-inside (afterPredicate t (afterPredicate t at)) j (predicate-inside (afterPredicate t at))
+
+  pub edge-inside : (at k : ℕ) → at ≤ length t → edgeAt t at k ≤ length t
+  unfolding edgeAt
+  edge-inside at zero h = h
+  edge-inside at (suc k) h = edge-inside (afterPredicate t (reach t at 3)) k (predicate-inside (reach t at 3))
+
+  pub edges-inside : (at : ℕ) → edgesAt t at ≤ length t
+  unfolding edgesAt
+  edges-inside at = location-inside (reach t at 3) (getD t (reach t at 2) 0) (reach-inside t at 3)
+
+  pub after-automaton-inside : (at : ℕ) → afterAutomaton t at ≤ length t
+  unfolding afterAutomaton
+  after-automaton-inside at = edge-inside (reach t (edgesAt t at) 1) (getD t (edgesAt t at) 0) (reach-inside t (edgesAt t at) 1)
+
+  pub count-inside : countAt t ≤ length t
+  unfolding countAt
+  count-inside = reach-inside t (reach t (reach t 0 3) (getD t 2 0)) (getD t 2 0)
+
+  passed-inside : (at k : ℕ) → at ≤ length t → passed t at k ≤ length t
+  unfolding passed
+  passed-inside at zero h = h
+  passed-inside at (suc k) h = passed-inside (afterAutomaton t at) k (after-automaton-inside at)
+
+  pub automaton-inside : (k : ℕ) → automatonAt t k ≤ length t
+  unfolding automatonAt
+  automaton-inside k = passed-inside (reach t (countAt t) 1) k (reach-inside t (countAt t) 1)
+
+  pub tree-inside : treeAt t ≤ length t
+  unfolding treeAt
+  tree-inside = automaton-inside (getD t (countAt t) 0)

@@ -1,0 +1,20 @@
+-- `table_places::tree_at` meets its contract: the definition, step by step.
+use Rattle.table_places.proofs.CodeLaws.{tree-is}
+use borrow.Author.Needs.{needs}
+use Rattle.table_places.proofs.tree_at.Statement.{statement}
+use Rattle.table_places.proofs.tree_at.Tie as tie
+
+count-at-requires : tie.Need-count-at-requires
+count-at-requires c κs = search needs
+
+word-requires : tie.Need-word-requires
+word-requires c κs = search needs
+
+automaton-at-requires : tie.Need-automaton-at-requires
+automaton-at-requires c κs = search needs
+
+returns : tie.Need-returns
+returns c = search (needs, tree-is)
+
+pub tree-at-spec : {M : Type 1} → statement M
+tree-at-spec = tie.close (tie.spec count-at-requires word-requires automaton-at-requires returns)

@@ -1,0 +1,106 @@
+// Where the parts of a sheet stand in a table. Any words will do: from a place within the table no answer is past its end.
+ghost use mathlib.Core.Path.{_≡_};
+ghost use lib.ListN.{getD};
+ghost use Rattle.table_places.specs.Outline.{reach, afterPredicate, locationAt, edgeAt, edgesAt, afterAutomaton, countAt, automatonAt, treeAt};
+
+// The place n words on, or the table's end.
+pub fn step(t: &[u32], at: usize, n: usize) -> usize
+    ensures { λ r. ⌜ r ≡ reach (now (t .entry)) at n ⌝ }
+{
+    if t.len() < at {
+        return t.len();
+    }
+    if t.len() - at < n {
+        return t.len();
+    }
+    at + n
+}
+
+// The word at a place, 0 past the end.
+pub fn word(t: &[u32], at: usize) -> usize
+    ensures { λ r. ⌜ r ≡ getD (now (t .entry)) at 0 ⌝ }
+{
+    if t.len() <= at {
+        return 0;
+    }
+    arithmetic::index(t[at])
+}
+
+// Past a predicate: its count, and so many nodes.
+pub fn after_predicate(t: &[u32], at: usize) -> usize
+    ensures { λ r. ⌜ r ≡ afterPredicate (now (t .entry)) at ⌝ }
+{
+    step(t, step(t, at, 1), word(t, at))
+}
+
+// Where the init of location j stands, `at` being where that of location 0 does. Its inv stands after it.
+pub fn location_at(t: &[u32], at: usize, j: usize) -> usize
+    ensures { λ r. ⌜ r ≡ locationAt (now (t .entry)) at j ⌝ }
+{
+    let mut left = j;
+    let mut next = at;
+    while left != 0 {
+        let inv = after_predicate(t, next);
+        next = after_predicate(t, inv);
+        left -= 1;
+    }
+    next
+}
+
+// Where edge k stands, `at` being where edge 0 does: FROM, ACT, TO, and the update.
+pub fn edge_at(t: &[u32], at: usize, k: usize) -> usize
+    ensures { λ r. ⌜ r ≡ edgeAt (now (t .entry)) at k ⌝ }
+{
+    let mut left = k;
+    let mut next = at;
+    while left != 0 {
+        let update = step(t, next, 3);
+        next = after_predicate(t, update);
+        left -= 1;
+    }
+    next
+}
+
+// Where the number of an automaton's edges stands, `at` being where its set does. The first edge stands after it.
+pub fn edges_at(t: &[u32], at: usize) -> usize
+    ensures { λ r. ⌜ r ≡ edgesAt (now (t .entry)) at ⌝ }
+{
+    let locations = word(t, step(t, at, 2));
+    location_at(t, step(t, at, 3), locations)
+}
+
+// Past an automaton.
+pub fn after_automaton(t: &[u32], at: usize) -> usize
+    ensures { λ r. ⌜ r ≡ afterAutomaton (now (t .entry)) at ⌝ }
+{
+    let place = edges_at(t, at);
+    edge_at(t, step(t, place, 1), word(t, place))
+}
+
+// Where the number of automata stands.
+pub fn count_at(t: &[u32]) -> usize
+    ensures { λ r. ⌜ r ≡ countAt (now (t .entry)) ⌝ }
+{
+    let variables = word(t, 2);
+    step(t, step(t, step(t, 0, 3), variables), variables)
+}
+
+// Where the set of automaton k stands.
+pub fn automaton_at(t: &[u32], k: usize) -> usize
+    ensures { λ r. ⌜ r ≡ automatonAt (now (t .entry)) k ⌝ }
+{
+    let mut left = k;
+    let mut next = step(t, count_at(t), 1);
+    while left != 0 {
+        next = after_automaton(t, next);
+        left -= 1;
+    }
+    next
+}
+
+// Where the tree stands: after all automata.
+pub fn tree_at(t: &[u32]) -> usize
+    ensures { λ r. ⌜ r ≡ treeAt (now (t .entry)) ⌝ }
+{
+    automaton_at(t, word(t, count_at(t)))
+}

@@ -1,0 +1,281 @@
+// The sheets of the cases, as tables: the first words here, by docs/TABLE.md, and zeros behind them.
+ghost use mathlib.Core.Path.{_≡_};
+ghost use lib.ListN.{length, getD};
+ghost use Rattle.judge_call.specs.States.{filled};
+
+// sheets/oven.txt: door, steam, and v0 the valve. Both share action 1.
+const OVEN: [u32; 51] = [
+    1,
+    2,
+    1,
+    32768,
+    32769,
+    2,
+    2,
+    0,
+    2,
+    1,
+    0,
+    1,
+    0,
+    1,
+    1,
+    3,
+    4,
+    7,
+    524294,
+    1,
+    0,
+    1,
+    1,
+    1,
+    0,
+    2,
+    0,
+    1,
+    1,
+    0,
+    1,
+    0,
+    2,
+    0,
+    1,
+    0,
+    3,
+    4,
+    8,
+    524294,
+    0,
+    2,
+    0,
+    3,
+    4,
+    8,
+    524310,
+    3,
+    0,
+    2,
+    3,
+];
+
+// The same with `sync=` in the door sheet.
+const ONE_SIDED: [u32; 51] = [
+    1,
+    2,
+    1,
+    32768,
+    32769,
+    2,
+    0,
+    0,
+    2,
+    1,
+    0,
+    1,
+    0,
+    1,
+    1,
+    3,
+    4,
+    7,
+    524294,
+    1,
+    0,
+    1,
+    1,
+    1,
+    0,
+    2,
+    0,
+    1,
+    1,
+    0,
+    1,
+    0,
+    2,
+    0,
+    1,
+    0,
+    3,
+    4,
+    8,
+    524294,
+    0,
+    2,
+    0,
+    3,
+    4,
+    8,
+    524310,
+    3,
+    0,
+    2,
+    3,
+];
+
+// The oven and a lamp sheet that shares action 1 too and goes from location 0 to 1 under it: `par par a0 a1 a2`.
+const LAMP: [u32; 70] = [
+    1,
+    2,
+    1,
+    32768,
+    32769,
+    3,
+    2,
+    0,
+    2,
+    1,
+    0,
+    1,
+    0,
+    1,
+    1,
+    3,
+    4,
+    7,
+    524294,
+    1,
+    0,
+    1,
+    1,
+    1,
+    0,
+    2,
+    0,
+    1,
+    1,
+    0,
+    1,
+    0,
+    2,
+    0,
+    1,
+    0,
+    3,
+    4,
+    8,
+    524294,
+    0,
+    2,
+    0,
+    3,
+    4,
+    8,
+    524310,
+    2,
+    0,
+    2,
+    1,
+    0,
+    1,
+    0,
+    1,
+    1,
+    1,
+    0,
+    1,
+    0,
+    1,
+    1,
+    1,
+    0,
+    5,
+    0,
+    0,
+    2,
+    3,
+    4,
+];
+
+// No variables; two sheets that each go from 0 to 1 under action 1 and do not share it: `syn 1 par a0 a1`.
+const PAIR: [u32; 45] = [
+    1,
+    1,
+    0,
+    2,
+    0,
+    0,
+    2,
+    1,
+    0,
+    1,
+    0,
+    1,
+    1,
+    1,
+    0,
+    1,
+    0,
+    1,
+    1,
+    1,
+    0,
+    0,
+    0,
+    2,
+    1,
+    0,
+    1,
+    0,
+    1,
+    1,
+    1,
+    0,
+    1,
+    0,
+    1,
+    1,
+    1,
+    0,
+    4,
+    1,
+    2,
+    0,
+    0,
+    2,
+    3,
+];
+
+// The word at a place, 0 past the end.
+fn word(words: &[u32], at: usize) -> u32
+    ensures { λ r. ⌜ r ≡ getD (now (words .entry)) at 0 ⌝ }
+{
+    if at < words.len() { words[at] } else { 0 }
+}
+
+fn padded(words: &[u32]) -> [u32; 8192]
+    ensures { λ r. ⌜ 8192 ≡ length r ⌝ }
+    ensures { λ r. ⌜ r ≡ filled 8192 0 (now (words .entry)) ⌝ }
+{
+    let mut all = [0u32; 8192];
+    let mut i = 0;
+    while i < 8192 {
+        all[i] = word(words, i);
+        i += 1;
+    }
+    all
+}
+
+pub(crate) fn oven() -> [u32; 8192]
+    ensures { λ r. ⌜ 8192 ≡ length r ⌝ }
+{
+    padded(&OVEN)
+}
+
+pub(crate) fn one_sided() -> [u32; 8192]
+    ensures { λ r. ⌜ 8192 ≡ length r ⌝ }
+{
+    padded(&ONE_SIDED)
+}
+
+pub(crate) fn lamp() -> [u32; 8192]
+    ensures { λ r. ⌜ 8192 ≡ length r ⌝ }
+{
+    padded(&LAMP)
+}
+
+pub(crate) fn pair() -> [u32; 8192]
+    ensures { λ r. ⌜ 8192 ≡ length r ⌝ }
+{
+    padded(&PAIR)
+}
