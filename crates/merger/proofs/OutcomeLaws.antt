@@ -73,13 +73,13 @@ module _ (text : Bytes) (a : ReadAnswer) (e : a ≡ readOf (readAnswer text (len
     reads-row : readAnswer text tableWords ≡ Reader.refused row line
     reads-row = read-row text tableWords row line (sym (e ∙ same-room) ∙ f)
 
-    pub merge_text-refused : Refused row line ≡ outcome text (length old)
+    pub merge-text-refused : Refused row line ≡ outcome text (length old)
     unfolding outcome
-    merge_text-refused = rw (reads-row, outcome)
+    merge-text-refused = rw (reads-row, outcome)
 
-    pub merge_text-untouched : old ≡ outcomeAfter text old
+    pub merge-text-untouched : old ≡ outcomeAfter text old
     unfolding outcomeAfter
-    merge_text-untouched = rw (reads-row, outcomeAfter)
+    merge-text-untouched = rw (reads-row, outcomeAfter)
 
   module _ (f : a ≡ R.Accepted) (table : List ℕ) (g : table ≡ tableAfter text (replicate 8192 0)) (old : Bytes) where
     read-model : (m : Model) × (readAnswer text tableWords ≡ Reader.accepted m)
@@ -94,16 +94,16 @@ module _ (text : Bytes) (a : ReadAnswer) (e : a ≡ readOf (readAnswer text (len
         let all : drop tableWords zeros ≡ [] = drop-of-length-le zeros few in
         g ∙ rw (h, tableAfter) (ap (λ (l : List ℕ). tableOf (read-model .0) ++ l) all ∙ append-nil (tableOf (read-model .0)))
 
-    pub merge_text-merged : (b : MergeAnswer) (r : Outcome) → b ≡ mergeOf (mergeAnswer table (length old)) → r ≡ passedOn b → r ≡ outcome text (length old)
+    pub merge-text-merged : (b : MergeAnswer) (r : Outcome) → b ≡ mergeOf (mergeAnswer table (length old)) → r ≡ passedOn b → r ≡ outcome text (length old)
     unfolding outcome
-    merge_text-merged b r eb er =
+    merge-text-merged b r eb er =
         er ∙ ap passedOn (eb ∙ ap (λ (t : List ℕ). mergeOf (mergeAnswer t (length old))) read-table) ∙ rw (read-model .1, outcome)
 
-    pub merge_text-written : (new : Bytes) → new ≡ mergeAfter (mergeAnswer table (length old)) old → new ≡ outcomeAfter text old
+    pub merge-text-written : (new : Bytes) → new ≡ mergeAfter (mergeAnswer table (length old)) old → new ≡ outcomeAfter text old
     unfolding outcomeAfter
-    merge_text-written new en = en ∙ ap (λ (t : List ℕ). mergeAfter (mergeAnswer t (length old)) old) read-table ∙ rw (read-model .1, outcomeAfter)
+    merge-text-written new en = en ∙ ap (λ (t : List ℕ). mergeAfter (mergeAnswer t (length old)) old) read-table ∙ rw (read-model .1, outcomeAfter)
 
-pub ruleset merge_text-laws = (merge_text-refused, merge_text-untouched, merge_text-merged, merge_text-written)
+pub ruleset merge-text-laws = (merge-text-refused, merge-text-untouched, merge-text-merged, merge-text-written)
 
 -- `place`
 pub place-to : (w : Written) (n : ℕ) → w ≡ To n → n ≡ placeOf w

@@ -1,5 +1,5 @@
 -- `merger::merge_text` meets its contract: each way out is a law.
-use Rattle.merger.proofs.OutcomeLaws.{merge_text-laws}
+use Rattle.merger.proofs.OutcomeLaws.{merge-text-laws}
 use borrow.Author.Needs.{needs}
 use Rattle.merger.proofs.merge_text.Statement.{statement}
 use Rattle.merger.proofs.merge_text.Tie as tie
@@ -29,13 +29,13 @@ same-length : tie.Need-same-length
 same-length c = search needs
 
 returns : tie.Need-returns
-returns c = search (needs, merge_text-laws)
+returns c = search (needs, merge-text-laws)
 
 returns-2 : tie.Need-returns-2
-returns-2 c = search (needs, merge_text-laws)
+returns-2 c = search (needs, merge-text-laws)
 
-pub merge_text-spec : {M : Type 1} → statement M
-merge_text-spec =
+pub merge-text-spec : {M : Type 1} → statement M
+merge-text-spec =
     tie.close
     (tie.spec
     slice-aggregate-read

@@ -4,11 +4,11 @@ use borrow.Author.Needs.{needs}
 use Rattle.merger.proofs.program.output.Statement.{statement}
 use Rattle.merger.proofs.program.output.Tie as tie
 
-slice-aggregate-merge_text : tie.Need-slice-aggregate-merge_text
-slice-aggregate-merge_text c = search needs
+slice-aggregate-merge-text : tie.Need-slice-aggregate-merge-text
+slice-aggregate-merge-text c = search needs
 
-merge_text-requires : tie.Need-merge_text-requires
-merge_text-requires c κs = search needs
+merge-text-requires : tie.Need-merge-text-requires
+merge-text-requires c κs = search needs
 
 enum-known-outcome : tie.Need-enum-known-outcome
 enum-known-outcome c = search needs
@@ -32,8 +32,8 @@ pub output-spec : {M : Type 1} → statement M
 output-spec =
     tie.close
     (tie.spec
-    slice-aggregate-merge_text
-    merge_text-requires
+    slice-aggregate-merge-text
+    merge-text-requires
     enum-known-outcome
     enum-known-outcome-2
     slice-aggregate-refusal
