@@ -7,6 +7,7 @@ use native.Mathlib.Omega.{arith}
 use lib.ListN.{getD, replicate}
 use lib.Dec.{ltb}
 use borrow.Author.Tests.{le-leb, lt-leb, lt-ltb, le-ltb, eq-eqb, ne-eqb}
+use Rattle.model.specs.Bounds.{tableWords}
 use Rattle.merge_words.specs.declared.Linearization.{Linearization}
 use Rattle.merge_words.specs.declared.survey.Survey.{Survey}
 use Rattle.table_places.specs.Outline.{countAt}
@@ -20,7 +21,7 @@ use Rattle.merge_words.specs.Survey.{surveyWhole}
 use Rattle.merge_words.specs.Linearize.{refusedBy, mergedTo, lastAction, isCrowded, faultBy, sheetTable, linearFor, linearBy}
 
 -- `refused`
-pub refused-is : (row : ℕ) → record { row = row; edges = 0; table = replicate 8192 0 } ≡ refusedBy row
+pub refused-is : (row : ℕ) → record { row = row; edges = 0; table = replicate tableWords 0 } ≡ refusedBy row
 unfolding refusedBy
 refused-is row = refl
 
@@ -76,7 +77,7 @@ module _ (t own : List ℕ) (edges last : ℕ) where
 pub ruleset fault-laws = (fault-32, fault-33, fault-34, fault-none)
 
 -- `merged`
-pub merged-is : (t own : List ℕ) (edges last r : ℕ) (new : List ℕ) → Appended (mergedSheet t own edges last) 0 (replicate 8192 0) new r
+pub merged-is : (t own : List ℕ) (edges last r : ℕ) (new : List ℕ) → Appended (mergedSheet t own edges last) 0 (replicate tableWords 0) new r
     → record { row = 0; edges = edges; table = new } ≡ mergedTo edges (sheetTable t own edges last)
 unfolding mergedTo sheetTable
 merged-is t own edges last r new p = ap (mergedTo edges) (p .memory)

@@ -1,6 +1,7 @@
 // The merged init, and the merged inv: `all K` of `imp eq vI J` with that init (or inv), for each automaton's pointer and location.
 use crate::node_words::{self};
 use crate::put::{self};
+use model::Model;
 ghost use mathlib.Core.Path.{_≡_};
 ghost use lib.ListN.{length};
 ghost use Rattle.model.specs.Bounds.{tableWords};
@@ -18,7 +19,14 @@ pub fn part(t: &[u32], inv: bool, at: usize) -> usize
     }
 }
 
-fn clause(t: &[u32], k: usize, j: usize, part: usize, out: &mut [u32; 8192], at: usize) -> usize
+fn clause(
+    t: &[u32],
+    k: usize,
+    j: usize,
+    part: usize,
+    out: &mut [u32; Model::WORDS],
+    at: usize,
+) -> usize
     requires { ⌜ length (now out) ≡ tableWords ⌝ }
     ensures { λ r. ⌜ Appended (clauseWords (now (t .entry)) k j part) at (now (out .entry)) (now (out .exit)) r ⌝ }
 {
@@ -36,7 +44,7 @@ fn at_locations(
     k: usize,
     count: usize,
     first: usize,
-    out: &mut [u32; 8192],
+    out: &mut [u32; Model::WORDS],
     at: usize,
 ) -> usize
     requires { ⌜ length (now out) ≡ tableWords ⌝ }
@@ -61,7 +69,7 @@ fn at_automaton(
     inv: bool,
     k: usize,
     place: usize,
-    out: &mut [u32; 8192],
+    out: &mut [u32; Model::WORDS],
     at: usize,
 ) -> usize
     requires { ⌜ length (now out) ≡ tableWords ⌝ }
@@ -86,7 +94,7 @@ fn at_automata(
     variables: usize,
     count: usize,
     first: usize,
-    out: &mut [u32; 8192],
+    out: &mut [u32; Model::WORDS],
     at: usize,
 ) -> usize
     requires { ⌜ length (now out) ≡ tableWords ⌝ }
@@ -162,7 +170,7 @@ pub fn merged_nodes(t: &[u32], inv: bool) -> usize
 }
 
 // The merged init, or the merged inv, with its count of nodes.
-pub fn merged(t: &[u32], inv: bool, out: &mut [u32; 8192], at: usize) -> usize
+pub fn merged(t: &[u32], inv: bool, out: &mut [u32; Model::WORDS], at: usize) -> usize
     requires { ⌜ length (now out) ≡ tableWords ⌝ }
     ensures { λ r. ⌜ Appended (mergedWords (now (t .entry)) inv) at (now (out .entry)) (now (out .exit)) r ⌝ }
 {

@@ -4,6 +4,7 @@ use crate::layout::{self};
 use crate::merged_edge::{self};
 use crate::node_words::{self};
 use crate::put::{self};
+use model::Model;
 ghost use mathlib.Core.Path.{_≡_};
 ghost use Prim.Native.Nat.{_+_, _≤_};
 ghost use lib.ListN.{length, replicate};
@@ -93,7 +94,7 @@ fn edge(
     action: usize,
     cells: &[u32; 192],
     k: u32,
-    out: &mut [u32; 8192],
+    out: &mut [u32; Model::WORDS],
     at: usize,
 ) -> usize
     requires { ⌜ x ≡ layoutOf (now t) ⌝ }
@@ -111,7 +112,7 @@ fn edges(
     action: usize,
     cells: &[u32; 192],
     count: u32,
-    out: &mut [u32; 8192],
+    out: &mut [u32; Model::WORDS],
     at: usize,
 ) -> usize
     requires { ⌜ x ≡ layoutOf (now t) ⌝ }
@@ -133,7 +134,7 @@ fn action_edges(
     x: Layout,
     own: &[u64; 16],
     action: u32,
-    out: &mut [u32; 8192],
+    out: &mut [u32; Model::WORDS],
     at: usize,
 ) -> usize
     requires { ⌜ x ≡ layoutOf (now t) ⌝ }
@@ -146,7 +147,13 @@ fn action_edges(
 }
 
 // The edges of the actions from 0 to `last`.
-pub fn all_edges(t: &[u32], own: &[u64; 16], last: u32, out: &mut [u32; 8192], at: usize) -> usize
+pub fn all_edges(
+    t: &[u32],
+    own: &[u64; 16],
+    last: u32,
+    out: &mut [u32; Model::WORDS],
+    at: usize,
+) -> usize
     requires { ⌜ (length (now out) ≡ tableWords) × (last ≤ 4294967294) ⌝ }
     ensures { λ r. ⌜ Appended (edgesOf (now (t .entry)) (now (own .entry)) 0 (last + 1)) at (now (out .entry)) (now (out .exit)) r ⌝ }
 {

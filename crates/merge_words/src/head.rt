@@ -1,6 +1,7 @@
 // The merged sheet's words before its automaton.
 use crate::node_words::{self};
 use crate::put::{self};
+use model::Model;
 ghost use mathlib.Core.Path.{_≡_};
 ghost use mathlib.Core.List.{[], _∷_};
 ghost use lib.ListN.{length};
@@ -20,7 +21,7 @@ fn last_location(t: &[u32], at: usize) -> usize
 }
 
 // A pointer's range: from 0 to the last location.
-fn range(high: usize, out: &mut [u32; 8192], at: usize) -> usize
+fn range(high: usize, out: &mut [u32; Model::WORDS], at: usize) -> usize
     requires { ⌜ length (now out) ≡ tableWords ⌝ }
     ensures { λ r. ⌜ Appended (bias ∷ high ∷ []) at (now (out .entry)) (now (out .exit)) r ⌝ }
 {
@@ -29,7 +30,13 @@ fn range(high: usize, out: &mut [u32; 8192], at: usize) -> usize
 }
 
 // The ranges of `count` pointers, the first one's automaton standing at `first`.
-fn pointers(t: &[u32], first: usize, count: usize, out: &mut [u32; 8192], at: usize) -> usize
+fn pointers(
+    t: &[u32],
+    first: usize,
+    count: usize,
+    out: &mut [u32; Model::WORDS],
+    at: usize,
+) -> usize
     requires { ⌜ length (now out) ≡ tableWords ⌝ }
     ensures { λ r. ⌜ Appended (pointerRanges (now (t .entry)) first count) at (now (out .entry)) (now (out .exit)) r ⌝ }
 {
@@ -45,7 +52,7 @@ fn pointers(t: &[u32], first: usize, count: usize, out: &mut [u32; 8192], at: us
 }
 
 // Format, actions, V + N, the ranges, and one automaton.
-pub fn head(t: &[u32], out: &mut [u32; 8192], at: usize) -> usize
+pub fn head(t: &[u32], out: &mut [u32; Model::WORDS], at: usize) -> usize
     requires { ⌜ length (now out) ≡ tableWords ⌝ }
     ensures { λ r. ⌜ Appended (headWords (now (t .entry))) at (now (out .entry)) (now (out .exit)) r ⌝ }
 {
@@ -66,7 +73,7 @@ pub fn head(t: &[u32], out: &mut [u32; 8192], at: usize) -> usize
 }
 
 // The merged sheet's last words: a tree of one leaf.
-pub fn tail(out: &mut [u32; 8192], at: usize) -> usize
+pub fn tail(out: &mut [u32; Model::WORDS], at: usize) -> usize
     requires { ⌜ length (now out) ≡ tableWords ⌝ }
     ensures { λ r. ⌜ Appended (1 ∷ 2 ∷ []) at (now (out .entry)) (now (out .exit)) r ⌝ }
 {

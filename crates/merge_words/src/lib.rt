@@ -13,6 +13,7 @@ mod sheet;
 mod survey;
 mod sync;
 
+use model::Model;
 ghost use mathlib.Core.Path.{_≡_};
 ghost use Prim.Native.Nat.{_+_, _≤_};
 ghost use Rattle.merge_words.specs.MergedEdges.{movesOf};
@@ -23,7 +24,7 @@ ghost use Rattle.merge_words.specs.Linearize.{refusedBy, mergedTo, lastA
 pub struct Linearization {
     pub row: u32,
     pub edges: usize,
-    pub table: [u32; 8192],
+    pub table: [u32; Model::WORDS],
 }
 
 pub fn refused(row: u32) -> Linearization
@@ -32,7 +33,7 @@ pub fn refused(row: u32) -> Linearization
     Linearization {
         row,
         edges: 0,
-        table: [0u32; 8192],
+        table: [0u32; Model::WORDS],
     }
 }
 
@@ -41,7 +42,7 @@ fn merged(t: &[u32], own: &[u64; 16], edges: usize, last: u32) -> Linearization
     requires { ⌜ last ≤ 4294967294 ⌝ }
     ensures { λ r. ⌜ r ≡ mergedTo edges (sheetTable (now (t .entry)) (now (own .entry)) edges last) ⌝ }
 {
-    let mut table = [0u32; 8192];
+    let mut table = [0u32; Model::WORDS];
     let _end = sheet::sheet(t, own, edges, last, &mut table, 0);
     Linearization {
         row: 0,

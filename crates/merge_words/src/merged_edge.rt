@@ -1,6 +1,7 @@
 // One merged edge, from what each automaton takes: none by 0, and edge j among its edges under the action by 1 + j.
 use crate::node_words::{self};
 use crate::put::{self};
+use model::Model;
 ghost use mathlib.Core.Path.{_≡_};
 ghost use mathlib.Core.List.{[], _∷_};
 ghost use lib.ListN.{length};
@@ -83,7 +84,7 @@ pub fn takers_of(t: &[u32], starts: &[usize; 16], action: usize, picks: &[u32; 1
 }
 
 // A taker's update.
-fn update(t: &[u32], place: usize, out: &mut [u32; 8192], at: usize) -> usize
+fn update(t: &[u32], place: usize, out: &mut [u32; Model::WORDS], at: usize) -> usize
     requires { ⌜ length (now out) ≡ tableWords ⌝ }
     ensures { λ r. ⌜ Appended (updateAt (now (t .entry)) place) at (now (out .entry)) (now (out .exit)) r ⌝ }
 {
@@ -94,7 +95,7 @@ fn update(t: &[u32], place: usize, out: &mut [u32; 8192], at: usize) -> usize
 }
 
 // `eq` of an old or a new pointer and a location.
-fn equal(pointer: usize, location: usize, out: &mut [u32; 8192], at: usize) -> usize
+fn equal(pointer: usize, location: usize, out: &mut [u32; Model::WORDS], at: usize) -> usize
     requires { ⌜ length (now out) ≡ tableWords ⌝ }
     ensures { λ r. ⌜ Appended (eqNode ∷ pointer ∷ numberNode location ∷ []) at (now (out .entry)) (now (out .exit)) r ⌝ }
 {
@@ -104,7 +105,13 @@ fn equal(pointer: usize, location: usize, out: &mut [u32; 8192], at: usize) -> u
 }
 
 // A taker's pointer was FROM and becomes TO.
-fn pointer_move(t: &[u32], k: usize, place: usize, out: &mut [u32; 8192], at: usize) -> usize
+fn pointer_move(
+    t: &[u32],
+    k: usize,
+    place: usize,
+    out: &mut [u32; Model::WORDS],
+    at: usize,
+) -> usize
     requires { ⌜ length (now out) ≡ tableWords ⌝ }
     ensures { λ r. ⌜ Appended (moveAt (now (t .entry)) k place) at (now (out .entry)) (now (out .exit)) r ⌝ }
 {
@@ -117,7 +124,7 @@ fn pointer_move(t: &[u32], k: usize, place: usize, out: &mut [u32; 8192], at: us
     equal(node_words::new_node(k), to, out, a)
 }
 
-fn updates(t: &[u32], places: &[usize; 16], out: &mut [u32; 8192], at: usize) -> usize
+fn updates(t: &[u32], places: &[usize; 16], out: &mut [u32; Model::WORDS], at: usize) -> usize
     requires { ⌜ (length (now out) ≡ tableWords) × (length (now places) ≡ maxAutomata) ⌝ }
     ensures { λ r. ⌜ Appended (updatesAt (now (t .entry)) (now (places .entry))) at (now (out .entry)) (now (out .exit)) r ⌝ }
 {
@@ -134,7 +141,7 @@ fn pointer_moves(
     t: &[u32],
     variables: usize,
     places: &[usize; 16],
-    out: &mut [u32; 8192],
+    out: &mut [u32; Model::WORDS],
     at: usize,
 ) -> usize
     requires { ⌜ (length (now out) ≡ tableWords) × (length (now places) ≡ maxAutomata) ⌝ }
@@ -202,7 +209,7 @@ pub fn edge(
     t: &[u32],
     action: usize,
     places: &[usize; 16],
-    out: &mut [u32; 8192],
+    out: &mut [u32; Model::WORDS],
     at: usize,
 ) -> usize
     requires { ⌜ (length (now out) ≡ tableWords) × (length (now places) ≡ maxAutomata) ⌝ }

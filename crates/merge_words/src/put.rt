@@ -1,4 +1,5 @@
 // Words at the end of a table that is being filled. A table that is full stays as it is.
+use model::Model;
 ghost use mathlib.Core.Path.{_≡_};
 ghost use mathlib.Core.List.{List, [], _∷_};
 ghost use lib.ListN.{length};
@@ -14,11 +15,11 @@ pub fn narrow(x: usize) -> u32
 }
 
 // One word.
-pub fn put(x: usize, out: &mut [u32; 8192], at: usize) -> usize
+pub fn put(x: usize, out: &mut [u32; Model::WORDS], at: usize) -> usize
     requires { ⌜ length (now out) ≡ tableWords ⌝ }
     ensures { λ r. ⌜ Appended (x ∷ []) at (now (out .entry)) (now (out .exit)) r ⌝ }
 {
-    if 8192 <= at {
+    if Model::WORDS <= at {
         return at;
     }
     out[at] = narrow(x);
@@ -26,7 +27,7 @@ pub fn put(x: usize, out: &mut [u32; 8192], at: usize) -> usize
 }
 
 // So many words of the table, from a place on.
-pub fn copy(t: &[u32], from: usize, count: usize, out: &mut [u32; 8192], at: usize) -> usize
+pub fn copy(t: &[u32], from: usize, count: usize, out: &mut [u32; Model::WORDS], at: usize) -> usize
     requires { ⌜ length (now out) ≡ tableWords ⌝ }
     ensures { λ r. ⌜ Appended (run (now (t .entry)) from count) at (now (out .entry)) (now (out .exit)) r ⌝ }
 {
@@ -42,7 +43,7 @@ pub fn copy(t: &[u32], from: usize, count: usize, out: &mut [u32; 8192], at: usi
 }
 
 // The nodes of a predicate, without their count.
-pub fn nodes(t: &[u32], at_nodes: usize, out: &mut [u32; 8192], at: usize) -> usize
+pub fn nodes(t: &[u32], at_nodes: usize, out: &mut [u32; Model::WORDS], at: usize) -> usize
     requires { ⌜ length (now out) ≡ tableWords ⌝ }
     ensures { λ r. ⌜ Appended (nodesAt (now (t .entry)) «at_nodes») at (now (out .entry)) (now (out .exit)) r ⌝ }
 {

@@ -4,6 +4,7 @@ use crate::edges::{self};
 use crate::head::{self};
 use crate::put::{self};
 use crate::sync::{self};
+use model::Model;
 ghost use mathlib.Core.Path.{_≡_};
 ghost use Prim.Native.Nat.{_≤_};
 ghost use lib.ListN.{length};
@@ -12,7 +13,7 @@ ghost use Rattle.merge_words.specs.Append.{Appended};
 ghost use Rattle.merge_words.specs.MergedSheet.{locationWords, automatonWords, mergedSheet};
 
 // The one location: its number, its init and its inv.
-fn location(t: &[u32], out: &mut [u32; 8192], at: usize) -> usize
+fn location(t: &[u32], out: &mut [u32; Model::WORDS], at: usize) -> usize
     requires { ⌜ length (now out) ≡ tableWords ⌝ }
     ensures { λ r. ⌜ Appended (locationWords (now (t .entry))) at (now (out .entry)) (now (out .exit)) r ⌝ }
 {
@@ -27,7 +28,7 @@ fn automaton(
     own: &[u64; 16],
     count: usize,
     last: u32,
-    out: &mut [u32; 8192],
+    out: &mut [u32; Model::WORDS],
     at: usize,
 ) -> usize
     requires { ⌜ (length (now out) ≡ tableWords) × (last ≤ 4294967294) ⌝ }
@@ -45,7 +46,7 @@ pub fn sheet(
     own: &[u64; 16],
     count: usize,
     last: u32,
-    out: &mut [u32; 8192],
+    out: &mut [u32; Model::WORDS],
     at: usize,
 ) -> usize
     requires { ⌜ (length (now out) ≡ tableWords) × (last ≤ 4294967294) ⌝ }

@@ -1,6 +1,7 @@
 // The synchronising set of the whole.
 use crate::merged_edge::{self};
 use crate::put::{self};
+use model::Model;
 ghost use mathlib.Core.Path.{_≡_};
 ghost use Prim.Native.Nat.{_≤_};
 ghost use lib.ListN.{length, getD};
@@ -74,7 +75,7 @@ fn bits(t: &[u32], own: &[u64], from: u32) -> u32
 }
 
 // The set in two words.
-pub fn sync(t: &[u32], own: &[u64], out: &mut [u32; 8192], at: usize) -> usize
+pub fn sync(t: &[u32], own: &[u64], out: &mut [u32; Model::WORDS], at: usize) -> usize
     requires { ⌜ length (now out) ≡ tableWords ⌝ }
     ensures { λ r. ⌜ Appended (syncBy (now (t .entry)) (now (own .entry))) at (now (out .entry)) (now (out .exit)) r ⌝ }
 {

@@ -65,9 +65,9 @@ read-good text n e = go (readAnswer text n) refl
     go (Reader.refused x y) f = let s : R.Refused x y ≡ R.Accepted = sym (ap readOf f) ∙ e in let z : _≡_ {A = ℕ} 0 1 = cc in absurd (omega arith)
     go (Reader.accepted m) f = (m, f)
 
-module _ (text : Bytes) (a : ReadAnswer) (e : a ≡ readOf (readAnswer text (length {A = ℕ} (replicate 8192 0)))) where
-  same-room : readOf (readAnswer text (length {A = ℕ} (replicate 8192 0))) ≡ readOf (readAnswer text tableWords)
-  same-room = ap (λ n. readOf (readAnswer text n)) (length-replicate {A = ℕ} 8192 0)
+module _ (text : Bytes) (a : ReadAnswer) (e : a ≡ readOf (readAnswer text (length {A = ℕ} (replicate tableWords 0)))) where
+  same-room : readOf (readAnswer text (length {A = ℕ} (replicate tableWords 0))) ≡ readOf (readAnswer text tableWords)
+  same-room = ap (λ n. readOf (readAnswer text n)) (length-replicate {A = ℕ} tableWords 0)
 
   module _ (old : Bytes) (row line : ℕ) (f : a ≡ R.Refused row line) where
     reads-row : readAnswer text tableWords ≡ Reader.refused row line
@@ -81,16 +81,16 @@ module _ (text : Bytes) (a : ReadAnswer) (e : a ≡ readOf (readAnswer text (len
     unfolding outcomeAfter
     merge-text-untouched = rw (reads-row, outcomeAfter)
 
-  module _ (f : a ≡ R.Accepted) (table : List ℕ) (g : table ≡ tableAfter text (replicate 8192 0)) (old : Bytes) where
+  module _ (f : a ≡ R.Accepted) (table : List ℕ) (g : table ≡ tableAfter text (replicate tableWords 0)) (old : Bytes) where
     read-model : (m : Model) × (readAnswer text tableWords ≡ Reader.accepted m)
     read-model = read-good text tableWords (sym (e ∙ same-room) ∙ f)
 
     read-table : table ≡ tableOf (read-model .0)
     unfolding tableAfter
     read-table =
-        let h : readAnswer text (length {A = ℕ} (replicate 8192 0)) ≡ Reader.accepted (read-model .0) = ap (readAnswer text) (length-replicate {A = ℕ} 8192 0) ∙ read-model .1 in
-        let zeros : List ℕ = replicate 8192 0 in
-        let few : length zeros ≤ tableWords = omega (arith, length-replicate {A = ℕ} 8192 0) in
+        let h : readAnswer text (length {A = ℕ} (replicate tableWords 0)) ≡ Reader.accepted (read-model .0) = ap (readAnswer text) (length-replicate {A = ℕ} tableWords 0) ∙ read-model .1 in
+        let zeros : List ℕ = replicate tableWords 0 in
+        let few : length zeros ≤ tableWords = omega (arith, length-replicate {A = ℕ} tableWords 0) in
         let all : drop tableWords zeros ≡ [] = drop-of-length-le zeros few in
         g ∙ rw (h, tableAfter) (ap (λ (l : List ℕ). tableOf (read-model .0) ++ l) all ∙ append-nil (tableOf (read-model .0)))
 

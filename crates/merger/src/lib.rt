@@ -1,6 +1,7 @@
 // The merger: from a table, or from a sheet text, to the text of the merged sheet.
 mod program;
 
+use model::Model;
 pub use program::Printed;
 pub use program::output;
 use reader::ReadAnswer;
@@ -60,7 +61,7 @@ pub fn merge_text(text: &[u8], out: &mut [u8]) -> Outcome
     ensures { λ r. ⌜ r ≡ outcome (now (text .entry)) (length (now (out .entry))) ⌝ }
     ensures { λ _. ⌜ now (out .exit) ≡ outcomeAfter (now (text .entry)) (now (out .entry)) ⌝ }
 {
-    let mut table = [0u32; 8192];
+    let mut table = [0u32; Model::WORDS];
     let read = reader::read(text, &mut table);
     match read {
         ReadAnswer::Accepted => passed_on(merge(&table, out)),

@@ -23,39 +23,39 @@ put-kept (w ∷ ws) at old = go (ltb at tableWords) (put-kept ws (at + 1) (set o
     go false h = refl
 
 -- where there is no room
-pub put-past : (new : List ℕ) (at : ℕ) (old : List ℕ) → 8192 ≤ at → old ≡ put at new old
+pub put-past : (new : List ℕ) (at : ℕ) (old : List ℕ) → tableWords ≤ at → old ≡ put at new old
 unfolding put
 put-past [] at old h = refl
-put-past (w ∷ ws) at old h = rw (le-ltb at 8192 h, put)
+put-past (w ∷ ws) at old h = rw (le-ltb at tableWords h, put)
 
-pub next-past : (at n : ℕ) → 8192 ≤ at → 8192 ≡ nextPlace at n
+pub next-past : (at n : ℕ) → tableWords ≤ at → tableWords ≡ nextPlace at n
 unfolding nextPlace
-next-past at n h = go (leb (at + n) 8192) refl
+next-past at n h = go (leb (at + n) tableWords) refl
   where
-    go : (b : Bool) → leb (at + n) 8192 ≡ b → _≡_ {A = ℕ} 8192 (elim b as (λ x. ℕ) [ true ↦ at + n | false ↦ 8192 ])
-    go true e = let l = leb-true (at + n) 8192 e in omega arith
+    go : (b : Bool) → leb (at + n) tableWords ≡ b → _≡_ {A = ℕ} tableWords (elim b as (λ x. ℕ) [ true ↦ at + n | false ↦ tableWords ])
+    go true e = let l = leb-true (at + n) tableWords e in omega arith
     go false e = refl
 
-pub next-in : (at n : ℕ) → at + n ≤ 8192 → at + n ≡ nextPlace at n
+pub next-in : (at n : ℕ) → at + n ≤ tableWords → at + n ≡ nextPlace at n
 unfolding nextPlace
-next-in at n h = rw (le-leb (at + n) 8192 h, nextPlace)
+next-in at n h = rw (le-leb (at + n) tableWords h, nextPlace)
 
-pub next-over : (at n : ℕ) → 8192 < at + n → 8192 ≡ nextPlace at n
+pub next-over : (at n : ℕ) → tableWords < at + n → tableWords ≡ nextPlace at n
 unfolding nextPlace
-next-over at n h = rw (lt-leb (at + n) 8192 h, nextPlace)
+next-over at n h = rw (lt-leb (at + n) tableWords h, nextPlace)
 
 -- `append_one`
-pub one-next : (at : ℕ) → at < 8192 → at + 1 ≡ nextPlace at 1
+pub one-next : (at : ℕ) → at < tableWords → at + 1 ≡ nextPlace at 1
 one-next at h = next-in at 1 (omega arith)
 
-pub one-put : (at w : ℕ) (old : List ℕ) → at < 8192 → set old at w ≡ put at (w ∷ []) old
+pub one-put : (at w : ℕ) (old : List ℕ) → at < tableWords → set old at w ≡ put at (w ∷ []) old
 unfolding put
-one-put at w old h = rw (lt-ltb at 8192 h, put)
+one-put at w old h = rw (lt-ltb at tableWords h, put)
 
 pub ruleset one-laws = (put-past, next-past, one-next, one-put)
 
 -- `append`: what is left of the words goes into the buffer as it is now
-module _ (from : List ℕ) (n at i : ℕ) (now whole : List ℕ) (inv : put (at + i) (drop i (take n from)) now ≡ whole) (low : i ≤ n) (have : i ≤ length from) (room : at + i ≤ 8192) where
+module _ (from : List ℕ) (n at i : ℕ) (now whole : List ℕ) (inv : put (at + i) (drop i (take n from)) now ≡ whole) (low : i ≤ n) (have : i ≤ length from) (room : at + i ≤ tableWords) where
   size : length (take n from) ≤ n
   size = omega (arith, length-take n from)
 
@@ -79,21 +79,21 @@ module _ (from : List ℕ) (n at i : ℕ) (now whole : List ℕ) (inv : put (at 
     front : drop i (take n from) ≡ getD from i 0 ∷ drop (i + 1) (take n from)
     front = drop-cons (take n from) i 0 (omega (arith, length-take n from)) ∙ rw (getD-take n from i 0 more, add-one i)
 
-    module _ (full : 8192 - at ≤ i) where
+    module _ (full : tableWords - at ≤ i) where
       pub room-out : now ≡ whole
       room-out = put-past (drop i (take n from)) (at + i) now (omega arith) ∙ inv
 
-      pub room-next : 8192 ≡ nextPlace at (length (take n from))
+      pub room-next : tableWords ≡ nextPlace at (length (take n from))
       room-next = next-over at (length (take n from)) (omega (arith, length-take n from))
 
-    module _ (free : i < 8192 - at) where
+    module _ (free : i < tableWords - at) where
       pub append-on : put (at + (i + 1)) (drop (i + 1) (take n from)) (set now (at + i) (getD from i 0)) ≡ whole
       unfolding put
       append-on =
           let z : at + i + 1 ≡ at + (i + 1) = omega arith in
-          let k : at + i < 8192 = omega arith in
+          let k : at + i < tableWords = omega arith in
           let step : put (at + i) (getD from i 0 ∷ drop (i + 1) (take n from)) now ≡ put (at + (i + 1)) (drop (i + 1) (take n from)) (set now (at + i) (getD from i 0)) =
-          rw (lt-ltb (at + i) 8192 k, z, put) in
+          rw (lt-ltb (at + i) tableWords k, z, put) in
           sym step ∙ ap (λ (l : List ℕ). put (at + i) l now) (sym front) ∙ inv
 
 pub append-first : (from : List ℕ) (n at : ℕ) (old : List ℕ) → put (at + 0) (drop 0 (take n from)) old ≡ put at (take n from) old

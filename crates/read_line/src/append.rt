@@ -6,7 +6,7 @@ ghost use lib.ListN.{length, take};
 ghost use Rattle.read_line.specs.Append.{nextPlace, put};
 
 // One word.
-pub fn append_one(words: &mut [u32; 8192], at: usize, word: u32) -> usize
+pub fn append_one(words: &mut [u32; Model::WORDS], at: usize, word: u32) -> usize
     ensures { λ r. ⌜ (r ≡ nextPlace at 1) × (now (words .exit) ≡ put at (word ∷ []) (now (words .entry))) ⌝ }
 {
     if Model::WORDS <= at {
@@ -17,7 +17,7 @@ pub fn append_one(words: &mut [u32; 8192], at: usize, word: u32) -> usize
 }
 
 // Two words.
-pub fn append_two(words: &mut [u32; 8192], at: usize, first: u32, second: u32) -> usize
+pub fn append_two(words: &mut [u32; Model::WORDS], at: usize, first: u32, second: u32) -> usize
     ensures { λ r. ⌜ (r ≡ nextPlace at 2) × (now (words .exit) ≡ put at (first ∷ second ∷ []) (now (words .entry))) ⌝ }
 {
     let next = append_one(words, at, first);
@@ -25,7 +25,7 @@ pub fn append_two(words: &mut [u32; 8192], at: usize, first: u32, second: u32) -
 }
 
 // The first n words of `from`, or all that it has.
-pub fn append(words: &mut [u32; 8192], at: usize, from: &[u32], n: usize) -> usize
+pub fn append(words: &mut [u32; Model::WORDS], at: usize, from: &[u32], n: usize) -> usize
     ensures { λ r. ⌜ (r ≡ nextPlace at (length (take n (now (from .entry))))) × (now (words .exit) ≡ put at (take n (now (from .entry))) (now (words .entry))) ⌝ }
 {
     if Model::WORDS <= at {

@@ -5,6 +5,7 @@ use crate::append::append_one;
 use crate::form::{self};
 use crate::sync::cap;
 use line_order::Counts;
+use model::Model;
 use model::Tree;
 use read_predicate::numbers_sound;
 ghost use mathlib.Core.Path.{_≡_};
@@ -13,14 +14,14 @@ ghost use Rattle.read_line.specs.Append.{nextPlace, put};
 ghost use Rattle.read_line.specs.Composition.{treeRead, treeAfter, composeRead, composeAfter};
 
 // The first n words of the nodes that were read. An array of a known length, since `append` asks how long a slice is.
-fn append_nodes(words: &mut [u32; 8192], at: usize, memory: &[u32; 192], n: usize) -> usize
+fn append_nodes(words: &mut [u32; Model::WORDS], at: usize, memory: &[u32; 192], n: usize) -> usize
     ensures { λ r. ⌜ (r ≡ nextPlace at (length (take n (now (memory .entry))))) × (now (words .exit) ≡ put at (take n (now (memory .entry))) (now (words .entry))) ⌝ }
 {
     append(words, at, memory, n)
 }
 
 // Rows 13, 14 and 16; then the count of the nodes, and their words.
-fn tree(part: &[u8], automata: usize, words: &mut [u32; 8192], at: usize) -> LineRead
+fn tree(part: &[u8], automata: usize, words: &mut [u32; Model::WORDS], at: usize) -> LineRead
     ensures { λ r. ⌜ (r ≡ treeRead automata (now (part .entry)) at) × (now (words .exit) ≡ treeAfter automata (now (part .entry)) (now (words .entry)) at) ⌝ }
 {
     let mut memory = [0u32; 192];
@@ -45,7 +46,7 @@ pub fn composition(
     line: &[u8],
     ended: bool,
     counts: Counts,
-    words: &mut [u32; 8192],
+    words: &mut [u32; Model::WORDS],
     at: usize,
 ) -> LineRead
     ensures { λ r. ⌜ (r ≡ composeRead (now (line .entry)) ended counts at) × (now (words .exit) ≡ composeAfter (now (line .entry)) ended counts (now (words .entry)) at) ⌝ }

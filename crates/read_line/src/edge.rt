@@ -68,7 +68,7 @@ fn astray(counts: Counts, from: u32, action: u32, to: u32) -> bool
 
 // FROM, ACT, TO, and then a predicate's words.
 fn append_edge(
-    words: &mut [u32; 8192],
+    words: &mut [u32; Model::WORDS],
     at: usize,
     from: u32,
     action: u32,
@@ -89,7 +89,7 @@ fn append_edge(
 fn read_value(
     value: &[u8],
     counts: Counts,
-    words: &mut [u32; 8192],
+    words: &mut [u32; Model::WORDS],
     at: usize,
     scratch: &mut [u32; 32768],
     sorts: &mut [bool; 32768],
@@ -118,7 +118,7 @@ pub fn edge(
     line: &[u8],
     ended: bool,
     counts: Counts,
-    words: &mut [u32; 8192],
+    words: &mut [u32; Model::WORDS],
     at: usize,
     scratch: &mut [u32; 32768],
     sorts: &mut [bool; 32768],

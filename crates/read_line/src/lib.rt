@@ -27,7 +27,7 @@ pub fn read(
     ended: bool,
     key: Key,
     counts: Counts,
-    words: &mut [u32; 8192],
+    words: &mut [u32; Model::WORDS],
     at: usize,
     scratch: &mut [u32; 32768],
     sorts: &mut [bool; 32768],

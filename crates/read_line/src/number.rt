@@ -54,7 +54,7 @@ fn index(n: u32) -> usize
 }
 
 // A line that counts something.
-pub fn counting(count: Count, words: &mut [u32; 8192], at: usize) -> LineRead
+pub fn counting(count: Count, words: &mut [u32; Model::WORDS], at: usize) -> LineRead
     ensures { λ r. ⌜ (r ≡ numberRead true count at) × (now (words .exit) ≡ numberAfter count at (now (words .entry))) ⌝ }
 {
     match count {
@@ -64,7 +64,7 @@ pub fn counting(count: Count, words: &mut [u32; 8192], at: usize) -> LineRead
 }
 
 // A line with a number that counts nothing.
-pub fn plain(count: Count, words: &mut [u32; 8192], at: usize) -> LineRead
+pub fn plain(count: Count, words: &mut [u32; Model::WORDS], at: usize) -> LineRead
     ensures { λ r. ⌜ (r ≡ numberRead false count at) × (now (words .exit) ≡ numberAfter count at (now (words .entry))) ⌝ }
 {
     match count {
@@ -158,7 +158,7 @@ pub fn two_numbers(line: &[u8], ended: bool, name: &[u8]) -> Bounds
 }
 
 // A range's words.
-pub fn ranging(bounds: Bounds, table: &mut [u32; 8192], at: usize) -> LineRead
+pub fn ranging(bounds: Bounds, table: &mut [u32; Model::WORDS], at: usize) -> LineRead
     ensures { λ r. ⌜ (r ≡ boundsRead bounds at) × (now (table .exit) ≡ boundsAfter bounds at (now (table .entry))) ⌝ }
 {
     match bounds {
@@ -176,7 +176,7 @@ pub fn ranging(bounds: Bounds, table: &mut [u32; 8192], at: usize) -> LineRead
 }
 
 // The format's line: its number is 1.
-pub fn format(line: &[u8], ended: bool, words: &mut [u32; 8192], at: usize) -> LineRead
+pub fn format(line: &[u8], ended: bool, words: &mut [u32; Model::WORDS], at: usize) -> LineRead
     ensures { λ r. ⌜ (r ≡ numberRead false (countIn (spelling Lines.format) 1 1 (now (line .entry)) ended) at) × (now (words .exit) ≡ numberAfter (countIn (spelling Lines.format) 1 1 (now (line .entry)) ended) at (now (words .entry))) ⌝ }
 {
     plain(one_number(line, ended, b"format=", 1, 1), words, at)
@@ -189,7 +189,7 @@ pub fn counting_line(
     name: &[u8],
     low: u32,
     high: u32,
-    words: &mut [u32; 8192],
+    words: &mut [u32; Model::WORDS],
     at: usize,
 ) -> LineRead
     ensures { λ r. ⌜ (r ≡ numberRead true (countIn (now (name .entry)) low high (now (line .entry)) ended) at) × (now (words .exit) ≡ numberAfter (countIn (now (name .entry)) low high (now (line .entry)) ended) at (now (words .entry))) ⌝ }
@@ -202,7 +202,7 @@ pub fn edges(
     line: &[u8],
     ended: bool,
     before: usize,
-    words: &mut [u32; 8192],
+    words: &mut [u32; Model::WORDS],
     at: usize,
 ) -> LineRead
     ensures { λ r. ⌜ (r ≡ numberRead true (fewEdges before (countIn (spelling Lines.edges) 0 maxEdges (now (line .entry)) ended)) at) × (now (words .exit) ≡ numberAfter (fewEdges before (countIn (spelling Lines.edges) 0 maxEdges (now (line .entry)) ended)) at (now (words .entry))) ⌝ }
@@ -218,7 +218,7 @@ pub fn edges(
 }
 
 // A variable's range.
-pub fn variable(line: &[u8], ended: bool, words: &mut [u32; 8192], at: usize) -> LineRead
+pub fn variable(line: &[u8], ended: bool, words: &mut [u32; Model::WORDS], at: usize) -> LineRead
     ensures { λ r. ⌜ (r ≡ boundsRead (boundsIn (spelling Lines.variable) (now (line .entry)) ended) at) × (now (words .exit) ≡ boundsAfter (boundsIn (spelling Lines.variable) (now (line .entry)) ended) at (now (words .entry))) ⌝ }
 {
     ranging(two_numbers(line, ended, b"variable="), words, at)

@@ -80,7 +80,7 @@ pub fn predicate(
     part: &[u8],
     old: bool,
     counts: Counts,
-    words: &[u32; 8192],
+    words: &[u32; Model::WORDS],
     scratch: &mut [u32; 32768],
     sorts: &mut [bool; 32768],
 ) -> Nodes
@@ -100,7 +100,12 @@ pub fn predicate(
 }
 
 // The count of a predicate's nodes, and the nodes: the first of `from`.
-pub(crate) fn append_nodes(words: &mut [u32; 8192], at: usize, from: &[u32], n: usize) -> usize
+pub(crate) fn append_nodes(
+    words: &mut [u32; Model::WORDS],
+    at: usize,
+    from: &[u32],
+    n: usize,
+) -> usize
     requires { ⌜ n ≤ maxNodes ⌝ }
     ensures { λ r. ⌜ (r ≡ nextPlace at (suc (length (take n (now (from .entry)))))) × (now (words .exit) ≡ put at (n ∷ take n (now (from .entry))) (now (words .entry))) ⌝ }
 {
@@ -114,7 +119,7 @@ pub fn location(
     ended: bool,
     name: &[u8],
     counts: Counts,
-    words: &mut [u32; 8192],
+    words: &mut [u32; Model::WORDS],
     at: usize,
     scratch: &mut [u32; 32768],
     sorts: &mut [bool; 32768],

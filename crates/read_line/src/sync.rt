@@ -24,7 +24,7 @@ pub fn sync(
     line: &[u8],
     ended: bool,
     counts: Counts,
-    words: &mut [u32; 8192],
+    words: &mut [u32; Model::WORDS],
     at: usize,
 ) -> LineRead
     ensures { λ r. ⌜ (r ≡ syncRead (now (line .entry)) ended counts at) × (now (words .exit) ≡ syncAfter (now (line .entry)) ended counts (now (words .entry)) at) ⌝ }

@@ -17,27 +17,27 @@ use Rattle.reader.proofs.SheetLaws.{sheet-kept}
 use Rattle.reader.proofs.Exact.{answer-exact, after-exact}
 
 module _ (text : Bytes) (table : List ℕ) where
-  pub short-answer : length table < 8192 → Refused 18 0 ≡ readTo text table
+  pub short-answer : length table < tableWords → Refused 18 0 ≡ readTo text table
   unfolding readTo row18
-  short-answer h = rw (lt-ltb (length table) 8192 h, readTo)
+  short-answer h = rw (lt-ltb (length table) tableWords h, readTo)
 
-  pub short-after : length table < 8192 → table ≡ readAfter text table
+  pub short-after : length table < tableWords → table ≡ readAfter text table
   unfolding readAfter row18
-  short-after h = rw (lt-ltb (length table) 8192 h, readAfter)
+  short-after h = rw (lt-ltb (length table) tableWords h, readAfter)
 
-  module _ (h : 8192 ≤ length table) where
+  module _ (h : tableWords ≤ length table) where
     pub long-answer : 65536 < length text → Refused 1 0 ≡ readTo text table
     unfolding readTo row18 row1
-    long-answer l = rw (le-ltb (length table) 8192 h, lt-ltb 65536 (length text) l, readTo)
+    long-answer l = rw (le-ltb (length table) tableWords h, lt-ltb 65536 (length text) l, readTo)
 
     pub long-after : 65536 < length text → table ≡ readAfter text table
     unfolding readAfter row18 row1
-    long-after l = rw (le-ltb (length table) 8192 h, lt-ltb 65536 (length text) l, readAfter)
+    long-after l = rw (le-ltb (length table) tableWords h, lt-ltb 65536 (length text) l, readAfter)
 
     module _ (l : length text ≤ 65536) (a : ReadAnswer) (ha : a ≡ sheetRead text blank .answer) where
       by-answer : a ≡ readTo text table
       unfolding readTo row18 row1
-      by-answer = ha ∙ rw (le-ltb (length table) 8192 h, le-ltb 65536 (length text) l, readTo)
+      by-answer = ha ∙ rw (le-ltb (length table) tableWords h, le-ltb 65536 (length text) l, readTo)
 
       pub accepted-answer : a ≡ Accepted → Accepted ≡ readTo text table
       accepted-answer e = sym e ∙ by-answer
@@ -47,7 +47,7 @@ module _ (text : Bytes) (table : List ℕ) where
 
       by-after : storedIf (sheetRead text blank) table ≡ readAfter text table
       unfolding readAfter row18 row1
-      by-after = rw (le-ltb (length table) 8192 h, le-ltb 65536 (length text) l, readAfter)
+      by-after = rw (le-ltb (length table) tableWords h, le-ltb 65536 (length text) l, readAfter)
 
       pub refused-after : (row line : ℕ) → a ≡ Refused row line → table ≡ readAfter text table
       unfolding storedIf
@@ -58,7 +58,7 @@ module _ (text : Bytes) (table : List ℕ) where
         unfolding storedIf
         accepted-after e new hn = hn ∙ ap (λ (w : List ℕ). stored w table) hw ∙ (rw (sym ha ∙ e, storedIf) at by-after)
 
-pub words-length : (text : Bytes) (words : List ℕ) → words ≡ sheetRead text blank .words → length words ≡ 8192
+pub words-length : (text : Bytes) (words : List ℕ) → words ≡ sheetRead text blank .words → length words ≡ tableWords
 words-length text words h = ap length h ∙ sheet-kept text blank ∙ length-replicate {A = ℕ} tableWords 0
 
 -- what the code comes to is what the definitions say

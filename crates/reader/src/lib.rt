@@ -41,7 +41,7 @@ pub fn read(text: &[u8], table: &mut [u32]) -> ReadAnswer
     if Model::BYTES < text.len() {
         return ReadAnswer::Refused(1, 0);
     }
-    let mut words = [0u32; 8192];
+    let mut words = [0u32; Model::WORDS];
     let answer = sheet::sheet(text, &mut words);
     match answer {
         ReadAnswer::Accepted => {

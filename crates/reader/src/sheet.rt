@@ -56,7 +56,7 @@ fn line(
     text: &[u8],
     number: usize,
     place: Place,
-    words: &mut [u32; 8192],
+    words: &mut [u32; Model::WORDS],
     scratch: &mut [u32; 32768],
     sorts: &mut [bool; 32768],
 ) -> Round
@@ -91,7 +91,7 @@ fn round(
     text: &[u8],
     number: usize,
     place: Place,
-    words: &mut [u32; 8192],
+    words: &mut [u32; Model::WORDS],
     scratch: &mut [u32; 32768],
     sorts: &mut [bool; 32768],
 ) -> Round
@@ -115,7 +115,7 @@ fn round(
 }
 
 // The text's lines into `words`, one after the other.
-pub(crate) fn sheet(text: &[u8], words: &mut [u32; 8192]) -> ReadAnswer
+pub(crate) fn sheet(text: &[u8], words: &mut [u32; Model::WORDS]) -> ReadAnswer
     requires { ⌜ length (now text) ≤ maxBytes ⌝ }
     ensures { λ r. ⌜ (r ≡ sheetRead (now (text .entry)) (now (words .entry)) .answer) × (now (words .exit) ≡ sheetRead (now (text .entry)) (now (words .entry)) .words) ⌝ }
 {

@@ -6,6 +6,7 @@ use mathlib.Core.Bool.{Bool, true, false}
 use mathlib.Core.List.{List}
 use lib.ListN.{length, take}
 use lib.Seq.{length-take-le}
+use Rattle.model.specs.Bounds.{tableWords}
 use Rattle.model.proofs.Tests.{to-T}
 use lib.Dec.{leb, leb→le}
 use Rattle.text_bytes.specs.declared.answer.Written.{Written}
@@ -13,11 +14,11 @@ use Rattle.text_bytes.specs.declared.answer.Written.the-variants.{To, Full}
 use Rattle.text_bytes.specs.Write.{fits, writtenTo, Wrote}
 use Rattle.judge_call.proofs.Filled.{Filling}
 
-pub padded-long : (words all : List ℕ) (i : ℕ) → Filling 8192 0 words all i → 8192 ≡ length all
+pub padded-long : (words all : List ℕ) (i : ℕ) → Filling tableWords 0 words all i → tableWords ≡ length all
 padded-long words all i f = sym (f .size)
 
 -- all its words but the last
-pub table-short : (all : List ℕ) → 8192 ≡ length all → 8191 ≡ length (take 8191 all)
+pub table-short : (all : List ℕ) → tableWords ≡ length all → 8191 ≡ length (take 8191 all)
 table-short all h = sym (length-take-le 8191 all (omega (arith, h)))
 
 -- where a write ends

@@ -2,6 +2,7 @@
 use crate::ask::{self};
 use crate::sheets::{self};
 use crate::show::{self};
+use model::Model;
 
 // The door is opened, on any table.
 fn opening(t: &[u32]) -> bool {
@@ -13,13 +14,13 @@ fn short() -> bool {
     opening(&t[..8191])
 }
 
-fn whole(t: &[u32; 8192]) -> bool {
+fn whole(t: &[u32; Model::WORDS]) -> bool {
     opening(t)
 }
 
 fn altered(at: usize, word: u32) -> bool {
     let mut t = sheets::oven();
-    if at < 8192 {
+    if at < Model::WORDS {
         t[at] = word;
     }
     whole(&t)

@@ -1,6 +1,8 @@
 // The sheets of the cases, as tables: the first words here, by docs/TABLE.md, and zeros behind them.
+use model::Model;
 ghost use mathlib.Core.Path.{_≡_};
 ghost use lib.ListN.{length, getD};
+ghost use Rattle.model.specs.Bounds.{tableWords};
 ghost use Rattle.judge_call.specs.States.{filled};
 
 // sheets/oven.txt: door, steam, and v0 the valve. Both share action 1.
@@ -243,39 +245,39 @@ fn word(words: &[u32], at: usize) -> u32
     if at < words.len() { words[at] } else { 0 }
 }
 
-fn padded(words: &[u32]) -> [u32; 8192]
-    ensures { λ r. ⌜ 8192 ≡ length r ⌝ }
-    ensures { λ r. ⌜ r ≡ filled 8192 0 (now (words .entry)) ⌝ }
+fn padded(words: &[u32]) -> [u32; Model::WORDS]
+    ensures { λ r. ⌜ tableWords ≡ length r ⌝ }
+    ensures { λ r. ⌜ r ≡ filled tableWords 0 (now (words .entry)) ⌝ }
 {
-    let mut all = [0u32; 8192];
+    let mut all = [0u32; Model::WORDS];
     let mut i = 0;
-    while i < 8192 {
+    while i < Model::WORDS {
         all[i] = word(words, i);
         i += 1;
     }
     all
 }
 
-pub(crate) fn oven() -> [u32; 8192]
-    ensures { λ r. ⌜ 8192 ≡ length r ⌝ }
+pub(crate) fn oven() -> [u32; Model::WORDS]
+    ensures { λ r. ⌜ tableWords ≡ length r ⌝ }
 {
     padded(&OVEN)
 }
 
-pub(crate) fn one_sided() -> [u32; 8192]
-    ensures { λ r. ⌜ 8192 ≡ length r ⌝ }
+pub(crate) fn one_sided() -> [u32; Model::WORDS]
+    ensures { λ r. ⌜ tableWords ≡ length r ⌝ }
 {
     padded(&ONE_SIDED)
 }
 
-pub(crate) fn lamp() -> [u32; 8192]
-    ensures { λ r. ⌜ 8192 ≡ length r ⌝ }
+pub(crate) fn lamp() -> [u32; Model::WORDS]
+    ensures { λ r. ⌜ tableWords ≡ length r ⌝ }
 {
     padded(&LAMP)
 }
 
-pub(crate) fn pair() -> [u32; 8192]
-    ensures { λ r. ⌜ 8192 ≡ length r ⌝ }
+pub(crate) fn pair() -> [u32; Model::WORDS]
+    ensures { λ r. ⌜ tableWords ≡ length r ⌝ }
 {
     padded(&PAIR)
 }

@@ -1,6 +1,7 @@
 // Both sides of every limit.
 use crate::build::{self};
 use crate::run::{self};
+use model::Model;
 
 // An edge of 2,047 nodes, and what stands before its first.
 fn heavy_edge(more: &[u8], sheet: &mut [u8; 65537], at: usize) -> usize {
@@ -150,7 +151,7 @@ pub(crate) fn limits() {
 }
 
 fn kept(table: &[u32; 8200]) -> bool {
-    run::untouched(table, 8192)
+    run::untouched(table, Model::WORDS)
 }
 
 // A longer table keeps its rest.

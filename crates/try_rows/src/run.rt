@@ -1,5 +1,6 @@
 // Reading a text and saying what came of it: `refused=ROW,LINE`, or `accepted` and whether the writer gives the text back.
 use crate::build::{self};
+use model::Model;
 use reader::ReadAnswer;
 use reader::WriteAnswer;
 
@@ -72,7 +73,7 @@ pub(crate) fn into(sheet: &[u8], table: &mut [u32]) {
 }
 
 pub(crate) fn run(sheet: &[u8]) {
-    let mut table = [0u32; 8192];
+    let mut table = [0u32; Model::WORDS];
     into(sheet, &mut table);
 }
 

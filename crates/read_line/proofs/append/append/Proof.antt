@@ -3,6 +3,7 @@ use Prim.Native.Nat.{_+_, _-_, _≤_}
 use mathlib.Core.Path.{_≡_}
 use native.Mathlib.Omega.{arith}
 use lib.ListN.{length, take, drop}
+use Rattle.model.specs.Bounds.{tableWords}
 use Rattle.read_line.specs.Append.{put}
 use Rattle.read_line.proofs.AppendLaws.{append-laws, append-on}
 use borrow.Author.Needs.{needs}
@@ -11,7 +12,7 @@ use Rattle.read_line.proofs.append.append.Tie as tie
 
 abbrev Inv-loop : tie.InvT-loop
 Inv-loop words₀ at from n i₀ words i =
-    (put (at + i) (drop i (take n from)) words ≡ put at (take n from) words₀) × (i ≤ n) × (i ≤ length from) × (at + i ≤ 8192)
+    (put (at + i) (drop i (take n from)) words ≡ put at (take n from) words₀) × (i ≤ n) × (i ≤ length from) × (at + i ≤ tableWords)
 
 abbrev μ-loop : tie.MeasureT-loop
 μ-loop words₀ at from n i₀ words i = n - i

@@ -1,5 +1,6 @@
 -- `try_oven::sheets::padded` meets its contract: the first i words are in place. The measure is the words left.
 use Prim.Native.Nat.{_-_}
+use Rattle.model.specs.Bounds.{tableWords}
 use Rattle.judge_call.proofs.Filled.{Filling, fill-laws}
 use Rattle.try_oven.proofs.CaseLaws.{padded-long}
 use borrow.Author.Needs.{needs}
@@ -7,10 +8,10 @@ use Rattle.try_oven.proofs.sheets.padded.Statement.{statement}
 use Rattle.try_oven.proofs.sheets.padded.Tie as tie
 
 abbrev Inv-loop : tie.InvT-loop
-Inv-loop words all₀ i₀ all i = Filling 8192 0 words all i
+Inv-loop words all₀ i₀ all i = Filling tableWords 0 words all i
 
 abbrev μ-loop : tie.MeasureT-loop
-μ-loop words all₀ i₀ all i = 8192 - i
+μ-loop words all₀ i₀ all i = tableWords - i
 
 loop-holds : tie.Need-loop-holds Inv-loop μ-loop
 loop-holds c = search (needs, fill-laws)
