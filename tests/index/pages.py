@@ -16,7 +16,7 @@ Where each theorem stands. `tests/index/make` writes this page from the sources,
 another: edit the comment in the source, then make the page again. It has every public law and statement of the crates
 `theorem_*`, and of the other crates the laws that [PROMISES.md](PROMISES.md) or [ARCHITECTURE.md](ARCHITECTURE.md)
 names. Beside a file stands the first sentence of the comment at its top, and beside a law or a type that of the comment
-right above it, if it has one.
+right above it; if there is none, what the law states, where that is short.
 """
 
 
@@ -60,8 +60,13 @@ def theorems(repository):
         page += f'\n## `{crate}`\n' if paths else ''
         for path in paths:
             page += '\n' + wrapped(entry(path, sources.about(repository.texts[path]))) + '\n'
-            page += ''.join(wrapped(entry(one.name, one.comment), '- ', '  ') for one in files[path])
+            page += ''.join(wrapped(entry(one.name, one.comment or shown(one.states)), '- ', '  ') for one in files[path])
     return page
+
+
+def shown(states):
+    """What a law states, where that is short."""
+    return f'`{states}`' if 0 < len(states) <= 2 * WIDTH else ''
 
 
 def entry(name, comment):

@@ -2,6 +2,7 @@
 import collections
 import functools
 import glob
+import itertools
 import os
 import re
 
@@ -11,8 +12,9 @@ FILES = ['README.md', 'docs/*.md', 'tests/*/README.md', 'crates.txt', 'crates/*/
 
 # A wing of crates.txt is a comment line 'NAME: WHAT IT KNOWS' and the crates below it.
 Wing = collections.namedtuple('Wing', 'name knows crates')
-# What an antt file declares; kind is law, type, definition, part (a field or a constructor) or own (not pub).
-Statement = collections.namedtuple('Statement', 'name kind path comment')
+# What an antt file declares; kind is law, type, definition, part (a field or a constructor) or own (not pub). `states` is
+# the type of a law.
+Statement = collections.namedtuple('Statement', 'name kind path comment states')
 # A part of an antt file that has declarations in it, and the column that they begin in.
 Block = collections.namedtuple('Block', 'kind column')
 
@@ -52,7 +54,8 @@ def wings_of(text):
 def statements_of(path, text):
     """The statements of an antt file: what stands in its modules, records and data, and not inside a proof."""
     found, comment, blocks = [], [], [Block('module', 0)]
-    for line in LONG_HEADER.sub(lambda header: re.sub(r'\n *', ' ', header.group()), text).splitlines():
+    lines = LONG_HEADER.sub(lambda header: re.sub(r'\n *', ' ', header.group()), text).splitlines()
+    for number, line in enumerate(lines):
         column, line = len(line) - len(line.lstrip()), line.strip()
         if line:
             enter(blocks, column)
@@ -60,12 +63,18 @@ def statements_of(path, text):
             comment.append(line[2:].strip())
             continue
         if line and column == blocks[-1].column:
-            found += declared(path, line, blocks, comment)
+            found += declared(path, ' '.join([line, *continued(lines[number + 1:], column)]), blocks, comment)
             open_block(line, blocks)
         elif line == 'where':
             blocks.append(Block('where', None))
         comment = []
     return tuple(found)
+
+
+def continued(lines, column):
+    """The lines that go on with one in this column."""
+    deeper = itertools.takewhile(lambda line: len(line) - len(line.lstrip()) > column, lines)
+    return [line.strip() for line in deeper]
 
 
 def enter(blocks, column):
@@ -93,7 +102,8 @@ def declared(path, line, blocks, comment):
     words = (header or signature).group(1).split()
     kind = kind_of(words + ([header.group(2)] if header else []), blocks[-1].kind)
     names = [header.group(3)] if header else signature.group(2).split()
-    return [Statement(name, kind, path, sentence(comment)) for name in names]
+    states = line[signature.end():] if kind == 'law' else ''
+    return [Statement(name, kind, path, sentence(comment), states) for name in names]
 
 
 def kind_of(words, block):
