@@ -97,7 +97,7 @@ def declared(path, line, blocks, comment):
     header, signature = HEADER.match(line), SIGNATURE.match(line)
     if any(block.kind == 'where' for block in blocks) or not (header or signature):
         return []
-    if header and header.group(2) in ('module', 'mutual'):
+    if header and (header.group(2) in ('module', 'mutual') or not header.group(3)):
         return []
     words = (header or signature).group(1).split()
     kind = kind_of(words + ([header.group(2)] if header else []), blocks[-1].kind)
