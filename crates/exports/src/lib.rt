@@ -2,7 +2,6 @@
 // are a list of them.
 //
 // A slice is a pointer and a length there. Nothing is kept between calls.
-mod numbers;
 mod run;
 
 ghost use mathlib.Core.Path.{_≡_};
@@ -15,14 +14,14 @@ ghost use Rattle.format.specs.Writer.{writeAnswer, bufferAfter};
 ghost use Rattle.judge_call.specs.Answers.{answerNumber};
 ghost use Rattle.exports.specs.Numbers.{readNumber, writeNumber, mergeNumber, sizeNumber};
 
-// Reads a text into the table's first 8192 words: 0, or 2^32 times the row that refuses plus its line, when the table
+// Reads a text into the table's first words: 0, or 2^32 times the row that refuses plus its line, when the table
 // is as it was.
 #[no_mangle]
 pub extern "C" fn sheet_read(text: &[u8], table: &mut [u32]) -> u64
     ensures { λ r. ⌜ r ≡ readNumber (readAnswer (now (text .entry)) (length (now (table .entry)))) ⌝ }
     ensures { λ _. ⌜ now (table .exit) ≡ tableAfter (now (text .entry)) (now (table .entry)) ⌝ }
 {
-    numbers::read_number(reader::read(text, table))
+    answer_numbers::read_number(reader::read(text, table))
 }
 
 // How many actions, variables and automata the table's sheet has: 2^16 times the first plus 2^8 times the second plus
@@ -31,7 +30,7 @@ pub extern "C" fn sheet_read(text: &[u8], table: &mut [u32]) -> u64
 pub extern "C" fn sheet_size(table: &[u32]) -> u64
     ensures { λ r. ⌜ r ≡ sizeNumber (openTable (now (table .entry))) ⌝ }
 {
-    numbers::size_number(judge::size(table))
+    answer_numbers::size_number(judge::size(table))
 }
 
 // May the composition take the action? 0 no, 1 yes with the mark false, 2 yes with the mark true, 100 + row refused.
@@ -81,7 +80,7 @@ pub extern "C" fn sheet_write(table: &[u32], out: &mut [u8]) -> u64
     ensures { λ _. ⌜ now (out .exit) ≡ bufferAfter (writeAnswer (now (table .entry)) (length (now (out .entry))))
         (now (out .entry)) ⌝ }
 {
-    numbers::write_number(writer::write(table, out))
+    answer_numbers::write_number(writer::write(table, out))
 }
 
 // Writes the text of the merged automaton: 2^17 times its edges plus its length, or 2^32 times the row that refuses,
@@ -92,5 +91,5 @@ pub extern "C" fn sheet_merge(table: &[u32], out: &mut [u8]) -> u64
     ensures { λ _. ⌜ now (out .exit) ≡ mergeAfter (mergeAnswer (now (table .entry)) (length (now (out .entry))))
         (now (out .entry)) ⌝ }
 {
-    numbers::merge_number(merger::merge(table, out))
+    answer_numbers::merge_number(merger::merge(table, out))
 }

@@ -1,5 +1,4 @@
 // A list of proposals, for C and Rust.
-use crate::numbers::{self};
 ghost use mathlib.Core.Path.{_≡_};
 ghost use lib.ListN.{length};
 ghost use Rattle.judge.specs.RunAnswer.{runAnswer, answersAfter, locationsAfter, valuesAfter};
@@ -52,5 +51,5 @@ pub extern "C" fn sheet_run(
         end_locations,
         end_values,
     );
-    numbers::run_number(ran)
+    answer_numbers::run_number(ran)
 }

@@ -1,5 +1,5 @@
 -- `exports::sheet_read` meets its contract: the reader's answer as a number.
-use Rattle.exports.proofs.NumberLaws.{read-laws}
+use Rattle.exports.proofs.NumberLaws.{read-number}
 use borrow.Author.Needs.{needs}
 use Rattle.exports.proofs.sheet_read.Statement.{statement}
 use Rattle.exports.proofs.sheet_read.Tie as tie
@@ -8,13 +8,13 @@ read-requires : tie.Need-read-requires
 read-requires c κs = search needs
 
 read-number-requires : tie.Need-read-number-requires
-read-number-requires c κs = search (needs, read-laws)
+read-number-requires c κs = search needs
 
 same-length : tie.Need-same-length
 same-length c = search needs
 
 returns : tie.Need-returns
-returns c = search (needs, read-laws)
+returns c = search (needs, read-number)
 
 pub sheet-read-spec : {M : Type 1} → statement M
 sheet-read-spec = tie.close (tie.spec read-requires read-number-requires same-length returns)

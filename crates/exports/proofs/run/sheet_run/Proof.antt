@@ -1,5 +1,5 @@
 -- `exports::run::sheet_run` meets its contract: the answer of `judge::run` as a number.
-use Rattle.exports.proofs.NumberLaws.{run-row, run-number}
+use Rattle.exports.proofs.NumberLaws.{run-number}
 use borrow.Author.Needs.{needs}
 use Rattle.exports.proofs.run.sheet_run.Statement.{statement}
 use Rattle.exports.proofs.run.sheet_run.Tie as tie
@@ -8,7 +8,7 @@ run-requires : tie.Need-run-requires
 run-requires c κs = search needs
 
 run-number-requires : tie.Need-run-number-requires
-run-number-requires c κs = search (needs, run-row)
+run-number-requires c κs = search needs
 
 same-length : tie.Need-same-length
 same-length c = search needs

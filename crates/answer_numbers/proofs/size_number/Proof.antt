@@ -1,14 +1,14 @@
--- `exports::numbers::size_number` meets its contract: each way out is a law of NumberLaws.
-use Rattle.exports.proofs.NumberLaws.{size-number-laws}
+-- `answer_numbers::size_number` meets its contract: each way out is a law of NumberLaws.
+use Rattle.answer_numbers.proofs.NumberLaws.{size-number-laws}
 use borrow.Author.Needs.{needs}
-use Rattle.exports.proofs.numbers.size_number.Statement.{statement}
-use Rattle.exports.proofs.numbers.size_number.Tie as tie
+use Rattle.answer_numbers.proofs.size_number.Statement.{statement}
+use Rattle.answer_numbers.proofs.size_number.Tie as tie
 
 enum-known-size : tie.Need-enum-known-size
 enum-known-size c = search needs
 
 counts-requires : tie.Need-counts-requires
-counts-requires c κs = search (needs, size-number-laws)
+counts-requires c κs = search needs
 
 enum-known-size-2 : tie.Need-enum-known-size-2
 enum-known-size-2 c = search needs

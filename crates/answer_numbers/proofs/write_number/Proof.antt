@@ -1,8 +1,8 @@
--- `exports::numbers::write_number` meets its contract: each way out is a law of NumberLaws.
-use Rattle.exports.proofs.NumberLaws.{write-number-laws}
+-- `answer_numbers::write_number` meets its contract: each way out is a law of NumberLaws.
+use Rattle.answer_numbers.proofs.NumberLaws.{write-number-laws}
 use borrow.Author.Needs.{needs}
-use Rattle.exports.proofs.numbers.write_number.Statement.{statement}
-use Rattle.exports.proofs.numbers.write_number.Tie as tie
+use Rattle.answer_numbers.proofs.write_number.Statement.{statement}
+use Rattle.answer_numbers.proofs.write_number.Tie as tie
 
 enum-known-answer : tie.Need-enum-known-answer
 enum-known-answer c = search needs

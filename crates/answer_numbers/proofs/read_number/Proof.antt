@@ -1,8 +1,8 @@
--- `exports::numbers::read_number` meets its contract: each way out is a law of NumberLaws.
-use Rattle.exports.proofs.NumberLaws.{read-number-laws}
+-- `answer_numbers::read_number` meets its contract: each way out is a law of NumberLaws.
+use Rattle.answer_numbers.proofs.NumberLaws.{read-number-laws}
 use borrow.Author.Needs.{needs}
-use Rattle.exports.proofs.numbers.read_number.Statement.{statement}
-use Rattle.exports.proofs.numbers.read_number.Tie as tie
+use Rattle.answer_numbers.proofs.read_number.Statement.{statement}
+use Rattle.answer_numbers.proofs.read_number.Tie as tie
 
 enum-told : tie.Need-enum-told
 enum-told c = search needs
@@ -11,7 +11,7 @@ enum-known-answer : tie.Need-enum-known-answer
 enum-known-answer c = search needs
 
 row-and-line-requires : tie.Need-row-and-line-requires
-row-and-line-requires c κs = search (needs, read-number-laws)
+row-and-line-requires c κs = search needs
 
 returns : tie.Need-returns
 returns c = search (needs, read-number-laws)

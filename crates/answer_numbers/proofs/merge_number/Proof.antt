@@ -1,14 +1,14 @@
--- `exports::numbers::merge_number` meets its contract: each way out is a law of NumberLaws.
-use Rattle.exports.proofs.NumberLaws.{merge-number-laws}
+-- `answer_numbers::merge_number` meets its contract: each way out is a law of NumberLaws.
+use Rattle.answer_numbers.proofs.NumberLaws.{merge-number-laws}
 use borrow.Author.Needs.{needs}
-use Rattle.exports.proofs.numbers.merge_number.Statement.{statement}
-use Rattle.exports.proofs.numbers.merge_number.Tie as tie
+use Rattle.answer_numbers.proofs.merge_number.Statement.{statement}
+use Rattle.answer_numbers.proofs.merge_number.Tie as tie
 
 enum-known-answer : tie.Need-enum-known-answer
 enum-known-answer c = search needs
 
 edges-and-length-requires : tie.Need-edges-and-length-requires
-edges-and-length-requires c κs = search (needs, merge-number-laws)
+edges-and-length-requires c κs = search needs
 
 enum-known-answer-2 : tie.Need-enum-known-answer-2
 enum-known-answer-2 c = search needs

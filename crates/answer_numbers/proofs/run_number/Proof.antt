@@ -1,8 +1,8 @@
--- `exports::numbers::run_number` meets its contract: each way out is a law of NumberLaws.
-use Rattle.exports.proofs.NumberLaws.{run-number-laws}
+-- `answer_numbers::run_number` meets its contract: each way out is a law of NumberLaws.
+use Rattle.answer_numbers.proofs.NumberLaws.{run-number-laws}
 use borrow.Author.Needs.{needs}
-use Rattle.exports.proofs.numbers.run_number.Statement.{statement}
-use Rattle.exports.proofs.numbers.run_number.Tie as tie
+use Rattle.answer_numbers.proofs.run_number.Statement.{statement}
+use Rattle.answer_numbers.proofs.run_number.Tie as tie
 
 enum-known-ran : tie.Need-enum-known-ran
 enum-known-ran c = search needs
@@ -13,8 +13,8 @@ phase-number-requires c κs = search needs
 enum-known-ran-2 : tie.Need-enum-known-ran-2
 enum-known-ran-2 c = search needs
 
-add-result : tie.Need-add-result
-add-result c = search (needs, run-number-laws)
+wrapping-add-u32-requires : tie.Need-wrapping-add-u32-requires
+wrapping-add-u32-requires c κs = search needs
 
 enum-told : tie.Need-enum-told
 enum-told c = search needs
@@ -47,7 +47,7 @@ run-number-spec =
     enum-known-ran
     phase-number-requires
     enum-known-ran-2
-    add-result
+    wrapping-add-u32-requires
     enum-told
     enum-told-2
     enum-told-3
