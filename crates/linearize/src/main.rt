@@ -49,7 +49,7 @@ fn main() {
         return;
     }
     let n = input.length;
-    let printed = merger::output(&bytes[..n]);
+    let printed = merge_output::output(&bytes[..n]);
     let out = printed.bytes;
     let k = printed.length;
     if !io::write_all(STDOUT_FILENO, &out[..k]) {

@@ -6,8 +6,6 @@ use Rattle.model.specs.Table.{tableOf}
 use Rattle.format.specs.Bytes.{Bytes}
 use Rattle.format.specs.Reader.{refused, accepted, readAnswer}
 use Rattle.format.specs.Merger.{mergeAnswer, mergeAfter}
-use Rattle.text_bytes.specs.declared.answer.Written.{Written}
-use Rattle.text_bytes.specs.declared.answer.Written.the-variants.{To, Full}
 use Rattle.merger.specs.declared.MergeAnswer.{MergeAnswer}
 use Rattle.merger.specs.declared.MergeAnswer.the-variants as A
 use Rattle.merger.specs.declared.Outcome.{Outcome}
@@ -33,8 +31,3 @@ outcomeAfter text lent =
       | refused row line ↦ lent
       | accepted m ↦ mergeAfter (mergeAnswer (tableOf m) (length lent)) lent
     ]
-
--- how many bytes were written, where there was room
-unfoldable pub placeOf : Written → ℕ
-placeOf (To n) = n
-placeOf Full = 0

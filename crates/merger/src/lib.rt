@@ -1,9 +1,5 @@
 // The merger: from a table, or from a sheet text, to the text of the merged sheet.
-mod program;
-
 use model::Model;
-pub use program::Printed;
-pub use program::output;
 use reader::ReadAnswer;
 use writer::WriteAnswer;
 ghost use mathlib.Core.Path.{_≡_};

@@ -35,7 +35,7 @@ pub record PutInto {A : Type 0} (lent content after : List A) : Type 0 where
   -- and there are as many as before
   pub same-length : length after ≡ length lent
 
--- text::read
+-- reader::read
 pub record ReadCall (text : Bytes) (lent : List ℕ) : Type 0 where
   -- a row with its line is answered exactly when its condition is the first that holds
   pub refused-exactly : (row line : ℕ)
@@ -51,7 +51,7 @@ pub record ReadCall (text : Bytes) (lent : List ℕ) : Type 0 where
   -- these are 8,192
   pub words-put : (m : Model) → readAnswer text (length lent) ≡ accepted m → length (tableOf m) ≡ tableWords
 
--- writer::write, which is also text::write
+-- writer::write, which is also reader::write
 pub record WriteCall (table : List ℕ) (lent : Bytes) : Type 0 where
   -- a row is answered exactly when its condition holds and no smaller row's does
   pub refused-exactly : (row : ℕ)
@@ -140,7 +140,7 @@ pub record EveryCallAnswers : Type 0 where
   pub merges : (table : List ℕ) (lent : Bytes) → MergeCall table lent
   -- the merged text of a text is
   pub linearizes : (text lent : Bytes) → TextCall text lent
-  -- the program (merger::output) prints a refusal with its row and line, where there is one
+  -- the program (merge_output::output) prints a refusal with its row and line, where there is one
   pub prints : (text : Bytes) (row line : ℕ) → TextFault text maxBytes row line → programOutput text ≡ refusal row line
   -- a step is judged
   pub judges-steps : (table : List ℕ) (phase : ℕ) (locations : List ℕ) (values : List ℤ)

@@ -16,6 +16,6 @@ fn main() {
         & rows::values()
         & rows::actions();
     if !(on_oven & in_rows) {
-        io::write_all(STDERR_FILENO, b"oven_judge: a write failed\n");
+        io::write_all(STDERR_FILENO, b"try_oven: a write failed\n");
     }
 }

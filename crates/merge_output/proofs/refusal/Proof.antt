@@ -1,8 +1,8 @@
--- `merger::program::refusal` meets its contract.
-use Rattle.merger.proofs.OutcomeLaws.{refusal-is}
+-- `merge_output::refusal` meets its contract.
+use Rattle.merge_output.proofs.OutputLaws.{refusal-is}
 use borrow.Author.Needs.{needs}
-use Rattle.merger.proofs.program.refusal.Statement.{statement}
-use Rattle.merger.proofs.program.refusal.Tie as tie
+use Rattle.merge_output.proofs.refusal.Statement.{statement}
+use Rattle.merge_output.proofs.refusal.Tie as tie
 
 slice-aggregate-put : tie.Need-slice-aggregate-put
 slice-aggregate-put c = search needs

@@ -1,13 +1,12 @@
-// What the program writes.
-use crate::Outcome;
+// What the program prints: the merged text of a sheet text, or the line that says which row refuses it.
+use merger::Outcome;
 use text_bytes::Written;
 ghost use mathlib.Core.Path.{_≡_};
 ghost use Prim.Native.Nat.{_%_, _≤_};
 ghost use lib.ListN.{length};
 ghost use Rattle.format.specs.Number.{decimal};
 ghost use Rattle.format.specs.Program.{refusal, programOutput};
-ghost use Rattle.merger.specs.Outcome.{placeOf};
-ghost use Rattle.merger.specs.Printed.{printed, Put, Stands};
+ghost use Rattle.merge_output.specs.Printed.{placeOf, printed, Put, Stands};
 
 // The first `length` bytes.
 pub struct Printed {
@@ -56,7 +55,7 @@ pub fn output(text: &[u8]) -> Printed
     ensures { λ r. ⌜ (r ≡ printed (programOutput (now (text .entry)))) × (r .length ≤ length (r .bytes)) ⌝ }
 {
     let mut bytes = [0u8; 65536];
-    let outcome = crate::merge_text(text, &mut bytes);
+    let outcome = merger::merge_text(text, &mut bytes);
     match outcome {
         Outcome::Merged(n, _) => Printed { bytes, length: n },
         Outcome::Refused(row, line) => {

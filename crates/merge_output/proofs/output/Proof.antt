@@ -1,8 +1,8 @@
--- `merger::program::output` meets its contract: each way out is a law.
-use Rattle.merger.proofs.OutcomeLaws.{output-laws}
+-- `merge_output::output` meets its contract: each way out is a law.
+use Rattle.merge_output.proofs.OutputLaws.{output-laws}
 use borrow.Author.Needs.{needs}
-use Rattle.merger.proofs.program.output.Statement.{statement}
-use Rattle.merger.proofs.program.output.Tie as tie
+use Rattle.merge_output.proofs.output.Statement.{statement}
+use Rattle.merge_output.proofs.output.Tie as tie
 
 slice-aggregate-merge-text : tie.Need-slice-aggregate-merge-text
 slice-aggregate-merge-text c = search needs

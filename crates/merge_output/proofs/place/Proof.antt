@@ -1,8 +1,8 @@
--- `merger::program::place` meets its contract: each way out is a law.
-use Rattle.merger.proofs.OutcomeLaws.{place-laws}
+-- `merge_output::place` meets its contract: each way out is a law.
+use Rattle.merge_output.proofs.OutputLaws.{place-laws}
 use borrow.Author.Needs.{needs}
-use Rattle.merger.proofs.program.place.Statement.{statement}
-use Rattle.merger.proofs.program.place.Tie as tie
+use Rattle.merge_output.proofs.place.Statement.{statement}
+use Rattle.merge_output.proofs.place.Tie as tie
 
 enum-known-end : tie.Need-enum-known-end
 enum-known-end c = search needs

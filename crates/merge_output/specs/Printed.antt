@@ -6,8 +6,14 @@ use Rattle.model.specs.Bounds.{maxBytes}
 use Rattle.format.specs.Bytes.{Bytes}
 use Rattle.format.specs.Writer.{withText}
 use Rattle.text_bytes.specs.Write.{writtenTo, after}
-use Rattle.merger.specs.declared.program.Printed.{Printed}
-use Rattle.merger.specs.Outcome.{placeOf}
+use Rattle.text_bytes.specs.declared.answer.Written.{Written}
+use Rattle.text_bytes.specs.declared.answer.Written.the-variants.{To, Full}
+use Rattle.merge_output.specs.declared.Printed.{Printed}
+
+-- how many bytes were written, where there was room
+unfoldable pub placeOf : Written → ℕ
+placeOf (To n) = n
+placeOf Full = 0
 
 -- a text, and zeros after it
 unfoldable pub printed : Bytes → Printed

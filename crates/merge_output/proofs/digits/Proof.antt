@@ -1,8 +1,8 @@
--- `merger::program::digits` meets its contract.
-use Rattle.merger.proofs.OutcomeLaws.{put-by}
+-- `merge_output::digits` meets its contract.
+use Rattle.merge_output.proofs.OutputLaws.{put-by}
 use borrow.Author.Needs.{needs}
-use Rattle.merger.proofs.program.digits.Statement.{statement}
-use Rattle.merger.proofs.program.digits.Tie as tie
+use Rattle.merge_output.proofs.digits.Statement.{statement}
+use Rattle.merge_output.proofs.digits.Tie as tie
 
 decimal-requires : tie.Need-decimal-requires
 decimal-requires c κs = search needs

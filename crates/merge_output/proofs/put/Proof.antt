@@ -1,8 +1,8 @@
--- `merger::program::put` meets its contract.
-use Rattle.merger.proofs.OutcomeLaws.{put-by}
+-- `merge_output::put` meets its contract.
+use Rattle.merge_output.proofs.OutputLaws.{put-by}
 use borrow.Author.Needs.{needs}
-use Rattle.merger.proofs.program.put.Statement.{statement}
-use Rattle.merger.proofs.program.put.Tie as tie
+use Rattle.merge_output.proofs.put.Statement.{statement}
+use Rattle.merge_output.proofs.put.Tie as tie
 
 copy-requires : tie.Need-copy-requires
 copy-requires c κs = search needs
