@@ -11,7 +11,7 @@ use lib.ListN.{length, getD, drop}
 use Rattle.model.specs.Basic.{orElse}
 use Rattle.model.specs.Composition.{Tree, leaf}
 use Rattle.model.specs.Limits.{listsFilled}
-use Rattle.model.specs.Lines.{Entry, Key, actions, actionsLine, automata, automataLine, compose, composeLine, edge, edgeLine, edges, edgesLine, formatLine, init, initLine, inv, invLine, keyOf, locations, locationsLine, sync, syncLine, variable, variableLine, variables, variablesLine}
+use Rattle.model.specs.Lines.{Entry, Key, actions, actionsLine, automata, automataLine, compose, composeLine, edge, edgeLine, edges, edgesLine, format, formatLine, init, initLine, inv, invLine, keyOf, locations, locationsLine, sync, syncLine, variable, variableLine, variables, variablesLine}
 use Rattle.model.specs.Parse.{readPred, readTree}
 use Rattle.model.specs.Predicate as P
 use Rattle.model.specs.Predicate.{Pred, all, range}
@@ -124,7 +124,7 @@ the-tree c = refl
 
 -- no list in the entry's tree is empty
 abbrev pub ListedEntry : Entry → Type 0
-ListedEntry formatLine = Unit
+ListedEntry (formatLine n) = Unit
 ListedEntry (actionsLine n) = Unit
 ListedEntry (variablesLine n) = Unit
 ListedEntry (variableLine r) = Unit
@@ -140,7 +140,7 @@ ListedEntry (composeLine c) = listsFilled c ≡ true
 -- what an entry's line says is the entry
 pub entry-line : (e : Entry) → ListedEntry e → entry (keyOf e) (lineOf e) ≡ e
 unfolding entry keyOf valueText fields field is place valueOf thePred predOf wordsIn predTokens theTree treeOf treeTokens nodesIn syncList theRange range
-entry-line formatLine h = refl
+entry-line (formatLine n) h = ap (λ s. formatLine (naturalOf s)) (sole-field format (decimal n) (decimal-free n)) ∙ ap formatLine (count-decimal n)
 entry-line (actionsLine n) h = ap (λ s. actionsLine (naturalOf s)) (sole-field actions (decimal n) (decimal-free n)) ∙ ap actionsLine (count-decimal n)
 entry-line (variablesLine n) h = ap (λ s. variablesLine (naturalOf s)) (sole-field variables (decimal n) (decimal-free n)) ∙ ap variablesLine (count-decimal n)
 entry-line (variableLine r) h =

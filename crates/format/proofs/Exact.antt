@@ -30,7 +30,7 @@ use Rattle.format.proofs.TreeFaults.{compose-fault}
 -- the line of an entry breaks the rows that the entry breaks
 pub fault-law : (r : Reading) (e : Entry) → fault r (keyOf e) (lineOf e) ≡ faultOf r e
 unfolding keyOf
-fault-law r formatLine = format-fault r
+fault-law r (formatLine n) = format-fault r n
 fault-law r (actionsLine n) = actions-fault r n
 fault-law r (variablesLine n) = variables-fault r n
 fault-law r (variableLine x) = variable-fault r x
@@ -46,7 +46,7 @@ fault-law r (composeLine c) = compose-fault r c
 -- an entry that breaks no row has no empty list
 listed-entry : (r : Reading) (e : Entry) → faultOf r e ≡ none → ListedEntry e
 unfolding faultOf contentFault
-listed-entry r formatLine h = tt
+listed-entry r (formatLine n) h = tt
 listed-entry r (actionsLine n) h = tt
 listed-entry r (variablesLine n) h = tt
 listed-entry r (variableLine x) h = tt
@@ -63,15 +63,15 @@ listed-entry r (composeLine c) h =
     not-false (listsFilled c) (broken-inv 13 (not (listsFilled c)) _ (b .1) .0)
 
 -- one step of reading
-pub read-case : (r : Reading) (k : Key) (ks : List Key) (n : ℕ) (l : Line) (ls : List Line) (o : Option ℕ) → fault r k l ≡ o → read r (k ∷ ks) n (l ∷ ls) ≡ elim o [ some row ↦ refused row n | none ↦ read (noted r (entry k l)) (thenDue (entry k l) ++ ks) (suc n) ls ]
+pub read-case : (r : Reading) (k : Key) (ks : List Key) (n : ℕ) (l : Line) (ls : List Line) (o : Option ℕ) → fault r k l ≡ o → read r (k ∷ ks) n (l ∷ ls) ≡ elim o [ some row ↦ refused row n | none ↦ read (noted r (entry k l)) (thenDue (r .model .format) (entry k l) ++ ks) (suc n) ls ]
 unfolding read
-read-case r k ks n l ls o e = ap (λ (x : Option ℕ). elim x as (λ q. ReadAnswer) [ some row ↦ refused row n | none ↦ read (noted r (entry k l)) (thenDue (entry k l) ++ ks) (suc n) ls ]) e
+read-case r k ks n l ls o e = ap (λ (x : Option ℕ). elim x as (λ q. ReadAnswer) [ some row ↦ refused row n | none ↦ read (noted r (entry k l)) (thenDue (r .model .format) (entry k l) ++ ks) (suc n) ls ]) e
 
 -- the lines of a model within the limits are read as the model
-read-entry : (r : Reading) (e : Entry) (ks : List Key) (n : ℕ) (ls : List Line) → faultOf r e ≡ none → read r (keyOf e ∷ ks) n (lineOf e ∷ ls) ≡ read (noted r e) (thenDue e ++ ks) (suc n) ls
+read-entry : (r : Reading) (e : Entry) (ks : List Key) (n : ℕ) (ls : List Line) → faultOf r e ≡ none → read r (keyOf e ∷ ks) n (lineOf e ∷ ls) ≡ read (noted r e) (thenDue (r .model .format) e ++ ks) (suc n) ls
 read-entry r e ks n ls h =
     read-case r (keyOf e) ks n (lineOf e) ls none (fault-law r e ∙ h) ∙
-    ap (λ (x : Entry). read (noted r x) (thenDue x ++ ks) (suc n) ls) (entry-line e (listed-entry r e h))
+    ap (λ (x : Entry). read (noted r x) (thenDue (r .model .format) x ++ ks) (suc n) ls) (entry-line e (listed-entry r e h))
 
 no-fault : (o : Option ℕ) → lacks o ≡ true → o ≡ none
 unfolding lacks
@@ -90,7 +90,7 @@ follow-read (e ∷ es) r [] n m f w = absurd f
 follow-read (e ∷ es) r (k ∷ ks) n m f w =
     ap (λ q. read r (q ∷ ks) n (lineOf e ∷ map lineOf es)) (sym (f .0)) ∙
     read-entry r e ks n (map lineOf es) (no-fault (faultOf r e) (and-left (lacks (faultOf r e)) (withinLimits (noted r e) es) w)) ∙
-    follow-read es (noted r e) (thenDue e ++ ks) (suc n) m (f .1) (and-right (lacks (faultOf r e)) (withinLimits (noted r e) es) w)
+    follow-read es (noted r e) (thenDue (r .model .format) e ++ ks) (suc n) m (f .1) (and-right (lacks (faultOf r e)) (withinLimits (noted r e) es) w)
 
 read-text-of : (m : Model) → limits m ≡ true → read atFirst dueAtFirst 1 (linesOf (textOf m)) ≡ accepted m
 unfolding limits textOf
@@ -107,7 +107,7 @@ pub entry-fault : (r : Reading) (k : Key) (l : Line) → fault r k l ≡ none �
 entry-fault r k l h =
     sym (fault-law r (entry k l)) ∙ ap (λ j. fault r j (lineOf (entry k l))) (entry-key k l) ∙ ap (fault r k) (sym (line-written r k l h)) ∙ h
 
-accepts-more : (r : Reading) (k : Key) (ks : List Key) (l : Line) (ls : List Line) (m : Model) → fault r k l ≡ none → Accepts (noted r (entry k l)) (thenDue (entry k l) ++ ks) ls m → Accepts r (k ∷ ks) (l ∷ ls) m
+accepts-more : (r : Reading) (k : Key) (ks : List Key) (l : Line) (ls : List Line) (m : Model) → fault r k l ≡ none → Accepts (noted r (entry k l)) (thenDue (r .model .format) (entry k l) ++ ks) ls m → Accepts r (k ∷ ks) (l ∷ ls) m
 unfolding withinLimits lacks
 accepts-more r k ks l ls m h a =
     record {
@@ -125,9 +125,9 @@ unfolding read withinLimits
 accepts [] r [] n m h = let e : r .model ≡ m = cc in record { entries = []; follows = e; spelled = refl; limited = refl }
 accepts [] r (k ∷ ks) n m h = absurd (no-refusal 2 n m h)
 accepts (l ∷ ls) r [] n m h = absurd (no-refusal 2 n m h)
-accepts (l ∷ ls) r (k ∷ ks) n m h = go (accepts ls (noted r (entry k l)) (thenDue (entry k l) ++ ks) (suc n) m) (fault r k l) refl h
+accepts (l ∷ ls) r (k ∷ ks) n m h = go (accepts ls (noted r (entry k l)) (thenDue (r .model .format) (entry k l) ++ ks) (suc n) m) (fault r k l) refl h
   where
-    go : (read (noted r (entry k l)) (thenDue (entry k l) ++ ks) (suc n) ls ≡ accepted m → Accepts (noted r (entry k l)) (thenDue (entry k l) ++ ks) ls m) → (o : Option ℕ) → fault r k l ≡ o → elim o [ some row ↦ refused row n | none ↦ read (noted r (entry k l)) (thenDue (entry k l) ++ ks) (suc n) ls ] ≡ accepted m → Accepts r (k ∷ ks) (l ∷ ls) m
+    go : (read (noted r (entry k l)) (thenDue (r .model .format) (entry k l) ++ ks) (suc n) ls ≡ accepted m → Accepts (noted r (entry k l)) (thenDue (r .model .format) (entry k l) ++ ks) ls m) → (o : Option ℕ) → fault r k l ≡ o → elim o [ some row ↦ refused row n | none ↦ read (noted r (entry k l)) (thenDue (r .model .format) (entry k l) ++ ks) (suc n) ls ] ≡ accepted m → Accepts r (k ∷ ks) (l ∷ ls) m
     go ih none e g = accepts-more r k ks l ls m e (ih g)
     go ih (some row) e g = absurd (no-refusal row n m g)
 

@@ -10,7 +10,7 @@ use lib.Dec.{leb}
 use lib.ListN.{length, getD}
 use lib.IntN.{pos}
 use Rattle.model.specs.Basic.{between, every, lacks, orElse}
-use Rattle.model.specs.Bounds.{greatestNumber, lastLocation, leastNumber, maxActions, maxAutomata, maxEdges, maxLocations, maxVariables}
+use Rattle.model.specs.Bounds.{firstFormat, greatestNumber, lastFormat, lastLocation, leastNumber, maxActions, maxAutomata, maxEdges, maxLocations, maxVariables}
 use Rattle.model.specs.Limits.{broken, faultOf, inRange, isCrossed, isTooDeep, exceedsSpan, numbersInRange, passesEdges, passesNodes, predFault, rises, contentFault, locationFault, variableCount}
 use Rattle.model.specs.Lines.{Entry, Key, Reading, actions, actionsLine, automata, automataLine, composeLine, edge, edgeLine, edges, edgesLine, format, formatLine, init, initLine, inv, invLine, keyOf, locations, locationsLine, sync, syncLine, variable, variableLine, variables, variablesLine}
 use Rattle.model.specs.Model.{Edge}
@@ -44,7 +44,7 @@ begins-self (b ∷ s) v = rw (eq-eqb b b refl, begins) (begins-self s v)
 -- its fields are as many as they should be
 field-number : (e : Entry) → length (fields (keyOf e) (lineOf e)) ≡ fieldCount (keyOf e)
 unfolding fields fieldCount keyOf is place valueOf valueText
-field-number formatLine = ap length (sole-part format (decimal 1) (decimal-free 1))
+field-number (formatLine n) = ap length (sole-part format (decimal n) (decimal-free n))
 field-number (actionsLine n) = ap length (sole-part actions (decimal n) (decimal-free n))
 field-number (variablesLine n) = ap length (sole-part variables (decimal n) (decimal-free n))
 field-number (variableLine r) = ap length (more-fields variable (signed (r .low)) (signed (r .high) ∷ []) (signed-free (r .low)) (signed-free (r .high), tt))
@@ -95,6 +95,10 @@ one-number : (r : Reading) (e : Entry) (b : Bool) → fault r (keyOf e) (lineOf 
 one-number r e b h k = h ∙ skip 2 (row2 (keyOf e) (lineOf e)) (broken 3 (row3 (keyOf e) (lineOf e)) none) (row2-of e) ∙ ap (λ x. broken 3 x none) k
 
 module _ (r : Reading) where
+  pub format-fault : (n : ℕ) → fault r format (lineOf (formatLine n)) ≡ faultOf r (formatLine n)
+  unfolding fault row3 row4 row5 row6 row7 row8 row9 row10 row11 row12 row13 row14 row15 row16 is place hasPred broken keyOf numbersSound field fields valueOf valueText faultOf contentFault numbersInRange
+  format-fault n = one-number r (formatLine n) (not (leb firstFormat n && leb n lastFormat)) refl (ap (λ s. not (within (pos firstFormat) (pos lastFormat) s)) (sole-field format (decimal n) (decimal-free n)) ∙ ap not (within-nat firstFormat lastFormat n))
+
   pub actions-fault : (n : ℕ) → fault r actions (lineOf (actionsLine n)) ≡ faultOf r (actionsLine n)
   unfolding fault row3 row4 row5 row6 row7 row8 row9 row10 row11 row12 row13 row14 row15 row16 is place hasPred broken keyOf numbersSound field fields valueOf valueText faultOf contentFault numbersInRange
   actions-fault n = one-number r (actionsLine n) (not (leb n maxActions)) refl (ap (λ s. not (within (pos 0) (pos maxActions) s)) (sole-field actions (decimal n) (decimal-free n)) ∙ ap not (within-zero maxActions n))
@@ -184,10 +188,6 @@ module _ (r : Reading) where
   inv-fault p =
       let t = inv-tokens p in
       rw (row2-of (invLine p), t, sounds-of p, r6 inv (lineOf (invLine p)) p t has-inv, r7 inv (lineOf (invLine p)) p t has-inv, its-words inv (lineOf (invLine p)) p t has-inv, r9 inv (lineOf (invLine p)) p t has-inv, r10 inv (lineOf (invLine p)) p t has-inv, r11 inv (lineOf (invLine p)) p t has-inv)
-
-  pub format-fault : fault r format (lineOf formatLine) ≡ faultOf r formatLine
-  unfolding fault row3 row4 row5 row6 row7 row8 row9 row10 row11 row12 row13 row14 row15 row16 is place hasPred broken keyOf numbersSound field fields valueOf valueText faultOf contentFault numbersInRange
-  format-fault = one-number r formatLine false refl (ap (λ s. not (within (pos 1) (pos 1) s)) (sole-field format (decimal 1) (decimal-free 1)) ∙ ap not (within-nat 1 1 1))
 
   pub variable-fault : (x : Range) → fault r variable (lineOf (variableLine x)) ≡ faultOf r (variableLine x)
   unfolding fault faultOf contentFault numbersInRange row3 row4 row5 row6 row7 row8 row9 row10 row11 row12 row13 row14 row15 row16 is place hasPred broken keyOf numbersSound field fields valueOf valueText theRange syncList range every

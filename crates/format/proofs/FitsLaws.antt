@@ -223,8 +223,8 @@ module _ (vs : List Range) where
 pub text-fits : (m : Model) → Lawful m → length (textOf m) ≤ maxBytes
 unfolding textOf lines valueText keyOf spelling
 text-fits m h =
-    let e₁ = line-size formatLine in
-    let d₁ = decimal-width 0 1 (omega arith) in
+    let e₁ = line-size (formatLine (m .format)) in
+    let d₁ = decimal-width 0 (m .format) (omega arith) in
     let e₂ = line-size (actionsLine (m .actions)) in
     let d₂ = decimal-width 1 (m .actions) (omega arith) in
     let e₃ = line-size (variablesLine (length (m .variables))) in

@@ -5,12 +5,12 @@ use mathlib.Core.Bool.{Bool, true, false, not, _||_}
 use mathlib.Core.List.{List, [], _∷_, _++_, append-nil, map}
 use mathlib.Core.Option.{Option, none, some}
 use native.Mathlib.Omega.{arith}
-use borrow.Author.Tests.{leb-true, eqb-true, not-false}
-use lib.Dec.{eqb, leb}
+use borrow.Author.Tests.{eqb-true, not-false}
+use lib.Dec.{eqb}
 use lib.ListN.{length, getD, drop}
 use lib.IntN.{ℤ, pos, negsuc}
 use Rattle.model.specs.Basic.{between, every, lacks, orElse}
-use Rattle.model.specs.Bounds.{greatestNumber, lastLocation, leastNumber, maxActions, maxAutomata, maxEdges, maxLocations, maxVariables}
+use Rattle.model.specs.Bounds.{firstFormat, greatestNumber, lastFormat, lastLocation, leastNumber, maxActions, maxAutomata, maxEdges, maxLocations, maxVariables}
 use Rattle.model.specs.Composition.{Tree, leaf}
 use Rattle.model.specs.Limits.{broken}
 use Rattle.model.specs.Lines.{Entry, Key, Reading, actions, automata, compose, edge, edges, format, init, inv, keyOf, locations, sync, variable, variables}
@@ -143,18 +143,6 @@ module _ (l : Line) where
   one-p : (k : Key) → length (parts comma (valueOf k l)) ≡ 1 → lacks (readPred (readWords (tokens (getD (parts comma (valueOf k l)) 0 [])))) ≡ false → sounds [] (tokens (getD (parts comma (valueOf k l)) 0 [])) ≡ true → valueOf k l ≡ textOfPred (orElse (all P.none) (readPred (readWords (tokens (getD (parts comma (valueOf k l)) 0 [])))))
   one-p k h a b = one-part (valueOf k l) h ∙ p-written (getD (parts comma (valueOf k l)) 0 []) (readPred (readWords (tokens (getD (parts comma (valueOf k l)) 0 [])))) refl a b
 
-  format-value : (s : Bytes) → within (pos 1) (pos 1) s ≡ true → s ≡ decimal 1
-  unfolding signed between
-  format-value s h = let i = within-inv (pos 1) (pos 1) s h in go (i .0) (i .1) (i .2)
-    where
-      go : (z : ℤ) → s ≡ signed z → between (pos 1) (pos 1) z ≡ true → s ≡ decimal 1
-      go (pos n) k m =
-          let x = leb-true 1 n (and-left (leb 1 n) (leb n 1) m) in
-          let y = leb-true n 1 (and-right (leb 1 n) (leb n 1) m) in
-          let z : n ≡ 1 = omega arith in
-          k ∙ ap decimal z
-      go (negsuc n) k m = absurd (false-true m)
-
   two-numbers : (v : Bytes) → length (parts comma v) ≡ 2 → every (within leastNumber greatestNumber) (parts comma v) ≡ true → v ≡ joined comma (signed (integerOf (getD (parts comma v) 0 [])) ∷ signed (integerOf (getD (parts comma v) 1 [])) ∷ [])
   two-numbers v h w =
       let e = list-2 (parts comma v) h in
@@ -176,7 +164,7 @@ c-written s (some c) e h k = tree-law s c k e
 
 value-written : (k : Key) (l : Line) → length (fields k l) ≡ fieldCount k → numbersSound k l ≡ true → row6 k l ≡ false → row13 k l ≡ false → valueOf k l ≡ valueText (entry k l)
 unfolding numbersSound fields field fieldCount is place entry valueText row6 row13 hasPred predOf wordsIn predTokens thePred theTree treeOf treeTokens nodesIn syncList theRange range
-value-written format l c n s t = one-part (valueOf format l) c ∙ format-value l (getD (parts comma (valueOf format l)) 0 []) n
+value-written format l c n s t = one-number l format firstFormat lastFormat c n
 value-written actions l c n s t = one-number l actions 0 maxActions c n
 value-written variables l c n s t = one-number l variables 0 maxVariables c n
 value-written variable l c n s t = two-numbers l (valueOf variable l) c n

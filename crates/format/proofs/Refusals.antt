@@ -42,9 +42,9 @@ unfolding read
 read-stops [] r [] m row line h = absurd (no-refusal row line (r .model) (sym h))
 read-stops [] r (k ∷ ks) m row line h = here r (k ∷ ks) [] m 2 row line lacking h
 read-stops (l ∷ ls) r [] m row line h = here r [] (l ∷ ls) m 2 row line extra h
-read-stops (l ∷ ls) r (k ∷ ks) m row line h = go (read-stops ls (noted r (entry k l)) (thenDue (entry k l) ++ ks) (suc m) row line) (fault r k l) refl h
+read-stops (l ∷ ls) r (k ∷ ks) m row line h = go (read-stops ls (noted r (entry k l)) (thenDue (r .model .format) (entry k l) ++ ks) (suc m) row line) (fault r k l) refl h
   where
-    go : (read (noted r (entry k l)) (thenDue (entry k l) ++ ks) (suc (suc m)) ls ≡ refused row line → StopsAt (noted r (entry k l)) (thenDue (entry k l) ++ ks) ls (suc m) row line) → (o : Option ℕ) → fault r k l ≡ o → elim o [ some at ↦ refused at (suc m) | none ↦ read (noted r (entry k l)) (thenDue (entry k l) ++ ks) (suc (suc m)) ls ] ≡ refused row line → StopsAt r (k ∷ ks) (l ∷ ls) m row line
+    go : (read (noted r (entry k l)) (thenDue (r .model .format) (entry k l) ++ ks) (suc (suc m)) ls ≡ refused row line → StopsAt (noted r (entry k l)) (thenDue (r .model .format) (entry k l) ++ ks) ls (suc m) row line) → (o : Option ℕ) → fault r k l ≡ o → elim o [ some at ↦ refused at (suc m) | none ↦ read (noted r (entry k l)) (thenDue (r .model .format) (entry k l) ++ ks) (suc (suc m)) ls ] ≡ refused row line → StopsAt r (k ∷ ks) (l ∷ ls) m row line
     go ih (some at) e g = here r (k ∷ ks) (l ∷ ls) m at row line (faulty (fault-smallest r k l at .0 e)) g
     go ih none e g =
         let s = ih g in

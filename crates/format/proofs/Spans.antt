@@ -121,7 +121,7 @@ tree-span c = joined-each (λ b. (32 ≤ b) × (b ≤ 126)) 32 (flatMap spelledN
 -- lines
 value-span : (e : Entry) → Span 32 126 (valueText e)
 unfolding valueText
-value-span formatLine = decimal-span 32 126 1 (omega arith) (omega arith)
+value-span (formatLine n) = decimal-span 32 126 n (omega arith) (omega arith)
 value-span (actionsLine n) = decimal-span 32 126 n (omega arith) (omega arith)
 value-span (variablesLine n) = decimal-span 32 126 n (omega arith) (omega arith)
 value-span (variableLine x) =

@@ -35,7 +35,7 @@ read r (k ∷ ks) n [] = refused 2 n
 read r (k ∷ ks) n (l ∷ ls) =
     elim (fault r k l) [
       | some row ↦ refused row n
-      | none ↦ read (noted r (entry k l)) (thenDue (entry k l) ++ ks) (suc n) ls
+      | none ↦ read (noted r (entry k l)) (thenDue (r .model .format) (entry k l) ++ ks) (suc n) ls
     ]
 
 -- Row 1: more bytes than a text may have.

@@ -35,5 +35,5 @@ pub data Stops : Reading → List Key → List Line → (row n : ℕ) → Type 0
   faulty : {r : Reading} {k : Key} {ks : List Key} {l : Line} {ls : List Line} {row : ℕ} → Smallest (lineRows r k l) row
       → Stops r (k ∷ ks) (l ∷ ls) row 1
   later : {r : Reading} {k : Key} {ks : List Key} {l : Line} {ls : List Line} {row n : ℕ} → Unbroken (lineRows r k l)
-      → Stops (noted r (entry k l)) (thenDue (entry k l) ++ ks) ls row n
+      → Stops (noted r (entry k l)) (thenDue (r .model .format) (entry k l) ++ ks) ls row n
       → Stops r (k ∷ ks) (l ∷ ls) row (suc n)

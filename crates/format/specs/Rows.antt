@@ -8,7 +8,7 @@ use lib.ListN.{length, getD, drop}
 use lib.IntN.{pos}
 use lib.Dec.{eqb, leb}
 use Rattle.model.specs.Basic.{every, lacks, orElse}
-use Rattle.model.specs.Bounds.{maxActions, maxVariables, maxAutomata, maxLocations, maxEdges, lastLocation, leastNumber, greatestNumber}
+use Rattle.model.specs.Bounds.{firstFormat, lastFormat, maxActions, maxVariables, maxAutomata, maxLocations, maxEdges, lastLocation, leastNumber, greatestNumber}
 use Rattle.model.specs.Predicate as P
 use Rattle.model.specs.Predicate.{Pred, Range, range, Word, all, namesOutside, namesNew}
 use Rattle.model.specs.Composition.{Tree, Node, leaf}
@@ -111,7 +111,7 @@ row2 k l =
 
 -- Row 3: is each number spelled right and in its range?
 unfoldable pub numbersSound : Key → Line → Bool
-numbersSound format l = within (pos 1) (pos 1) (field 0 format l)
+numbersSound format l = within (pos firstFormat) (pos lastFormat) (field 0 format l)
 numbersSound actions l = within (pos 0) (pos maxActions) (field 0 actions l)
 numbersSound variables l = within (pos 0) (pos maxVariables) (field 0 variables l)
 numbersSound variable l = every (within leastNumber greatestNumber) (fields variable l)
@@ -207,7 +207,7 @@ fault r k l =
 
 -- what a line that breaks none says
 unfoldable pub entry : Key → Line → Entry
-entry format l = formatLine
+entry format l = formatLine (naturalOf (field 0 format l))
 entry actions l = actionsLine (naturalOf (field 0 actions l))
 entry variables l = variablesLine (naturalOf (field 0 variables l))
 entry variable l = variableLine (theRange l)

@@ -56,7 +56,7 @@ unfoldable pub textOfTree : Tree → Bytes
 textOfTree c = joined space (flatMap spelledNode (nodes c))
 
 unfoldable pub valueText : Entry → Bytes
-valueText formatLine = decimal 1
+valueText (formatLine n) = decimal n
 valueText (actionsLine n) = decimal n
 valueText (variablesLine n) = decimal n
 valueText (variableLine x) = joined comma (signed (x .low) ∷ signed (x .high) ∷ [])

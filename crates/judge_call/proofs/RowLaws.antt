@@ -89,7 +89,7 @@ module _ (t rest : List ℕ) (m : Model) (e : t ≡ sheetWords m ++ rest) where
       let others = length (m .automata) ∷ (automatonWords (m .automata) ++ (lineWords (composeLine (m .tree)) ++ rest)) in
       let l : k ≤ length (m .variables) = omega arith in
       let first : drop (reach t 0 3) t ≡ wordsOf (map variableLine vs) ++ others =
-      reached t 0 3 (1 ∷ m .actions ∷ length vs ∷ []) (wordsOf (map variableLine vs) ++ others) (sheet-parts t rest m e) refl in (
+      reached t 0 3 (m .format ∷ m .actions ∷ length vs ∷ []) (wordsOf (map variableLine vs) ++ others) (sheet-parts t rest m e) refl in (
         wordsOf (map variableLine (drop (suc k) vs)) ++ others,
         range-at t others vs (reach t 0 3) k l first ∙ ap (λ (r : List Range). wordsOf (map variableLine r) ++ others) (drop-cons vs k (range (pos 0) (pos 0)) h),
       )

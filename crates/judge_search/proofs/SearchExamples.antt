@@ -23,6 +23,7 @@ automaton sync ks = record { sync = sync; locations = []; edges = map writes ks 
 
 abbrev model : List Automaton → Model
 model automata = record {
+  format = 1;
   actions = 1;
   variables = map (λ k. range (pos 0) (pos 1)) (countUp 0 5);
   automata = automata;

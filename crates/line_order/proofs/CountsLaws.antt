@@ -102,7 +102,7 @@ counted-first = record { actions = refl; variables = refl; automata = refl; loca
 
 pub counted-after : (r : Reading) (c : Counts) (e : Entry) → Counted r c → Room c (nodesOf e) → (isInside (codeOf (keyOf e)) ≡ true → 1 ≤ length (r .model .automata)) → Counted (noted r e) (countsAfter c (codeOf (keyOf e)) (numberOf e) (nodesOf e))
 unfolding noted withModel withAutomata withPred variableCount locationCount keyOf codeOf numberOf nodesOf countsAfter isInside addLocation addEdge
-counted-after r c formatLine h room begun = h
+counted-after r c (formatLine n) h room begun = record { actions = h .actions; variables = h .variables; automata = h .automata; locations = h .locations; edges = h .edges; nodes = h .nodes }
 counted-after r c (actionsLine n) h room begun = record { actions = refl; variables = h .variables; automata = h .automata; locations = h .locations; edges = h .edges; nodes = h .nodes }
 counted-after r c (variablesLine n) h room begun = h
 counted-after r c (variableLine x) h room begun =
@@ -175,7 +175,7 @@ neither p q = absurd (true≢false (sym q ∙ p))
 
 begun-next : (d : Due) (r : Reading) (e : Entry) → (isInside (codeOf (keyOf e)) ≡ true → 1 ≤ length (r .model .automata)) → isInside (dueAfterKey (codeOf (keyOf e)) d (numberOf e) .key) ≡ true → 1 ≤ length (noted r e .model .automata)
 unfolding dueAfterKey dueVariables dueAutomata codeOf keyOf numberOf isInside noted withModel withAutomata withPred
-begun-next d r formatLine b i = neither refl i
+begun-next d r (formatLine n) b i = neither refl i
 begun-next d r (actionsLine n) b i = neither refl i
 begun-next d r (variablesLine n) b i = neither (outside n _ _ refl refl) i
 begun-next d r (variableLine x) b i = neither (outside (d .variables - 1) _ _ refl refl) i

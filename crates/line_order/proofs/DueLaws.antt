@@ -3,7 +3,7 @@ use Prim.Native.Nat.{ℕ, zero, suc, _-_}
 use mathlib.Core.Path.{_≡_, refl, sym, _∙_, ap}
 use mathlib.Core.List.{List, [], _∷_, _++_, append-assoc}
 use native.Mathlib.Numerals.{sub-one}
-use Rattle.model.specs.Lines.{Key as LineKey, format, actions, variables, variable, automata, sync, locations, init, inv, edges, edge, compose, repeat, Entry, formatLine, actionsLine, variablesLine, variableLine, automataLine, syncLine, locationsLine, initLine, invLine, edgesLine, edgeLine, composeLine, keyOf, dueAtFirst, thenDue}
+use Rattle.model.specs.Lines.{Key as LineKey, format, actions, variables, variable, automata, sync, locations, init, inv, edges, edge, compose, repeat, Entry, formatLine, actionsLine, variablesLine, variableLine, automataLine, syncLine, locationsLine, initLine, invLine, edgesLine, edgeLine, composeLine, keyOf, dueAtFirst, thenDue, Reading, atFirst, withModel, withAutomata, withPred, noted}
 use Rattle.line_order.specs.declared.Key.{Key}
 use Rattle.line_order.specs.declared.Key.the-variants.{Format, Actions, Variables, Variable, Automata, Sync, Locations, Init, Inv, Edges, Edge, Compose, End}
 use Rattle.line_order.specs.declared.Due.{Due}
@@ -23,26 +23,35 @@ pub due-first : keysDue dueFirst ≡ dueAtFirst
 unfolding keysDue keyNamed laterDue laterKeys dueAtFirst
 due-first = refl
 
+pub format-first : dueFirst .format ≡ atFirst .model .format
+unfolding atFirst
+format-first = refl
+
+either-format : (n : ℕ) (d e : Due) {f : ℕ} → d .format ≡ f → e .format ≡ f → ifNone n d e .format ≡ f
+unfolding ifNone
+either-format zero d e p q = p
+either-format (suc n) d e p q = q
+
 -- what so many lines or automata stand for
-keys-variables : (n : ℕ) → keysDue (dueVariables n) ≡ repeat n (variable ∷ []) ++ automata ∷ compose ∷ []
+keys-variables : (f n : ℕ) → keysDue (dueVariables f n) ≡ repeat n (variable ∷ []) ++ automata ∷ compose ∷ []
 unfolding keysDue keyNamed laterDue laterKeys dueVariables ifNone repeat
-keys-variables zero = refl
-keys-variables (suc n) = rw (sub-one (suc n))
+keys-variables f zero = refl
+keys-variables f (suc n) = rw (sub-one (suc n))
 
-keys-automata : (n : ℕ) → keysDue (dueAutomata n) ≡ automataFrom n
+keys-automata : (f n : ℕ) → keysDue (dueAutomata f n) ≡ automataFrom n
 unfolding keysDue keyNamed laterDue laterKeys dueAutomata ifNone repeat automataFrom
-keys-automata zero = refl
-keys-automata (suc n) = rw (sub-one (suc n))
+keys-automata f zero = refl
+keys-automata f (suc n) = rw (sub-one (suc n))
 
-keys-locations : (a n : ℕ) → keysDue (dueLocations a n) ≡ locationsFrom a n
+keys-locations : (f a n : ℕ) → keysDue (dueLocations f a n) ≡ locationsFrom a n
 unfolding keysDue keyNamed laterDue laterKeys dueLocations ifNone repeat locationsFrom
-keys-locations a zero = refl
-keys-locations a (suc n) = rw (sub-one (suc n))
+keys-locations f a zero = refl
+keys-locations f a (suc n) = rw (sub-one (suc n))
 
-keys-edges : (a n : ℕ) → keysDue (dueEdges a n) ≡ repeat n (edge ∷ []) ++ automataFrom (a - 1)
+keys-edges : (f a n : ℕ) → keysDue (dueEdges f a n) ≡ repeat n (edge ∷ []) ++ automataFrom (a - 1)
 unfolding keysDue keyNamed laterDue laterKeys dueEdges ifNone repeat
-keys-edges a zero = keys-automata (a - 1)
-keys-edges a (suc n) = rw (sub-one (suc n))
+keys-edges f a zero = keys-automata f (a - 1)
+keys-edges f a (suc n) = rw (sub-one (suc n))
 
 -- The first key that is due is the one that the code names; at the end there is none.
 abbrev codeFirst : List LineKey → Key
@@ -122,26 +131,48 @@ unfolding keysDue keyNamed laterDue laterKeys
 end-due d h = rw h
 
 -- After a line, what it puts in front is due, and then the later keys.
-after-entry : (e : Entry) (d : Due) → keysDue (dueAfterKey (codeOf (keyOf e)) d (numberOf e)) ≡ thenDue e ++ laterKeys (codeOf (keyOf e)) d
+after-entry : (e : Entry) (d : Due) → keysDue (dueAfterKey (codeOf (keyOf e)) d (numberOf e)) ≡ thenDue (d .format) e ++ laterKeys (codeOf (keyOf e)) d
 unfolding keysDue keyNamed laterDue laterKeys dueAfterKey codeOf keyOf numberOf thenDue automataFrom locationsFrom
-after-entry formatLine d = refl
+after-entry (formatLine n) d = refl
 after-entry (actionsLine n) d = refl
-after-entry (variablesLine n) d = keys-variables n
-after-entry (variableLine r) d = keys-variables (d .variables - 1)
-after-entry (automataLine n) d = keys-automata n
+after-entry (variablesLine n) d = keys-variables (d .format) n
+after-entry (variableLine r) d = keys-variables (d .format) (d .variables - 1)
+after-entry (automataLine n) d = keys-automata (d .format) n
 after-entry (syncLine list) d = refl
-after-entry (locationsLine n) d = keys-locations (d .automata) n ∙ sym (append-assoc (repeat n (init ∷ inv ∷ [])) (edges ∷ []) (automataFrom (d .automata - 1)))
+after-entry (locationsLine n) d = keys-locations (d .format) (d .automata) n ∙ sym (append-assoc (repeat n (init ∷ inv ∷ [])) (edges ∷ []) (automataFrom (d .automata - 1)))
 after-entry (initLine p) d = refl
-after-entry (invLine p) d = keys-locations (d .automata) (d .locations - 1)
-after-entry (edgesLine n) d = keys-edges (d .automata) n
-after-entry (edgeLine e) d = keys-edges (d .automata) (d .edges - 1)
+after-entry (invLine p) d = keys-locations (d .format) (d .automata) (d .locations - 1)
+after-entry (edgesLine n) d = keys-edges (d .format) (d .automata) n
+after-entry (edgeLine e) d = keys-edges (d .format) (d .automata) (d .edges - 1)
 after-entry (composeLine c) d = refl
 
-pub due-after : (d : Due) (e : Entry) (ks : List LineKey) → keysDue d ≡ keyOf e ∷ ks → keysDue (dueAfter d (numberOf e)) ≡ thenDue e ++ ks
-unfolding dueAfter laterDue
-due-after d e ks h =
-    let k = due-key d (keyOf e) ks h in
-    let l = due-later d (keyOf e) ks h in
-    ap (λ (q : Key). keysDue (dueAfterKey q d (numberOf e))) k ∙
-    after-entry e d ∙
-    ap (λ (ls : List LineKey). thenDue e ++ ls) (ap (λ (q : Key). laterKeys q d) (sym k) ∙ l)
+module _ (d : Due) (r : Reading) (same : d .format ≡ r .model .format) where
+  pub due-after : (e : Entry) (ks : List LineKey) → keysDue d ≡ keyOf e ∷ ks → keysDue (dueAfter d (numberOf e)) ≡ thenDue (r .model .format) e ++ ks
+  unfolding dueAfter laterDue
+  due-after e ks h =
+      let k = due-key d (keyOf e) ks h in
+      let l = due-later d (keyOf e) ks h in
+      ap (λ (q : Key). keysDue (dueAfterKey q d (numberOf e))) k ∙
+      after-entry e d ∙
+      ap (λ (ls : List LineKey). thenDue (d .format) e ++ ls) (ap (λ (q : Key). laterKeys q d) (sym k) ∙ l) ∙
+      ap (λ (f : ℕ). thenDue f e ++ ks) same
+
+  -- the format is kept; at its own line it is the line's number
+  format-next : (e : Entry) → dueAfterKey (codeOf (keyOf e)) d (numberOf e) .format ≡ noted r e .model .format
+  unfolding dueAfterKey dueVariables dueAutomata dueLocations dueEdges codeOf keyOf numberOf noted withModel withAutomata withPred
+  format-next (formatLine n) = refl
+  format-next (actionsLine n) = same
+  format-next (variablesLine n) = either-format n _ _ same same
+  format-next (variableLine x) = either-format (d .variables - 1) _ _ same same
+  format-next (automataLine n) = either-format n _ _ same same
+  format-next (syncLine list) = same
+  format-next (locationsLine n) = either-format n _ _ same same
+  format-next (initLine p) = same
+  format-next (invLine p) = either-format (d .locations - 1) _ _ same same
+  format-next (edgesLine n) = either-format n _ _ (either-format (d .automata - 1) _ _ same same) same
+  format-next (edgeLine e) = either-format (d .edges - 1) _ _ (either-format (d .automata - 1) _ _ same same) same
+  format-next (composeLine c) = same
+
+  pub format-after : (e : Entry) (ks : List LineKey) → keysDue d ≡ keyOf e ∷ ks → dueAfter d (numberOf e) .format ≡ noted r e .model .format
+  unfolding dueAfter
+  format-after e ks h = ap (λ (q : Key). dueAfterKey q d (numberOf e) .format) (due-key d (keyOf e) ks h) ∙ format-next e

@@ -46,7 +46,7 @@ countsAfter c End n p = c
 
 -- the nodes of a line's predicate
 unfoldable pub nodesOf : Entry → ℕ
-nodesOf formatLine = 0
+nodesOf (formatLine n) = 0
 nodesOf (actionsLine n) = 0
 nodesOf (variablesLine n) = 0
 nodesOf (variableLine r) = 0

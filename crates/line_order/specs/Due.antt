@@ -25,48 +25,49 @@ isEnd Edge = false
 isEnd Compose = false
 isEnd End = true
 
--- The code's own steps. `a` automata are to come or under way, and then `l` locations or `e` edges of the one under way.
-abbrev pub due : Key → (v a l e : ℕ) → Due
-due k v a l e = record { key = k; variables = v; automata = a; locations = l; edges = e }
+-- The code's own steps, for a format f. `a` automata are to come or under way, and then `l` locations or `e` edges of the one
+-- under way.
+abbrev pub due : Key → (f v a l e : ℕ) → Due
+due k f v a l e = record { key = k; format = f; variables = v; automata = a; locations = l; edges = e }
 
 -- the one if n is 0, otherwise the other
 unfoldable pub ifNone : ℕ → Due → Due → Due
 ifNone zero d f = d
 ifNone (suc n) d f = f
 
-abbrev pub dueOnly : Key → Due
-dueOnly k = due k 0 0 0 0
+abbrev pub dueOnly : ℕ → Key → Due
+dueOnly f k = due k f 0 0 0 0
 
 abbrev pub dueFirst : Due
-dueFirst = dueOnly Format
+dueFirst = dueOnly 0 Format
 
-unfoldable pub dueVariables : ℕ → Due
-dueVariables n = ifNone n (dueOnly Automata) (due Variable n 0 0 0)
+unfoldable pub dueVariables : (f n : ℕ) → Due
+dueVariables f n = ifNone n (dueOnly f Automata) (due Variable f n 0 0 0)
 
-unfoldable pub dueAutomata : ℕ → Due
-dueAutomata n = ifNone n (dueOnly Compose) (due Sync 0 n 0 0)
+unfoldable pub dueAutomata : (f n : ℕ) → Due
+dueAutomata f n = ifNone n (dueOnly f Compose) (due Sync f 0 n 0 0)
 
-unfoldable pub dueLocations : ℕ → ℕ → Due
-dueLocations a n = ifNone n (due Edges 0 a 0 0) (due Init 0 a n 0)
+unfoldable pub dueLocations : (f a n : ℕ) → Due
+dueLocations f a n = ifNone n (due Edges f 0 a 0 0) (due Init f 0 a n 0)
 
-unfoldable pub dueEdges : ℕ → ℕ → Due
-dueEdges a n = ifNone n (dueAutomata (a - 1)) (due Edge 0 a 0 n)
+unfoldable pub dueEdges : (f a n : ℕ) → Due
+dueEdges f a n = ifNone n (dueAutomata f (a - 1)) (due Edge f 0 a 0 n)
 
 -- after a line with this key and number
 unfoldable pub dueAfterKey : Key → Due → ℕ → Due
-dueAfterKey Format d n = dueOnly Actions
-dueAfterKey Actions d n = dueOnly Variables
-dueAfterKey Variables d n = dueVariables n
-dueAfterKey Variable d n = dueVariables (d .variables - 1)
-dueAfterKey Automata d n = dueAutomata n
-dueAfterKey Sync d n = due Locations 0 (d .automata) 0 0
-dueAfterKey Locations d n = dueLocations (d .automata) n
-dueAfterKey Init d n = due Inv 0 (d .automata) (d .locations) 0
-dueAfterKey Inv d n = dueLocations (d .automata) (d .locations - 1)
-dueAfterKey Edges d n = dueEdges (d .automata) n
-dueAfterKey Edge d n = dueEdges (d .automata) (d .edges - 1)
-dueAfterKey Compose d n = dueOnly End
-dueAfterKey End d n = dueOnly End
+dueAfterKey Format d n = dueOnly n Actions
+dueAfterKey Actions d n = dueOnly (d .format) Variables
+dueAfterKey Variables d n = dueVariables (d .format) n
+dueAfterKey Variable d n = dueVariables (d .format) (d .variables - 1)
+dueAfterKey Automata d n = dueAutomata (d .format) n
+dueAfterKey Sync d n = due Locations (d .format) 0 (d .automata) 0 0
+dueAfterKey Locations d n = dueLocations (d .format) (d .automata) n
+dueAfterKey Init d n = due Inv (d .format) 0 (d .automata) (d .locations) 0
+dueAfterKey Inv d n = dueLocations (d .format) (d .automata) (d .locations - 1)
+dueAfterKey Edges d n = dueEdges (d .format) (d .automata) n
+dueAfterKey Edge d n = dueEdges (d .format) (d .automata) (d .edges - 1)
+dueAfterKey Compose d n = dueOnly (d .format) End
+dueAfterKey End d n = dueOnly (d .format) End
 
 unfoldable pub dueAfter : Due → ℕ → Due
 dueAfter d n = dueAfterKey (d .key) d n
@@ -116,7 +117,7 @@ laterDue d = laterKeys (d .key) d
 unfoldable pub keysDue : Due → List LineKey
 keysDue d = keyNamed (d .key) ++ laterDue d
 
--- the code's name of a key, and the number of a line that counts
+-- the code's name of a key, and the number of the format's line or of one that counts
 unfoldable pub codeOf : LineKey → Key
 codeOf format = Format
 codeOf actions = Actions
@@ -132,7 +133,7 @@ codeOf edge = Edge
 codeOf compose = Compose
 
 unfoldable pub numberOf : Entry → ℕ
-numberOf formatLine = 0
+numberOf (formatLine n) = n
 numberOf (actionsLine n) = n
 numberOf (variablesLine n) = n
 numberOf (variableLine r) = 0

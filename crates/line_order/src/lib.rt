@@ -43,10 +43,11 @@ pub fn end(key: Key) -> bool
     }
 }
 
-// The key that is due, and what is still to come: variable lines; automata, the one under way included; locations of this
-// automaton, the one under way included; its edge lines.
+// The key that is due, the sheet's format (0 before its line), and what is still to come: variable lines; automata, the
+// one under way included; locations of this automaton, the one under way included; its edge lines.
 pub struct Due {
     pub key: Key,
+    pub format: usize,
     pub variables: usize,
     pub automata: usize,
     pub locations: usize,
@@ -61,11 +62,12 @@ fn less(n: usize) -> usize
 }
 
 // A line with this key is due, and nothing is counted.
-fn only(key: Key) -> Due
-    ensures { λ r. ⌜ r ≡ dueOnly key ⌝ }
+fn only(format: usize, key: Key) -> Due
+    ensures { λ r. ⌜ r ≡ dueOnly format key ⌝ }
 {
     Due {
         key,
+        format,
         variables: 0,
         automata: 0,
         locations: 0,
@@ -74,14 +76,15 @@ fn only(key: Key) -> Due
 }
 
 // So many variable lines are due.
-fn variables_due(n: usize) -> Due
-    ensures { λ r. ⌜ r ≡ dueVariables n ⌝ }
+fn variables_due(format: usize, n: usize) -> Due
+    ensures { λ r. ⌜ r ≡ dueVariables format n ⌝ }
 {
     if n == 0 {
-        return only(Key::Automata);
+        return only(format, Key::Automata);
     }
     Due {
         key: Key::Variable,
+        format,
         variables: n,
         automata: 0,
         locations: 0,
@@ -90,14 +93,15 @@ fn variables_due(n: usize) -> Due
 }
 
 // So many automata are due.
-fn automata_due(n: usize) -> Due
-    ensures { λ r. ⌜ r ≡ dueAutomata n ⌝ }
+fn automata_due(format: usize, n: usize) -> Due
+    ensures { λ r. ⌜ r ≡ dueAutomata format n ⌝ }
 {
     if n == 0 {
-        return only(Key::Compose);
+        return only(format, Key::Compose);
     }
     Due {
         key: Key::Sync,
+        format,
         variables: 0,
         automata: n,
         locations: 0,
@@ -106,12 +110,13 @@ fn automata_due(n: usize) -> Due
 }
 
 // So many locations of an automaton are due.
-fn locations_due(automata: usize, n: usize) -> Due
-    ensures { λ r. ⌜ r ≡ dueLocations automata n ⌝ }
+fn locations_due(format: usize, automata: usize, n: usize) -> Due
+    ensures { λ r. ⌜ r ≡ dueLocations format automata n ⌝ }
 {
     if n == 0 {
         return Due {
             key: Key::Edges,
+            format,
             variables: 0,
             automata,
             locations: 0,
@@ -120,6 +125,7 @@ fn locations_due(automata: usize, n: usize) -> Due
     }
     Due {
         key: Key::Init,
+        format,
         variables: 0,
         automata,
         locations: n,
@@ -128,14 +134,15 @@ fn locations_due(automata: usize, n: usize) -> Due
 }
 
 // So many edge lines of an automaton are due.
-fn edges_due(automata: usize, n: usize) -> Due
-    ensures { λ r. ⌜ r ≡ dueEdges automata n ⌝ }
+fn edges_due(format: usize, automata: usize, n: usize) -> Due
+    ensures { λ r. ⌜ r ≡ dueEdges format automata n ⌝ }
 {
     if n == 0 {
-        return automata_due(less(automata));
+        return automata_due(format, less(automata));
     }
     Due {
         key: Key::Edge,
+        format,
         variables: 0,
         automata,
         locations: 0,
@@ -148,40 +155,42 @@ impl Due {
     pub fn first() -> Due
         ensures { λ r. ⌜ r ≡ dueFirst ⌝ }
     {
-        only(Key::Format)
+        only(0, Key::Format)
     }
 
-    // What is due after the line that is due was read; `count` is its number, if it is a line that counts.
+    // What is due after the line that is due was read; `count` is its number, if it is the format's line or one that counts.
     pub fn after(self, count: usize) -> Due
         ensures { λ r. ⌜ r ≡ dueAfter self count ⌝ }
     {
         let key = self.key;
         match key {
-            Key::Format => only(Key::Actions),
-            Key::Actions => only(Key::Variables),
-            Key::Variables => variables_due(count),
-            Key::Variable => variables_due(less(self.variables)),
-            Key::Automata => automata_due(count),
+            Key::Format => only(count, Key::Actions),
+            Key::Actions => only(self.format, Key::Variables),
+            Key::Variables => variables_due(self.format, count),
+            Key::Variable => variables_due(self.format, less(self.variables)),
+            Key::Automata => automata_due(self.format, count),
             Key::Sync => Due {
                 key: Key::Locations,
+                format: self.format,
                 variables: 0,
                 automata: self.automata,
                 locations: 0,
                 edges: 0,
             },
-            Key::Locations => locations_due(self.automata, count),
+            Key::Locations => locations_due(self.format, self.automata, count),
             Key::Init => Due {
                 key: Key::Inv,
+                format: self.format,
                 variables: 0,
                 automata: self.automata,
                 locations: self.locations,
                 edges: 0,
             },
-            Key::Inv => locations_due(self.automata, less(self.locations)),
-            Key::Edges => edges_due(self.automata, count),
-            Key::Edge => edges_due(self.automata, less(self.edges)),
-            Key::Compose => only(Key::End),
-            Key::End => only(Key::End),
+            Key::Inv => locations_due(self.format, self.automata, less(self.locations)),
+            Key::Edges => edges_due(self.format, self.automata, count),
+            Key::Edge => edges_due(self.format, self.automata, less(self.edges)),
+            Key::Compose => only(self.format, Key::End),
+            Key::End => only(self.format, Key::End),
         }
     }
 }

@@ -49,6 +49,9 @@ module _ (m : Model) (lawful : Lawful m) (t rest : List ℕ) (e : t ≡ sheetWor
   pub variables-are : variablesOf t ≡ length (m .variables)
   variables-are = ap (λ (l : List ℕ). getD l 2 0) (sheet-parts t rest m e)
 
+  format-is : getD t 0 0 ≡ m .format
+  format-is = ap (λ (l : List ℕ). getD l 0 0) (sheet-parts t rest m e)
+
   pub actions-are : getD t 1 0 ≡ m .actions
   actions-are = ap (λ (l : List ℕ). getD l 1 0) (sheet-parts t rest m e)
 
@@ -63,7 +66,7 @@ module _ (m : Model) (lawful : Lawful m) (t rest : List ℕ) (e : t ≡ sheetWor
 
   -- the words up to the automaton's are those of the merged model's lines
   pub head-words : headWords t
-      ≡ wordsOf (formatLine ∷ actionsLine (linear m .actions) ∷ variablesLine (length (linear m .variables)) ∷ (map variableLine (linear m .variables) ++ automataLine 1 ∷ []))
+      ≡ wordsOf (formatLine (linear m .format) ∷ actionsLine (linear m .actions) ∷ variablesLine (length (linear m .variables)) ∷ (map variableLine (linear m .variables) ++ automataLine 1 ∷ []))
   unfolding headWords linear flatMap lineWords
   head-words =
       let v = length (m .variables) in
@@ -76,13 +79,13 @@ module _ (m : Model) (lawful : Lawful m) (t rest : List ℕ) (e : t ≡ sheetWor
       ap₂ pointerOf variables-are automata-are ∙ pointer-sum v n (omega arith) (omega arith) ∙ omega (arith, length-append (m .variables) (map pointerRange (m .automata)), length-map (m .automata) pointerRange) in
       let twice : pointerOf (variablesOf t) (variablesOf t) ≡ length vs =
       ap₂ pointerOf variables-are variables-are ∙ pointer-sum v v (omega arith) (omega arith) ∙ sym (ranges-length (m .variables)) in
-      let first = reached t 0 3 (1 ∷ m .actions ∷ v ∷ []) _ (sheet-parts t rest m e) refl in
+      let first = reached t 0 3 (m .format ∷ m .actions ∷ v ∷ []) _ (sheet-parts t rest m e) refl in
       let copied : run t (reach t 0 3) (pointerOf (variablesOf t) (variablesOf t)) ≡ vs = ap (run t (reach t 0 3)) twice ∙ run-is t vs _ (reach t 0 3) first in
       let pointed : pointerRanges t (automatonAt t 0) (automataOf t) ≡ ps =
       ap (pointerRanges t (automatonAt t 0)) automata-are ∙ pointers-are t (m .automata) _ (automatonAt t 0) few-locations automata-stand in
       let joined : wordsOf (map variableLine (m .variables ++ map pointerRange (m .automata)) ++ automataLine 1 ∷ []) ≡ vs ++ (ps ++ 1 ∷ []) =
       words-append (map variableLine (m .variables ++ map pointerRange (m .automata))) (automataLine 1 ∷ []) ∙ last in
-      rw (actions-are, sum, copied, pointed) (ap (λ (l : List ℕ). 1 ∷ m .actions ∷ length (m .variables ++ map pointerRange (m .automata)) ∷ l) (sym joined))
+      rw (format-is, actions-are, sum, copied, pointed) (ap (λ (l : List ℕ). m .format ∷ m .actions ∷ length (m .variables ++ map pointerRange (m .automata)) ∷ l) (sym joined))
     where
       last : wordsOf (map variableLine (m .variables ++ map pointerRange (m .automata))) ++ wordsOf (automataLine 1 ∷ [])
           ≡ wordsOf (map variableLine (m .variables)) ++ (wordsOf (map variableLine (map pointerRange (m .automata))) ++ 1 ∷ [])

@@ -39,13 +39,13 @@ module _ (m : Model) (lawful : Lawful m) (t rest : List ℕ) (e : t ≡ sheetWor
   }
 
   abbrev front : List Entry
-  front = formatLine ∷ actionsLine (linear m .actions) ∷ variablesLine (length (linear m .variables)) ∷ (map variableLine (linear m .variables) ++ automataLine 1 ∷ [])
+  front = formatLine (linear m .format) ∷ actionsLine (linear m .actions) ∷ variablesLine (length (linear m .variables)) ∷ (map variableLine (linear m .variables) ++ automataLine 1 ∷ [])
 
   -- the lines of the merged model, in three parts
   in-parts : lines (linear m) ≡ front ++ (automatonLines whole ++ composeLine (leaf 0) ∷ [])
   unfolding lines linear flatMap
   in-parts =
-      ap (λ (l : List Entry). formatLine ∷ actionsLine (linear m .actions) ∷ variablesLine (length (linear m .variables)) ∷ l)
+      ap (λ (l : List Entry). formatLine (linear m .format) ∷ actionsLine (linear m .actions) ∷ variablesLine (length (linear m .variables)) ∷ l)
       (ap (λ (l : List Entry). map variableLine (linear m .variables) ++ (automataLine 1 ∷ (l ++ composeLine (leaf 0) ∷ []))) (append-nil (automatonLines whole)) ∙
       sym (append-assoc (map variableLine (linear m .variables)) (automataLine 1 ∷ []) (automatonLines whole ++ composeLine (leaf 0) ∷ [])))
 

@@ -10,7 +10,7 @@ use lib.ListN.{length}
 use lib.Dec.{leb, ltb}
 use borrow.Author.Tests.{leb-true, ltb-false}
 use Rattle.model.specs.Basic.{between, every, lacks}
-use Rattle.model.specs.Bounds.{maxActions, maxNodes, maxTreeNodes, leastNumber, greatestNumber}
+use Rattle.model.specs.Bounds.{firstFormat, lastFormat, maxActions, maxNodes, maxTreeNodes, leastNumber, greatestNumber}
 use Rattle.model.specs.Predicate.{Pred, Word, words, nodeCount, namesOutside, namesNew, allOf, anyOf, notWord, impWord, eqWord, leWord, numWord, oldWord, newWord, addWord, subWord, mulWord, ifWord, stray}
 use Rattle.model.specs.Composition.{Tree, par, syn, leaf, nodes, treeSize}
 use Rattle.model.specs.Model.{Model}
@@ -134,7 +134,7 @@ said r e h = unbroken 3 (not (numbersInRange e)) (contentFault r e) h .1
 
 line-fits : (r : Reading) (e : Entry) → faultOf r e ≡ none → Fit (lineWords e)
 unfolding lineWords numbersInRange contentFault
-line-fits r formatLine h = one-fits 1 [] (omega arith) refl
+line-fits r (formatLine n) h = let l = leb-true n lastFormat (and-right (leb firstFormat n) _ (in-range r (formatLine n) h)) in one-fits n [] (omega arith) refl
 line-fits r (actionsLine n) h = let l = leb-true n 63 (in-range r (actionsLine n) h) in one-fits n [] (omega arith) refl
 line-fits r (variablesLine n) h = let l = leb-true n 48 (in-range r (variablesLine n) h) in one-fits n [] (omega arith) refl
 line-fits r (variableLine x) h =

@@ -46,14 +46,18 @@ module _ (t whole old now : List ℕ) (at place left next : ℕ) (u : Underway w
 
 pub ruleset pointers-laws = (begun, pointers-turn, pointers-end)
 
+-- `numbers`
+pub three-words : (t : List ℕ) (f g h at a b r : ℕ) (old m1 m2 new : List ℕ) → f ≡ getD t 0 0 → g ≡ getD t 1 0
+    → Appended (f ∷ []) at old m1 a → Appended (g ∷ []) a m1 m2 b → Appended (h ∷ []) b m2 new r → Appended (getD t 0 0 ∷ getD t 1 0 ∷ h ∷ []) at old new r
+three-words t f g h at a b r old m1 m2 new ef eg p q s = rw (← ef, ← eg) (then p (then q s))
+
 -- `head`
 module _ (t : List ℕ) (v cp n : ℕ) (ev : v ≡ getD t 2 0) (ec : cp ≡ countAt t) (en : n ≡ getD t cp 0) where
-  module _ (acts s3 vn vv first : ℕ) (ea : acts ≡ getD t 1 0) (es : s3 ≡ reach t 0 3) (evn : vn ≡ pointerOf v n) (evv : vv ≡ pointerOf v v) (ef : first ≡ automatonAt t 0) where
-    pub head-is : (at a b c d e r : ℕ) (o m1 m2 m3 m4 m5 new : List ℕ)
-        → Appended (1 ∷ []) at o m1 a → Appended (acts ∷ []) a m1 m2 b → Appended (vn ∷ []) b m2 m3 c
-        → Appended (run t s3 vv) c m3 m4 d → Appended (pointerRanges t first n) d m4 m5 e → Appended (1 ∷ []) e m5 new r
-        → Appended (headWords t) at o new r
+  module _ (s3 vn vv first : ℕ) (es : s3 ≡ reach t 0 3) (evn : vn ≡ pointerOf v n) (evv : vv ≡ pointerOf v v) (ef : first ≡ automatonAt t 0) where
+    pub head-is : (at a b c r : ℕ) (o m1 m2 m3 new : List ℕ)
+        → Appended (getD t 0 0 ∷ getD t 1 0 ∷ vn ∷ []) at o m1 a → Appended (run t s3 vv) a m1 m2 b
+        → Appended (pointerRanges t first n) b m2 m3 c → Appended (1 ∷ []) c m3 new r → Appended (headWords t) at o new r
     unfolding headWords
-    head-is at a b c d e r o m1 m2 m3 m4 m5 new p1 p2 p3 p4 p5 p6 =
+    head-is at a b c r o m1 m2 m3 new p1 p2 p3 p4 =
         let count : n ≡ automataOf t = en ∙ ap (λ k. getD t k 0) ec in
-        rw (← ea, ← es, ← count, ← ev, ← evn, ← evv, ← ef) (then p1 (then p2 (then p3 (then p4 (then p5 p6)))))
+        rw (← es, ← count, ← ev, ← evn, ← evv, ← ef) (then p1 (then p2 (then p3 p4)))

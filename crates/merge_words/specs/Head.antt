@@ -26,6 +26,6 @@ pointerRanges t at (suc n) = bias ∷ upward (lastLocationAt t at) ∷ pointerRa
 -- format, actions, V + N, the model's ranges, the pointers', and one automaton
 unfoldable pub headWords : (t : List ℕ) → List ℕ
 headWords t =
-    1 ∷ getD t 1 0 ∷ pointerOf (variablesOf t) (automataOf t) ∷
+    getD t 0 0 ∷ getD t 1 0 ∷ pointerOf (variablesOf t) (automataOf t) ∷
     (run t (reach t 0 3) (pointerOf (variablesOf t) (variablesOf t)) ++
     (pointerRanges t (automatonAt t 0) (automataOf t) ++ (1 ∷ [])))

@@ -4,7 +4,7 @@ use crate::put::{self};
 use model::Model;
 ghost use mathlib.Core.Path.{_≡_};
 ghost use mathlib.Core.List.{[], _∷_};
-ghost use lib.ListN.{length};
+ghost use lib.ListN.{length, getD};
 ghost use Rattle.model.specs.Bounds.{tableWords, bias};
 ghost use Rattle.merge_words.specs.Append.{Appended};
 ghost use Rattle.merge_words.specs.Head.{lastLocationAt, pointerRanges, headWords};
@@ -51,6 +51,16 @@ fn pointers(
     next
 }
 
+// The format, the actions, and the number of variables.
+fn numbers(t: &[u32], variables: usize, out: &mut [u32; Model::WORDS], at: usize) -> usize
+    requires { ⌜ length (now out) ≡ tableWords ⌝ }
+    ensures { λ r. ⌜ Appended (getD (now (t .entry)) 0 0 ∷ getD (now (t .entry)) 1 0 ∷ variables ∷ []) at (now (out .entry)) (now (out .exit)) r ⌝ }
+{
+    let a = put::put(table_places::word(t, 0), out, at);
+    let b = put::put(table_places::word(t, 1), out, a);
+    put::put(variables, out, b)
+}
+
 // Format, actions, V + N, the ranges, and one automaton.
 pub fn head(t: &[u32], out: &mut [u32; Model::WORDS], at: usize) -> usize
     requires { ⌜ length (now out) ≡ tableWords ⌝ }
@@ -58,18 +68,16 @@ pub fn head(t: &[u32], out: &mut [u32; Model::WORDS], at: usize) -> usize
 {
     let variables = table_places::word(t, 2);
     let automata = table_places::word(t, table_places::count_at(t));
-    let a = put::put(1, out, at);
-    let b = put::put(table_places::word(t, 1), out, a);
-    let c = put::put(node_words::pointer(variables, automata), out, b);
-    let d = put::copy(
+    let a = numbers(t, node_words::pointer(variables, automata), out, at);
+    let b = put::copy(
         t,
         table_places::step(t, 0, 3),
         node_words::pointer(variables, variables),
         out,
-        c,
+        a,
     );
-    let e = pointers(t, table_places::automaton_at(t, 0), automata, out, d);
-    put::put(1, out, e)
+    let c = pointers(t, table_places::automaton_at(t, 0), automata, out, b);
+    put::put(1, out, c)
 }
 
 // The merged sheet's last words: a tree of one leaf.

@@ -123,7 +123,7 @@ unsaid r e row b rest h s = not-false b (unbroken row (not b) rest (sym s ∙ un
 -- each line's entry
 pub entry-back : (r : Reading) (e : Entry) (rest : List ℕ) → faultOf r e ≡ none → splitEntry (keyOf e) (lineWords e ++ rest) ≡ split e rest
 unfolding splitEntry keyOf lineWords splitNumber splitPair splitEdge splitTree edgeTo setWords numbersInRange contentFault onSome split range
-entry-back r formatLine rest h = refl
+entry-back r (formatLine n) rest h = refl
 entry-back r (actionsLine n) rest h = refl
 entry-back r (variablesLine n) rest h = refl
 entry-back r (variableLine x) rest h =
@@ -149,9 +149,9 @@ unfolding lacks
 none-lacks none h = refl
 none-lacks (some n) h = absurd (true≢false (sym h))
 
-decode-step : (n : ℕ) (r : Reading) (k : Key) (ks : List Key) (ws rest : List ℕ) (e : Entry) → splitEntry k ws ≡ split e rest → lacks (faultOf r e) ≡ true → decode (suc n) r (k ∷ ks) ws ≡ decode n (noted r e) (thenDue e ++ ks) rest
+decode-step : (n : ℕ) (r : Reading) (k : Key) (ks : List Key) (ws rest : List ℕ) (e : Entry) → splitEntry k ws ≡ split e rest → lacks (faultOf r e) ≡ true → decode (suc n) r (k ∷ ks) ws ≡ decode n (noted r e) (thenDue (r .model .format) e ++ ks) rest
 unfolding decode onSome split
-decode-step n r k ks ws rest e back ok = rw back (ap {B = Option Model} (λ b. elim b [ true ↦ decode n (noted r e) (thenDue e ++ ks) rest | false ↦ none ]) ok)
+decode-step n r k ks ws rest e back ok = rw back (ap {B = Option Model} (λ b. elim b [ true ↦ decode n (noted r e) (thenDue (r .model .format) e ++ ks) rest | false ↦ none ]) ok)
 
 pub decode-lines : (es : List Entry) (r : Reading) (ks : List Key) (m : Model) → Follows es r ks m → withinLimits r es ≡ true → (n : ℕ) → length es ≤ n → (rest : List ℕ) → decode n r ks (flatMap lineWords es ++ rest) ≡ some m
 unfolding withinLimits decode flatMap
@@ -165,4 +165,4 @@ decode-lines (e ∷ es) r (k ∷ ks) m f h (suc n) l rest =
     let back : splitEntry k (lineWords e ++ flatMap lineWords es ++ rest) ≡ split e (flatMap lineWords es ++ rest) =
     rw (← f .0, append-assoc (lineWords e) (flatMap lineWords es) rest) (entry-back r e (flatMap lineWords es ++ rest) (none-lacks (faultOf r e) ok)) in
     decode-step n r k ks (lineWords e ++ flatMap lineWords es ++ rest) (flatMap lineWords es ++ rest) e back ok ∙
-    decode-lines es (noted r e) (thenDue e ++ ks) m (f .1) (and-right (lacks (faultOf r e)) _ h) n (omega arith) rest
+    decode-lines es (noted r e) (thenDue (r .model .format) e ++ ks) m (f .1) (and-right (lacks (faultOf r e)) _ h) n (omega arith) rest

@@ -10,7 +10,7 @@ use borrow.Author.Tests.{leb-true, leb-false, le-leb, lt-leb, not-false}
 use lib.ListN.{length}
 use lib.Dec.{leb, ltb, eqb}
 use Rattle.model.specs.Basic.{every, lacks, same, countUp}
-use Rattle.model.specs.Bounds.{maxNodes, maxActions, maxLocations, maxEdges, maxAutomata, maxVariables, lastAutomaton}
+use Rattle.model.specs.Bounds.{firstFormat, lastFormat, maxNodes, maxActions, maxLocations, maxEdges, maxAutomata, maxVariables, lastAutomaton}
 use Rattle.model.specs.Predicate.{Pred, Range, words, namesNew, nodeCount}
 use Rattle.model.specs.Composition.{Tree, par, syn, leaf, leaves}
 use Rattle.model.specs.Model.{Edge, edgeTotal}
@@ -72,9 +72,9 @@ pub tree-ranged : (A N : ℕ) (c : Tree) → A ≤ maxActions → N ≤ maxAutom
 tree-ranged A N c a n h = nodes-ranged A c a (h .lists) (rw (h .in-order) (counted-ranged 0 N (omega arith)))
 
 -- the lines of counts
-pub format-line : (r : Reading) → lacks (faultOf r formatLine) ≡ true
-unfolding faultOf numbersInRange contentFault broken lacks
-format-line r = refl
+pub format-line : (r : Reading) (n : ℕ) → (lacks (faultOf r (formatLine n)) ≡ true) ↔ ((firstFormat ≤ n) × (n ≤ lastFormat))
+unfolding faultOf numbersInRange contentFault lacks
+format-line r n = (λ h. let g = simp rows at h in g .0, λ h. simp rows (h, refl))
 
 pub actions-line : (r : Reading) (n : ℕ) → (lacks (faultOf r (actionsLine n)) ≡ true) ↔ (n ≤ maxActions)
 unfolding faultOf numbersInRange contentFault lacks

@@ -11,7 +11,7 @@ use Rattle.model.specs.Bounds.{maxNodes, maxActions, maxLocations, maxEd
 use Rattle.model.specs.Predicate.{Range, nodeCount}
 use Rattle.model.specs.Composition.{leaf}
 use Rattle.model.specs.Model.{Location, Edge, Automaton, Model, edgeTotal}
-use Rattle.model.specs.Lines.{Entry, actionsLine, variableLine, automataLine, syncLine, initLine, invLine, edgesLine, edgeLine, composeLine, locationLines, automatonLines, lines, Reading, atFirst, lastOf, onLast, addEdge, withModel, withAutomata, withPred, noted}
+use Rattle.model.specs.Lines.{Entry, formatLine, actionsLine, variableLine, automataLine, syncLine, initLine, invLine, edgesLine, edgeLine, composeLine, locationLines, automatonLines, lines, Reading, atFirst, lastOf, onLast, addEdge, withModel, withAutomata, withPred, noted}
 use Rattle.model.specs.Limits.{numbersInRange, locationCount, contentFault, faultOf, withinLimits, limits}
 use Rattle.model.specs.Lawful.{locationNodes, automatonNodes, nodeTotal, LawfulRange, LawfulLocation, LawfulEdge, LawfulAutomaton, Lawful}
 use Rattle.model.proofs.LinesLaws.{notedAll, noted-append, sheet, auto, noted-ranges, noted-locations, noted-automaton, noted-automata}
@@ -127,7 +127,7 @@ within-automaton x r a =
     let vs = r .model .variables in
     let r₁ = noted r (syncLine (x .sync)) in
     let r₂ = notedAll r₁ (flatMap locationLines (x .locations)) in
-    let m : r₂ .model ≡ sheet A vs (r .model .automata ++ auto (x .sync) (x .locations) [] ∷ []) (r .model .tree) = noted-locations A vs (r .model .automata) (r .model .tree) (x .locations) r₁ (x .sync) [] [] refl in
+    let m : r₂ .model ≡ sheet (r .model .format) A vs (r .model .automata ++ auto (x .sync) (x .locations) [] ∷ []) (r .model .tree) = noted-locations (r .model .format) A vs (r .model .automata) (r .model .tree) (x .locations) r₁ (x .sync) [] [] refl in
     let n = nodes-locations (x .locations) r₁ in
     let e : edgeTotal (r₂ .model .automata) ≡ edgeTotal (r .model .automata) + 0 = ap (λ (q : Model). edgeTotal (q .automata)) m ∙ edges-append (r .model .automata) (auto (x .sync) (x .locations) []) in
     let c : locationCount r₂ ≡ length (x .locations) = ap (λ (q : Model). length (lastOf (q .automata) .locations)) m ∙ ap (λ (q : Automaton). length (q .locations)) (last-is (r .model .automata) (auto (x .sync) (x .locations) [])) in
@@ -170,7 +170,7 @@ within-automata (x ∷ xs) r a =
     let A = r .model .actions in
     let vs = r .model .variables in
     let r₁ = notedAll r (automatonLines x) in
-    let m : r₁ .model ≡ sheet A vs (r .model .automata ++ x ∷ []) (r .model .tree) = noted-automaton A vs (r .model .automata) (r .model .tree) x r refl in
+    let m : r₁ .model ≡ sheet (r .model .format) A vs (r .model .automata ++ x ∷ []) (r .model .tree) = noted-automaton (r .model .format) A vs (r .model .automata) (r .model .tree) x r refl in
     let n = nodes-automaton x r in
     let e : edgeTotal (r₁ .model .automata) ≡ edgeTotal (r .model .automata) + length (x .edges) = ap (λ (q : Model). edgeTotal (q .automata)) m ∙ edges-append (r .model .automata) x in
     let split = within-append r (automatonLines x) (flatMap automatonLines xs) in
@@ -190,11 +190,12 @@ within-automata (x ∷ xs) r a =
 pub lawful-is : (m : Model) → (limits m ≡ true) ↔ Lawful m
 unfolding limits lines withinLimits noted withModel atFirst edgeTotal
 lawful-is m =
-    let r₁ = noted atFirst (actionsLine (m .actions)) in
+    let r₀ = noted atFirst (formatLine (m .format)) in
+    let r₁ = noted r₀ (actionsLine (m .actions)) in
     let r₂ = notedAll r₁ (map variableLine (m .variables)) in
     let r₃ = notedAll r₂ (flatMap automatonLines (m .automata)) in
-    let h₂ : r₂ .model ≡ sheet (m .actions) (m .variables) [] (leaf 0) = noted-ranges (m .variables) r₁ (m .actions) [] [] (leaf 0) refl in
-    let h₃ : r₃ .model ≡ sheet (m .actions) (m .variables) (m .automata) (leaf 0) = noted-automata (m .automata) r₂ (m .actions) (m .variables) [] (leaf 0) h₂ in
+    let h₂ : r₂ .model ≡ sheet (m .format) (m .actions) (m .variables) [] (leaf 0) = noted-ranges (m .variables) r₁ (m .format) (m .actions) [] [] (leaf 0) refl in
+    let h₃ : r₃ .model ≡ sheet (m .format) (m .actions) (m .variables) (m .automata) (leaf 0) = noted-automata (m .automata) r₂ (m .format) (m .actions) (m .variables) [] (leaf 0) h₂ in
     let k : r₂ .nodes ≡ 0 = nodes-variables (m .variables) r₁ in
     let split = within-append r₁ (map variableLine (m .variables)) (automataLine (length (m .automata)) ∷ (flatMap automatonLines (m .automata) ++ (composeLine (m .tree) ∷ []))) in
     let split₂ = within-append r₂ (flatMap automatonLines (m .automata)) (composeLine (m .tree) ∷ []) in
@@ -204,10 +205,13 @@ lawful-is m =
     let whole = rw (ap (λ (q : Model). q .actions) h₃, ap (λ (q : Model). q .automata) h₃) at (tree-line r₃ (m .tree)) in (
       λ h.
           let g = simp (and-eq-true-iff, split, split₂) at h in
-          let a = actions-line atFirst (m .actions) .0 (g .1 .0) in
+          let f = format-line atFirst (m .format) .0 (g .0) in
+          let a = actions-line r₀ (m .actions) .0 (g .1 .0) in
           let n = automata-line r₂ (length (m .automata)) .0 (g .1 .1 .1 .1 .0) in
           let p = parts a .0 (omega arith, (omega arith, g .1 .1 .1 .1 .1 .0)) in
           record {
+            format-from = f .0;
+            format-to = f .1;
             few-actions = a;
             few-variables = variables-line r₁ (length (m .variables)) .0 (g .1 .1 .0);
             ranges = block .0 (g .1 .1 .1 .0);
@@ -221,9 +225,9 @@ lawful-is m =
       λ h.
           let p = parts (h .few-actions) .1 (h .automata, omega (arith, h .few-edges), omega (arith, h .few-nodes)) in
           simp (and-eq-true-iff, split, split₂) (
-            format-line atFirst,
+            format-line atFirst (m .format) .1 (h .format-from, h .format-to),
             (
-              actions-line atFirst (m .actions) .1 (h .few-actions),
+              actions-line r₀ (m .actions) .1 (h .few-actions),
               (
                 variables-line r₁ (length (m .variables)) .1 (h .few-variables),
                 (

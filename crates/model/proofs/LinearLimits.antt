@@ -413,6 +413,8 @@ linear-lawful m lawful unrefused =
       edges = λ e i. allowed e i (u .shallow (e .update) (List·Memᴰ·tail (List·Memᴰ·tail (Memᴰ·map (λ (d : Edge). d .update) i))));
     } in
     record {
+      format-from = lawful .format-from;
+      format-to = lawful .format-to;
       few-actions = lawful .few-actions;
       few-variables = merged-few m lawful (u .few-variables);
       ranges = merged-ranges m lawful (u .few-variables);

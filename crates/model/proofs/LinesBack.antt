@@ -11,7 +11,7 @@ use Rattle.model.proofs.LinesLaws.{Follows, notedAll, noted-append, not
 
 -- what an entry of a key says
 abbrev Says : Entry → Key → Type 0
-Says e format = e ≡ formatLine
+Says e format = (n : ℕ) × (e ≡ formatLine n)
 Says e actions = (n : ℕ) × (e ≡ actionsLine n)
 Says e variables = (n : ℕ) × (e ≡ variablesLine n)
 Says e variable = (x : Range) × (e ≡ variableLine x)
@@ -26,7 +26,7 @@ Says e compose = (c : Tree) × (e ≡ composeLine c)
 
 says : (e : Entry) → Says e (keyOf e)
 unfolding keyOf
-says formatLine = refl
+says (formatLine n) = (n, refl)
 says (actionsLine n) = (n, refl)
 says (variablesLine n) = (n, refl)
 says (variableLine x) = (x, refl)
@@ -65,8 +65,8 @@ join-block r a b js ks es m x y =
     }
 
 -- what follows an entry, once it is known
-after : (e x : Entry) (es : List Entry) (r : Reading) (ks : List Key) (m : Model) → e ≡ x → Follows es (noted r e) (thenDue e ++ ks) m → Follows es (noted r x) (thenDue x ++ ks) m
-after e x es r ks m h f = subst (λ (y : Entry). Follows es (noted r y) (thenDue y ++ ks) m) h f
+after : (e x : Entry) (es : List Entry) (r : Reading) (ks : List Key) (m : Model) → e ≡ x → Follows es (noted r e) (thenDue (r .model .format) e ++ ks) m → Follows es (noted r x) (thenDue (r .model .format) x ++ ks) m
+after e x es r ks m h f = subst (λ (y : Entry). Follows es (noted r y) (thenDue (r .model .format) y ++ ks) m) h f
 
 -- what a count makes due
 variables-block : (n : ℕ) (r : Reading) (ks : List Key) (es : List Entry) (m : Model) → Follows es r (repeat n (variable ∷ []) ++ ks) m → (xs : List Range) × (length xs ≡ n) × Block r (map variableLine xs) ks es m
@@ -180,17 +180,19 @@ rest-part r es m h =
 whole : (es : List Entry) (m : Model) → Follows es atFirst dueAtFirst m → (x : Model) × Block atFirst (lines x) [] es m
 unfolding thenDue dueAtFirst lines
 whole [] m h = absurd h
-whole (e ∷ []) m h = absurd (after e formatLine [] atFirst (actions ∷ variables ∷ automata ∷ compose ∷ []) m (said e format (h .0)) (h .1))
+whole (e ∷ []) m h =
+    let q = said e format (h .0) in
+    absurd (after e (formatLine (q .0)) [] atFirst (actions ∷ variables ∷ automata ∷ compose ∷ []) m (q .1) (h .1))
 whole (e ∷ f ∷ es) m h =
     let q = said e format (h .0) in
-    let g = after e formatLine (f ∷ es) atFirst (actions ∷ variables ∷ automata ∷ compose ∷ []) m (said e format (h .0)) (h .1) in
-    let r₁ = noted atFirst formatLine in
+    let g = after e (formatLine (q .0)) (f ∷ es) atFirst (actions ∷ variables ∷ automata ∷ compose ∷ []) m (q .1) (h .1) in
+    let r₁ = noted atFirst (formatLine (q .0)) in
     let t = said f actions (g .0) in
     let r₂ = noted r₁ (actionsLine (t .0)) in
     let o = rest-part r₂ es m (after f (actionsLine (t .0)) es r₁ (variables ∷ automata ∷ compose ∷ []) m (t .1) (g .1)) in
     let lo = (variablesLine (length (o .0)) ∷ map variableLine (o .0)) ++ ((automataLine (length (o .1)) ∷ flatMap automatonLines (o .1)) ++ (composeLine (o .2) ∷ [])) in (
-      record { actions = t .0; variables = o .0; automata = o .1; tree = o .2 },
-      cons-block atFirst formatLine (actionsLine (t .0) ∷ lo) [] e (f ∷ es) m q (cons-block r₁ (actionsLine (t .0)) lo [] f es m (t .1) (o .3)),
+      record { format = q .0; actions = t .0; variables = o .0; automata = o .1; tree = o .2 },
+      cons-block atFirst (formatLine (q .0)) (actionsLine (t .0) ∷ lo) [] e (f ∷ es) m (q .1) (cons-block r₁ (actionsLine (t .0)) lo [] f es m (t .1) (o .3)),
     )
 
 -- entries that follow what is due at first are the lines of their model

@@ -17,16 +17,16 @@ pub noted-append : (r : Reading) (a b : List Entry) → notedAll r (a ++ b) ≡ 
 noted-append r [] b = refl
 noted-append r (e ∷ a) b = noted-append (noted r e) a b
 
-abbrev pub sheet : ℕ → List Range → List Automaton → Tree → Model
-sheet a rs l c = record { actions = a; variables = rs; automata = l; tree = c }
+abbrev pub sheet : (format actions : ℕ) → List Range → List Automaton → Tree → Model
+sheet f a rs l c = record { format = f; actions = a; variables = rs; automata = l; tree = c }
 
 -- what the lines of a model are taken to
-pub noted-ranges : (xs : List Range) (r : Reading) (a : ℕ) (rs : List Range) (l : List Automaton) (c : Tree) → r .model ≡ sheet a rs l c → notedAll r (map variableLine xs) .model ≡ sheet a (rs ++ xs) l c
+pub noted-ranges : (xs : List Range) (r : Reading) (f a : ℕ) (rs : List Range) (l : List Automaton) (c : Tree) → r .model ≡ sheet f a rs l c → notedAll r (map variableLine xs) .model ≡ sheet f a (rs ++ xs) l c
 unfolding noted withModel
-noted-ranges [] r a rs l c h = h ∙ ap (λ q. sheet a q l c) (sym (append-nil rs))
-noted-ranges (x ∷ xs) r a rs l c h =
-    noted-ranges xs (noted r (variableLine x)) a (rs ++ x ∷ []) l c (ap (λ (q : Model). sheet (q .actions) (q .variables ++ x ∷ []) (q .automata) (q .tree)) h) ∙
-    ap (λ q. sheet a q l c) (append-assoc rs (x ∷ []) xs)
+noted-ranges [] r f a rs l c h = h ∙ ap (λ q. sheet f a q l c) (sym (append-nil rs))
+noted-ranges (x ∷ xs) r f a rs l c h =
+    noted-ranges xs (noted r (variableLine x)) f a (rs ++ x ∷ []) l c (ap (λ (q : Model). sheet (q .format) (q .actions) (q .variables ++ x ∷ []) (q .automata) (q .tree)) h) ∙
+    ap (λ q. sheet f a q l c) (append-assoc rs (x ∷ []) xs)
 
 last-law : (f : Automaton → Automaton) (done : List Automaton) (a : Automaton) → onLast f (done ++ a ∷ []) ≡ done ++ f a ∷ []
 unfolding onLast
@@ -37,59 +37,59 @@ last-law f (b ∷ d ∷ done) a = ap (λ l. b ∷ l) (last-law f (d ∷ done) a)
 abbrev pub auto : List ℕ → List Location → List Edge → Automaton
 auto s l e = record { sync = s; locations = l; edges = e }
 
-module _ (a : ℕ) (rs : List Range) (done : List Automaton) (c : Tree) where
-  pub noted-locations : (xs : List Location) (r : Reading) (s : List ℕ) (ls : List Location) (es : List Edge) → r .model ≡ sheet a rs (done ++ auto s ls es ∷ []) c → notedAll r (flatMap locationLines xs) .model ≡ sheet a rs (done ++ auto s (ls ++ xs) es ∷ []) c
+module _ (f a : ℕ) (rs : List Range) (done : List Automaton) (c : Tree) where
+  pub noted-locations : (xs : List Location) (r : Reading) (s : List ℕ) (ls : List Location) (es : List Edge) → r .model ≡ sheet f a rs (done ++ auto s ls es ∷ []) c → notedAll r (flatMap locationLines xs) .model ≡ sheet f a rs (done ++ auto s (ls ++ xs) es ∷ []) c
   unfolding noted withModel withAutomata withPred flatMap locationLines addLocation
-  noted-locations [] r s ls es h = h ∙ ap (λ q. sheet a rs (done ++ auto s q es ∷ []) c) (sym (append-nil ls))
+  noted-locations [] r s ls es h = h ∙ ap (λ q. sheet f a rs (done ++ auto s q es ∷ []) c) (sym (append-nil ls))
   noted-locations (x ∷ xs) r s ls es h =
       noted-locations xs (noted (noted r (initLine (x .init))) (invLine (x .inv))) s (ls ++ x ∷ []) es
-      (ap (λ (q : Model). sheet (q .actions) (q .variables) (onLast (addLocation x) (q .automata)) (q .tree)) h ∙
-      ap (λ q. sheet a rs q c) (last-law (addLocation x) done (auto s ls es))) ∙
-      ap (λ q. sheet a rs (done ++ auto s q es ∷ []) c) (append-assoc ls (x ∷ []) xs)
+      (ap (λ (q : Model). sheet (q .format) (q .actions) (q .variables) (onLast (addLocation x) (q .automata)) (q .tree)) h ∙
+      ap (λ q. sheet f a rs q c) (last-law (addLocation x) done (auto s ls es))) ∙
+      ap (λ q. sheet f a rs (done ++ auto s q es ∷ []) c) (append-assoc ls (x ∷ []) xs)
 
-  noted-edges : (xs : List Edge) (r : Reading) (s : List ℕ) (ls : List Location) (es : List Edge) → r .model ≡ sheet a rs (done ++ auto s ls es ∷ []) c → notedAll r (map edgeLine xs) .model ≡ sheet a rs (done ++ auto s ls (es ++ xs) ∷ []) c
+  noted-edges : (xs : List Edge) (r : Reading) (s : List ℕ) (ls : List Location) (es : List Edge) → r .model ≡ sheet f a rs (done ++ auto s ls es ∷ []) c → notedAll r (map edgeLine xs) .model ≡ sheet f a rs (done ++ auto s ls (es ++ xs) ∷ []) c
   unfolding noted withModel withAutomata withPred addEdge
-  noted-edges [] r s ls es h = h ∙ ap (λ q. sheet a rs (done ++ auto s ls q ∷ []) c) (sym (append-nil es))
+  noted-edges [] r s ls es h = h ∙ ap (λ q. sheet f a rs (done ++ auto s ls q ∷ []) c) (sym (append-nil es))
   noted-edges (x ∷ xs) r s ls es h =
       noted-edges xs (noted r (edgeLine x)) s ls (es ++ x ∷ [])
-      (ap (λ (q : Model). sheet (q .actions) (q .variables) (onLast (addEdge x) (q .automata)) (q .tree)) h ∙
-      ap (λ q. sheet a rs q c) (last-law (addEdge x) done (auto s ls es))) ∙
-      ap (λ q. sheet a rs (done ++ auto s ls q ∷ []) c) (append-assoc es (x ∷ []) xs)
+      (ap (λ (q : Model). sheet (q .format) (q .actions) (q .variables) (onLast (addEdge x) (q .automata)) (q .tree)) h ∙
+      ap (λ q. sheet f a rs q c) (last-law (addEdge x) done (auto s ls es))) ∙
+      ap (λ q. sheet f a rs (done ++ auto s ls q ∷ []) c) (append-assoc es (x ∷ []) xs)
 
-  pub noted-automaton : (x : Automaton) (r : Reading) → r .model ≡ sheet a rs done c → notedAll r (automatonLines x) .model ≡ sheet a rs (done ++ x ∷ []) c
+  pub noted-automaton : (x : Automaton) (r : Reading) → r .model ≡ sheet f a rs done c → notedAll r (automatonLines x) .model ≡ sheet f a rs (done ++ x ∷ []) c
   unfolding noted withModel withAutomata automatonLines
   noted-automaton x r h =
       let r₁ = noted r (syncLine (x .sync)) in
-      let h₁ : r₁ .model ≡ sheet a rs (done ++ auto (x .sync) [] [] ∷ []) c = ap (λ (q : Model). sheet (q .actions) (q .variables) (q .automata ++ auto (x .sync) [] [] ∷ []) (q .tree)) h in
-      let h₂ : notedAll r₁ (flatMap locationLines (x .locations)) .model ≡ sheet a rs (done ++ auto (x .sync) (x .locations) [] ∷ []) c = noted-locations (x .locations) r₁ (x .sync) [] [] h₁ in
+      let h₁ : r₁ .model ≡ sheet f a rs (done ++ auto (x .sync) [] [] ∷ []) c = ap (λ (q : Model). sheet (q .format) (q .actions) (q .variables) (q .automata ++ auto (x .sync) [] [] ∷ []) (q .tree)) h in
+      let h₂ : notedAll r₁ (flatMap locationLines (x .locations)) .model ≡ sheet f a rs (done ++ auto (x .sync) (x .locations) [] ∷ []) c = noted-locations (x .locations) r₁ (x .sync) [] [] h₁ in
       ap (λ (q : Reading). q .model) (noted-append r₁ (flatMap locationLines (x .locations)) (edgesLine (length (x .edges)) ∷ map edgeLine (x .edges))) ∙
       noted-edges (x .edges) (notedAll r₁ (flatMap locationLines (x .locations))) (x .sync) (x .locations) [] h₂
 
-pub noted-automata : (xs : List Automaton) (r : Reading) (a : ℕ) (rs : List Range) (done : List Automaton) (c : Tree) → r .model ≡ sheet a rs done c → notedAll r (flatMap automatonLines xs) .model ≡ sheet a rs (done ++ xs) c
+pub noted-automata : (xs : List Automaton) (r : Reading) (f a : ℕ) (rs : List Range) (done : List Automaton) (c : Tree) → r .model ≡ sheet f a rs done c → notedAll r (flatMap automatonLines xs) .model ≡ sheet f a rs (done ++ xs) c
 unfolding flatMap
-noted-automata [] r a rs done c h = h ∙ ap (λ q. sheet a rs q c) (sym (append-nil done))
-noted-automata (x ∷ xs) r a rs done c h =
+noted-automata [] r f a rs done c h = h ∙ ap (λ q. sheet f a rs q c) (sym (append-nil done))
+noted-automata (x ∷ xs) r f a rs done c h =
     ap (λ (q : Reading). q .model) (noted-append r (automatonLines x) (flatMap automatonLines xs)) ∙
-    noted-automata xs (notedAll r (automatonLines x)) a rs (done ++ x ∷ []) c (noted-automaton a rs done c x r h) ∙
-    ap (λ q. sheet a rs q c) (append-assoc done (x ∷ []) xs)
+    noted-automata xs (notedAll r (automatonLines x)) f a rs (done ++ x ∷ []) c (noted-automaton f a rs done c x r h) ∙
+    ap (λ q. sheet f a rs q c) (append-assoc done (x ∷ []) xs)
 
 pub noted-lines : (m : Model) → notedAll atFirst (lines m) .model ≡ m
 unfolding lines noted withModel atFirst
 noted-lines m =
-    let r₂ = noted (noted atFirst formatLine) (actionsLine (m .actions)) in
-    let h₁ : notedAll r₂ (map variableLine (m .variables)) .model ≡ sheet (m .actions) (m .variables) [] (leaf 0) = noted-ranges (m .variables) r₂ (m .actions) [] [] (leaf 0) refl in
+    let r₂ = noted (noted atFirst (formatLine (m .format))) (actionsLine (m .actions)) in
+    let h₁ : notedAll r₂ (map variableLine (m .variables)) .model ≡ sheet (m .format) (m .actions) (m .variables) [] (leaf 0) = noted-ranges (m .variables) r₂ (m .format) (m .actions) [] [] (leaf 0) refl in
     let r₃ = notedAll r₂ (map variableLine (m .variables)) in
-    let h₂ : notedAll r₃ (flatMap automatonLines (m .automata)) .model ≡ sheet (m .actions) (m .variables) (m .automata) (leaf 0) = noted-automata (m .automata) r₃ (m .actions) (m .variables) [] (leaf 0) h₁ in
+    let h₂ : notedAll r₃ (flatMap automatonLines (m .automata)) .model ≡ sheet (m .format) (m .actions) (m .variables) (m .automata) (leaf 0) = noted-automata (m .automata) r₃ (m .format) (m .actions) (m .variables) [] (leaf 0) h₁ in
     ap (λ (q : Reading). q .model) (noted-append r₂ (map variableLine (m .variables)) (automataLine (length (m .automata)) ∷ (flatMap automatonLines (m .automata) ++ (composeLine (m .tree) ∷ [])))) ∙
     ap (λ (q : Reading). q .model) (noted-append r₃ (flatMap automatonLines (m .automata)) (composeLine (m .tree) ∷ [])) ∙
-    ap (λ (q : Model). sheet (q .actions) (q .variables) (q .automata) (m .tree)) h₂
+    ap (λ (q : Model). sheet (q .format) (q .actions) (q .variables) (q .automata) (m .tree)) h₂
 
 -- the lines of a model stand in the order that is due
 abbrev pub Follows : List Entry → Reading → List Key → Model → Type 0
 Follows [] r [] m = r .model ≡ m
 Follows [] r (k ∷ ks) m = ⊥
 Follows (e ∷ es) r [] m = ⊥
-Follows (e ∷ es) r (k ∷ ks) m = (keyOf e ≡ k) × Follows es (noted r e) (thenDue e ++ ks) m
+Follows (e ∷ es) r (k ∷ ks) m = (keyOf e ≡ k) × Follows es (noted r e) (thenDue (r .model .format) e ++ ks) m
 
 follow-variables : (xs : List Range) (es : List Entry) (r : Reading) (ks : List Key) (m : Model) → Follows es (notedAll r (map variableLine xs)) ks m → Follows (map variableLine xs ++ es) r (repeat (length xs) (variable ∷ []) ++ ks) m
 unfolding keyOf thenDue repeat
@@ -129,7 +129,7 @@ follow-automata (x ∷ xs) es r ks m h =
 pub follow-lines : (m : Model) → Follows (lines m) atFirst dueAtFirst m
 unfolding lines keyOf thenDue dueAtFirst
 follow-lines m =
-    let r₃ = noted (noted (noted atFirst formatLine) (actionsLine (m .actions))) (variablesLine (length (m .variables))) in
+    let r₃ = noted (noted (noted atFirst (formatLine (m .format))) (actionsLine (m .actions))) (variablesLine (length (m .variables))) in
     let la = map variableLine (m .variables) in
     let lb = flatMap automatonLines (m .automata) in
     let lc = composeLine (m .tree) ∷ [] in

@@ -88,7 +88,7 @@ lines-fit m w =
     let rest = automataLine (length (m .automata)) ∷ tail in
     let variablesPart = map variableLine (m .variables) in
     let v = variablesLine (length (m .variables)) ∷ variablesPart ++ rest in
-    let a = size-cons formatLine (actionsLine (m .actions) ∷ v) in
+    let a = size-cons (formatLine (m .format)) (actionsLine (m .actions) ∷ v) in
     let b = size-cons (actionsLine (m .actions)) v in
     let c = size-cons (variablesLine (length (m .variables))) (variablesPart ++ rest) in
     let d = size-append variablesPart rest in
@@ -104,7 +104,7 @@ lines-fit m w =
 -- each line has a word at least
 size-line : (e : Entry) → 1 ≤ length (lineWords e)
 unfolding lineWords setWords predWords
-size-line formatLine = omega arith
+size-line (formatLine n) = omega arith
 size-line (actionsLine n) = omega arith
 size-line (variablesLine n) = omega arith
 size-line (variableLine x) = omega arith

@@ -2,7 +2,13 @@
 use Prim.Native.Nat.{ℕ}
 use lib.IntN.{ℤ, pos, negsuc}
 
--- "The sheet text": how high counts and numbers go
+-- "The sheet text": the formats that are read, and how high counts and numbers go
+abbrev pub firstFormat : ℕ
+firstFormat = 1
+
+abbrev pub lastFormat : ℕ
+lastFormat = 1
+
 abbrev pub maxActions : ℕ
 maxActions = 63
 

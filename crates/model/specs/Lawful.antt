@@ -6,7 +6,7 @@ use Prim.Native.Nat.{ℕ, _+_, _≤_, _<_}
 use lib.ListN.{length}
 use lib.Signed.{leZ}
 use Rattle.model.specs.Basic.{between, every, sum, countUp}
-use Rattle.model.specs.Bounds.{maxActions, maxVariables, maxAutomata, maxLocations, maxEdges, maxDepth, maxNodes, maxTreeNodes, leastNumber, greatestNumber}
+use Rattle.model.specs.Bounds.{firstFormat, lastFormat, maxActions, maxVariables, maxAutomata, maxLocations, maxEdges, maxDepth, maxNodes, maxTreeNodes, leastNumber, greatestNumber}
 use Rattle.model.specs.Predicate.{Pred, Range, words, depth, allStay, namesOutside, namesNew, nodeCount}
 use Rattle.model.specs.Composition.{Tree, leaves, treeSize}
 use Rattle.model.specs.Model.{Location, Edge, Automaton, Model, edgeTotal}
@@ -66,6 +66,8 @@ pub record LawfulTree (A N : ℕ) (c : Tree) : Type 0 where
 
 -- rows 3, 11 and 15
 pub record Lawful (m : Model) : Type 0 where
+  pub format-from : firstFormat ≤ m .format
+  pub format-to : m .format ≤ lastFormat
   pub few-actions : m .actions ≤ maxActions
   pub few-variables : length (m .variables) ≤ maxVariables
   pub ranges : (x : Range) → List·Memᴰ x (m .variables) → LawfulRange x

@@ -9,7 +9,7 @@ use lib.IntN.{ℤ}
 use lib.Signed.{leZ}
 use lib.Dec.{eqb, leb, ltb}
 use Rattle.model.specs.Basic.{between, every, same, countUp, lacks}
-use Rattle.model.specs.Bounds.{maxActions, maxVariables, maxAutomata, maxLocations, maxEdges, maxOperands, maxDepth, maxNodes, maxTreeNodes, lastVariable, lastLocation, lastAutomaton, leastNumber, greatestNumber}
+use Rattle.model.specs.Bounds.{firstFormat, lastFormat, maxActions, maxVariables, maxAutomata, maxLocations, maxEdges, maxOperands, maxDepth, maxNodes, maxTreeNodes, lastVariable, lastLocation, lastAutomaton, leastNumber, greatestNumber}
 use Rattle.model.specs.Predicate.{Pred, Word, Range, words, depth, allStay, namesOutside, namesNew, allOf, anyOf, notWord, impWord, eqWord, leWord, numWord, oldWord, newWord, addWord, subWord, mulWord, ifWord, stray}
 use Rattle.model.specs.Composition.{Tree, par, syn, leaf, leaves, treeSize}
 use Rattle.model.specs.Model.{Edge, Model, edgeTotal}
@@ -38,7 +38,7 @@ treeInRange (syn list c) = every (λ k. leb k maxActions) list && treeInRange c
 treeInRange (leaf k) = leb k lastAutomaton
 
 unfoldable pub numbersInRange : Entry → Bool
-numbersInRange formatLine = true
+numbersInRange (formatLine n) = leb firstFormat n && leb n lastFormat
 numbersInRange (actionsLine n) = leb n maxActions
 numbersInRange (variablesLine n) = leb n maxVariables
 numbersInRange (variableLine x) = between leastNumber greatestNumber (x .low) && between leastNumber greatestNumber (x .high)
@@ -126,7 +126,7 @@ locationFault r p =
     (predFault r p none))
 
 unfoldable pub contentFault : Reading → Entry → Option ℕ
-contentFault r formatLine = none
+contentFault r (formatLine n) = none
 contentFault r (actionsLine n) = none
 contentFault r (variablesLine n) = none
 contentFault r (variableLine x) = broken 4 (isCrossed x) none

@@ -62,6 +62,7 @@ module _ (m : Model) where
   unfoldable pub linear : Model
   linear =
       record {
+        format = m .format;
         actions = m .actions;
         variables = m .variables ++ map pointerRange (m .automata);
         automata = record {

@@ -13,8 +13,7 @@ pub data Key : Type 0 where
 
 -- what a line says
 pub data Entry : Type 0 where
-  formatLine : Entry
-  actionsLine variablesLine automataLine locationsLine edgesLine : ℕ → Entry
+  formatLine actionsLine variablesLine automataLine locationsLine edgesLine : ℕ → Entry
   variableLine : Range → Entry
   syncLine : List ℕ → Entry
   initLine invLine : Pred → Entry
@@ -22,7 +21,7 @@ pub data Entry : Type 0 where
   composeLine : Tree → Entry
 
 unfoldable pub keyOf : Entry → Key
-keyOf formatLine = format
+keyOf (formatLine n) = format
 keyOf (actionsLine n) = actions
 keyOf (variablesLine n) = variables
 keyOf (variableLine r) = variable
@@ -47,14 +46,14 @@ automatonLines x =
 
 unfoldable pub lines : Model → List Entry
 lines m =
-    formatLine ∷ actionsLine (m .actions) ∷ variablesLine (length (m .variables)) ∷
+    formatLine (m .format) ∷ actionsLine (m .actions) ∷ variablesLine (length (m .variables)) ∷
     (map variableLine (m .variables) ++
     (automataLine (length (m .automata)) ∷
     (flatMap automatonLines (m .automata) ++
     (composeLine (m .tree) ∷ []))))
 
 -- Reading them back. What is due is the list of the keys to come: at first these, and a line that counts puts the keys of
--- what it counts in front.
+-- what it counts in front. Which these are may depend on the format.
 unfoldable pub dueAtFirst : List Key
 dueAtFirst = format ∷ actions ∷ variables ∷ automata ∷ compose ∷ []
 
@@ -62,19 +61,19 @@ unfoldable pub repeat : ℕ → List Key → List Key
 repeat zero ks = []
 repeat (suc n) ks = ks ++ repeat n ks
 
-unfoldable pub thenDue : Entry → List Key
-thenDue formatLine = []
-thenDue (actionsLine n) = []
-thenDue (variablesLine n) = repeat n (variable ∷ [])
-thenDue (variableLine r) = []
-thenDue (automataLine n) = repeat n (sync ∷ locations ∷ [])
-thenDue (syncLine list) = []
-thenDue (locationsLine n) = repeat n (init ∷ inv ∷ []) ++ edges ∷ []
-thenDue (initLine p) = []
-thenDue (invLine p) = []
-thenDue (edgesLine n) = repeat n (edge ∷ [])
-thenDue (edgeLine e) = []
-thenDue (composeLine c) = []
+unfoldable pub thenDue : (format : ℕ) → Entry → List Key
+thenDue f (formatLine n) = []
+thenDue f (actionsLine n) = []
+thenDue f (variablesLine n) = repeat n (variable ∷ [])
+thenDue f (variableLine r) = []
+thenDue f (automataLine n) = repeat n (sync ∷ locations ∷ [])
+thenDue f (syncLine list) = []
+thenDue f (locationsLine n) = repeat n (init ∷ inv ∷ []) ++ edges ∷ []
+thenDue f (initLine p) = []
+thenDue f (invLine p) = []
+thenDue f (edgesLine n) = repeat n (edge ∷ [])
+thenDue f (edgeLine e) = []
+thenDue f (composeLine c) = []
 
 -- what has been read: the model so far, the latest predicate of any line (at an inv line that is the init of its
 -- location), and the nodes of all predicates so far
@@ -84,7 +83,7 @@ pub record Reading : Type 0 where
   pub nodes : ℕ
 
 unfoldable pub atFirst : Reading
-atFirst = record { model = record { actions = 0; variables = []; automata = []; tree = leaf 0 }; latest = all none; nodes = 0 }
+atFirst = record { model = record { format = 0; actions = 0; variables = []; automata = []; tree = leaf 0 }; latest = all none; nodes = 0 }
 
 -- the automaton that is being read is the last one
 unfoldable pub lastOf : List Automaton → Automaton
@@ -103,21 +102,21 @@ addLocation l x = record { sync = x .sync; locations = x .locations ++ l ∷ [];
 unfoldable pub addEdge : Edge → Automaton → Automaton
 addEdge e x = record { sync = x .sync; locations = x .locations; edges = x .edges ++ e ∷ [] }
 
-unfoldable pub withModel : Reading → ℕ → List Range → List Automaton → Tree → Reading
-withModel r a vs xs c = record { model = record { actions = a; variables = vs; automata = xs; tree = c }; latest = r .latest; nodes = r .nodes }
+unfoldable pub withModel : Reading → (format actions : ℕ) → List Range → List Automaton → Tree → Reading
+withModel r f a vs xs c = record { model = record { format = f; actions = a; variables = vs; automata = xs; tree = c }; latest = r .latest; nodes = r .nodes }
 
 unfoldable pub withAutomata : Reading → List Automaton → Reading
-withAutomata r xs = withModel r (r .model .actions) (r .model .variables) xs (r .model .tree)
+withAutomata r xs = withModel r (r .model .format) (r .model .actions) (r .model .variables) xs (r .model .tree)
 
 unfoldable pub withPred : Reading → Pred → Reading
 withPred r p = record { model = r .model; latest = p; nodes = r .nodes + nodeCount p }
 
 -- what a line adds
 unfoldable pub noted : Reading → Entry → Reading
-noted r formatLine = r
-noted r (actionsLine n) = withModel r n (r .model .variables) (r .model .automata) (r .model .tree)
+noted r (formatLine n) = withModel r n (r .model .actions) (r .model .variables) (r .model .automata) (r .model .tree)
+noted r (actionsLine n) = withModel r (r .model .format) n (r .model .variables) (r .model .automata) (r .model .tree)
 noted r (variablesLine n) = r
-noted r (variableLine x) = withModel r (r .model .actions) (r .model .variables ++ x ∷ []) (r .model .automata) (r .model .tree)
+noted r (variableLine x) = withModel r (r .model .format) (r .model .actions) (r .model .variables ++ x ∷ []) (r .model .automata) (r .model .tree)
 noted r (automataLine n) = r
 noted r (syncLine list) = withAutomata r (r .model .automata ++ record { sync = list; locations = []; edges = [] } ∷ [])
 noted r (locationsLine n) = r
@@ -126,4 +125,4 @@ noted r (invLine p) =
     withAutomata (withPred r p) (onLast (addLocation (record { init = r .latest; inv = p })) (r .model .automata))
 noted r (edgesLine n) = r
 noted r (edgeLine e) = withAutomata (withPred r (e .update)) (onLast (addEdge e) (r .model .automata))
-noted r (composeLine c) = withModel r (r .model .actions) (r .model .variables) (r .model .automata) c
+noted r (composeLine c) = withModel r (r .model .format) (r .model .actions) (r .model .variables) (r .model .automata) c

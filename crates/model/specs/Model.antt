@@ -24,8 +24,9 @@ pub record Automaton : Type 0 where
   pub locations : List Location
   pub edges : List Edge
 
--- `actions` is A, the highest action; 0 is the silent action, which no set holds
+-- `format` is the number of the text's format; `actions` is A, the highest action; 0 is the silent action, which no set holds
 pub record Model : Type 0 where
+  pub format : ℕ
   pub actions : ℕ
   pub variables : List Range
   pub automata : List Automaton

@@ -61,7 +61,7 @@ nodeWords (leafNode k) = (2 + k) ∷ []
 nodeWords C.strayNode = []
 
 unfoldable pub lineWords : Entry → List ℕ
-lineWords formatLine = 1 ∷ []
+lineWords (formatLine n) = n ∷ []
 lineWords (actionsLine n) = n ∷ []
 lineWords (variablesLine n) = n ∷ []
 lineWords (variableLine x) = biased (x .low) ∷ biased (x .high) ∷ []
@@ -146,7 +146,7 @@ splitTree [] = none
 splitTree (n ∷ ws) = onSome (λ t. onSome (λ c. split (composeLine c) (t .rest)) (readTree (t .item))) (splitNodes n ws)
 
 unfoldable pub splitEntry : Key → List ℕ → Option (Split Entry)
-splitEntry format ws = splitNumber (λ n. formatLine) ws
+splitEntry format ws = splitNumber formatLine ws
 splitEntry actions ws = splitNumber actionsLine ws
 splitEntry variables ws = splitNumber variablesLine ws
 splitEntry variable ws = splitPair (λ a b. variableLine (range (unbiased a) (unbiased b))) ws
@@ -166,7 +166,7 @@ decode zero r (k ∷ ks) ws = none
 decode (suc n) r [] ws = some (r .model)
 decode (suc n) r (k ∷ ks) ws =
     onSome
-    (λ t. elim (lacks (faultOf r (t .item))) [ true ↦ decode n (noted r (t .item)) (thenDue (t .item) ++ ks) (t .rest) | false ↦ none ])
+    (λ t. elim (lacks (faultOf r (t .item))) [ true ↦ decode n (noted r (t .item)) (thenDue (r .model .format) (t .item) ++ ks) (t .rest) | false ↦ none ])
     (splitEntry k ws)
 
 -- do the first 8,192 words of t make up the table of m?

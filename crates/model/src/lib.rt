@@ -4,6 +4,11 @@
 pub struct Model {}
 
 impl Model {
+    // The formats that are read.
+    pub const FIRST_FORMAT: usize = 1;
+
+    pub const LAST_FORMAT: usize = 1;
+
     // Counts and numbers in a sheet.
     pub const ACTIONS: u32 = 63;
 

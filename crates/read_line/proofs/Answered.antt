@@ -1,6 +1,6 @@
 -- An answer by the smallest row that a line breaks.
 use Prim.Native.Nat.{ℕ}
-use mathlib.Core.Path.{_≡_, refl, sym, _∙_, ap}
+use mathlib.Core.Path.{_≡_, sym, _∙_, ap}
 use mathlib.Core.List.{List}
 use mathlib.Core.Option.{Option, none, some}
 use Rattle.read_line.specs.declared.LineRead.{LineRead}
@@ -26,8 +26,3 @@ answered-sound o x y h e = h ∙ rw e
 pub left-new : (o : Option ℕ) (new old l : List ℕ) → l ≡ left o new old → o ≡ none → l ≡ new
 unfolding left
 left-new o new old l h e = h ∙ rw e
-
-pub left-same : (o : Option ℕ) (new other old : List ℕ) → (o ≡ none → new ≡ other) → left o new old ≡ left o other old
-unfolding left
-left-same none new other old h = h refl
-left-same (some row) new other old h = refl

@@ -38,7 +38,7 @@ use Rattle.read_line.specs.Form.{valueAfter, misformed}
 use Rattle.read_line.specs.Number.{countIn, numberRead, numberAfter, fewEdges, lowPart, highPart, orderedFrom, boundsOf, boundsIn, boundsRead, boundsAfter}
 
 -- a number with no minus is its digits' number
-pub number-natural : (s : Bytes) (n : ℕ) → number s ≡ some (pos n) → naturalOf s ≡ n
+number-natural : (s : Bytes) (n : ℕ) → number s ≡ some (pos n) → naturalOf s ≡ n
 unfolding number naturalOf
 number-natural [] n h = absurd (let q : _≡_ {A = ℕ} 0 1 = cc in omega arith)
 number-natural (b ∷ t) n h = go (eqb b 45) h
@@ -106,35 +106,27 @@ module _ (name : Bytes) (low high : ℕ) (s : Bytes) (ended : Bool) (b : Bool) (
 
 pub ruleset number-laws = (number-form, number-low, number-is, number-out)
 
--- `counting` and `plain`
+-- `counting`
 module _ (c : Count) (at : ℕ) where
   module _ (n : ℕ) (e : c ≡ Is n) where
-    pub counting-sound : (i next : ℕ) → i ≡ n → next ≡ nextPlace at 1 → Sound i 0 next ≡ numberRead true c at
+    pub counting-sound : (i next : ℕ) → i ≡ n → next ≡ nextPlace at 1 → Sound i 0 next ≡ numberRead c at
     unfolding numberRead
     counting-sound i next hi hn = rw (e, hi, hn)
-
-    pub plain-sound : (next : ℕ) → next ≡ nextPlace at 1 → Sound 0 0 next ≡ numberRead false c at
-    unfolding numberRead
-    plain-sound next hn = rw (e, hn)
 
     pub number-put : (old new : List ℕ) → new ≡ put at (n ∷ []) old → new ≡ numberAfter c at old
     unfolding numberAfter
     number-put old new h = h ∙ rw e
 
   module _ (row : ℕ) (e : c ≡ Unsound row) where
-    pub counting-fault : Fault row ≡ numberRead true c at
+    pub counting-fault : Fault row ≡ numberRead c at
     unfolding numberRead
     counting-fault = rw e
-
-    pub plain-fault : Fault row ≡ numberRead false c at
-    unfolding numberRead
-    plain-fault = rw e
 
     pub number-kept : (old : List ℕ) → old ≡ numberAfter c at old
     unfolding numberAfter
     number-kept old = rw e
 
-pub ruleset counting-laws = (counting-sound, plain-sound, number-put, counting-fault, plain-fault, number-kept)
+pub ruleset counting-laws = (counting-sound, number-put, counting-fault, number-kept)
 
 -- `few_edges`
 module _ (before : ℕ) (c : Count) where
@@ -243,8 +235,8 @@ module _ (b : Bounds) (at : ℕ) where
 pub ruleset ranging-laws = (ranging-sound, ranging-put, ranging-fault, ranging-kept)
 
 -- the lines of the keys: a count that was read goes on as it is
-module _ (b : Bool) (at : ℕ) (d c : Count) (e : d ≡ c) where
-  pub read-on : (r : LineRead) → r ≡ numberRead b d at → r ≡ numberRead b c at
+module _ (at : ℕ) (d c : Count) (e : d ≡ c) where
+  pub read-on : (r : LineRead) → r ≡ numberRead d at → r ≡ numberRead c at
   read-on r h = h ∙ rw e
 
   pub after-on : (old new : List ℕ) → new ≡ numberAfter d at old → new ≡ numberAfter c at old

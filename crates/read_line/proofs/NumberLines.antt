@@ -1,28 +1,27 @@
 -- The lines that have one number, and the line of a range, say what the definitions say.
 use Prim.Native.Nat.{ℕ, zero, suc, _+_, _-_, _≤_, _<_}
 use mathlib.Core.Path.{_≡_, refl, sym, _∙_, ap}
-use mathlib.Core.Bool.{Bool, true, false, true≢false, not, _&&_, _||_}
+use mathlib.Core.Bool.{Bool, true, false, not, _&&_, _||_}
 use mathlib.Core.List.{List, [], _∷_}
-use mathlib.Core.Option.{Option, none, some}
+use mathlib.Core.Option.{Option, none}
 use native.Mathlib.Omega.{arith}
-use borrow.Author.Tests.{eqb-true, leb-true, ltb-true, ltb-false, not-true, not-false}
-use lib.IntN.{ℤ, pos, negsuc}
+use borrow.Author.Tests.{eqb-true, ltb-true, ltb-false, not-true, not-false}
+use lib.IntN.{pos}
 use lib.Signed.{leZ}
 use lib.ListN.{length, getD, take, drop}
-use lib.Dec.{eqb, leb, ltb}
-use Rattle.model.specs.Basic.{every, between}
-use Rattle.model.specs.Bounds.{maxActions, maxVariables, maxAutomata, maxLocations, maxEdges, leastNumber, greatestNumber}
+use lib.Dec.{eqb, ltb}
+use Rattle.model.specs.Basic.{every}
+use Rattle.model.specs.Bounds.{firstFormat, lastFormat, maxActions, maxVariables, maxAutomata, maxLocations, maxEdges, leastNumber, greatestNumber}
 use Rattle.model.specs.Predicate.{range}
 use Rattle.model.specs.Model.{edgeTotal}
 use Rattle.model.specs.Lines.{Key, format, actions, variables, variable, automata, sync, locations, init, inv, edges, edge, compose, Reading}
 use Rattle.model.specs.Limits.{isCrossed, passesEdges, broken}
 use Rattle.model.specs.Table.{biased}
 use Rattle.format.specs.Bytes.{Bytes, parts, comma}
-use Rattle.format.specs.Number.{number, isBetween, within, naturalOf, integerOf}
+use Rattle.format.specs.Number.{number, within, naturalOf, integerOf}
 use Rattle.format.specs.Rows.{Line, place, is, valueOf, fields, fieldCount, field, hasPred, numbersSound, theRange, row2, row3, row4, row5, row6, row7, row8, row9, row10, row11, row12, row13, row14, row15, row16, fault}
 use Rattle.format.specs.Spelling.{spelling}
-use Rattle.format.proofs.LineLaws.{Formed, formed, broken-inv}
-use Rattle.model.proofs.Tests.{and-left, and-right}
+use Rattle.format.proofs.LineLaws.{Formed, formed}
 use Rattle.text_bytes.specs.declared.answer.Integer.the-variants as I
 use Rattle.text_bytes.specs.Find.{gap, countOf, firstFrom}
 use Rattle.text_bytes.specs.Number.{integerIn}
@@ -35,9 +34,8 @@ use Rattle.read_line.specs.Append.{nextPlace, put}
 use Rattle.read_line.specs.Exact.{lineOf}
 use Rattle.read_line.specs.Form.{valueAfter, misformed, fieldsOf}
 use Rattle.read_line.specs.Number.{countIn, numberRead, numberAfter, fewEdges}
-use Rattle.read_line.proofs.Answered.{answered, left, left-same}
+use Rattle.read_line.proofs.Answered.{answered, left}
 use Rattle.read_line.proofs.FormLaws.{row2-by}
-use Rattle.read_line.proofs.NumberLaws.{number-natural}
 
 -- a value of one field is the field
 pub sole-part : (c : ℕ) (v : Bytes) → length (parts c v) ≡ 1 → parts c v ≡ v ∷ []
@@ -84,14 +82,11 @@ module _ (k : Key) (s : Bytes) (ended : Bool) where
       (λ e. let v = sole-field b c e in (ap (λ (x : Bytes). not (within (pos low) (pos high) x)) (sym v) ∙ ap not (sym d), ap naturalOf (sym v)))
 
 -- the answer by the two rows
-number-read : (b two three : Bool) (n at : ℕ) → numberRead b (byRows two three n) at ≡ answered (broken 2 two (broken 3 three none)) (numberRead b (Is n) at)
+number-read : (two three : Bool) (n at : ℕ) → numberRead (byRows two three n) at ≡ answered (broken 2 two (broken 3 three none)) (Sound n 0 (nextPlace at 1))
 unfolding numberRead byRows answered broken
-number-read true true three n at = refl
-number-read true false true n at = refl
-number-read true false false n at = refl
-number-read false true three n at = refl
-number-read false false true n at = refl
-number-read false false false n at = refl
+number-read true three n at = refl
+number-read false true n at = refl
+number-read false false n at = refl
 
 number-left : (two three : Bool) (n at : ℕ) (words : List ℕ) → numberAfter (byRows two three n) at words ≡ left (broken 2 two (broken 3 three none)) (put at (n ∷ []) words) words
 unfolding numberAfter byRows left broken
@@ -132,42 +127,16 @@ module _ (r : Reading) (s : Bytes) (ended : Bool) where
   unfolding fault row4 row5 row6 row7 row8 row9 row10 row11 row12 row13 row14 row15 row16 hasPred is place broken
   fault-variable = refl
 
--- the format's number is 1
-one-is : (v : Bytes) → within (pos 1) (pos 1) v ≡ true → naturalOf v ≡ 1
-unfolding within isBetween between
-one-is v h = go (number v) refl h
-  where
-    go : (o : Option ℤ) → number v ≡ o → isBetween (pos 1) (pos 1) o ≡ true → naturalOf v ≡ 1
-    go none q w = absurd (true≢false (sym w))
-    go (some (pos n)) q w =
-        let a = leb-true 1 n (and-left (leb 1 n) (leb n 1) w) in
-        let b = leb-true n 1 (and-right (leb 1 n) (leb n 1) w) in
-        number-natural v n q ∙ omega arith
-    go (some (negsuc n)) q w = absurd (true≢false (sym w))
-
 module _ (r : Reading) (s : Bytes) (ended : Bool) (at : ℕ) (words : List ℕ) where
   abbrev ln : Line
   ln = lineOf s ended
 
-  pub format-read : numberRead false (countIn (spelling format) 1 1 s ended) at ≡ answered (fault r format ln) (Sound 0 0 (nextPlace at 1))
-  unfolding fieldsOf fieldCount fields numbersSound is place numberRead
-  format-read = ap (λ (c : Count). numberRead false c at) (count-rows format s ended 1 1 refl refl refl refl) ∙ number-read false _ _ _ at ∙ ap (λ (o : Option ℕ). answered o (Sound 0 0 (nextPlace at 1))) (sym (fault-format r s ended))
-
-  pub format-left : numberAfter (countIn (spelling format) 1 1 s ended) at words ≡ left (fault r format ln) (put at (1 ∷ []) words) words
-  unfolding fieldsOf fieldCount fields numbersSound is place row3
-  format-left =
-      ap (λ (c : Count). numberAfter c at words) (count-rows format s ended 1 1 refl refl refl refl) ∙ number-left _ _ _ at words ∙ ap (λ (o : Option ℕ). left o (put at (naturalOf (field 0 format ln) ∷ []) words) words) (sym (fault-format r s ended))
-      ∙ left-same (fault r format ln) _ _ words (λ e.
-      let three = broken-inv 3 (row3 format ln) _ (broken-inv 2 (row2 format ln) _ (sym (fault-format r s ended) ∙ e) .1) .0 in
-      ap (λ (n : ℕ). put at (n ∷ []) words) (one-is (field 0 format ln) (not-false (within (pos 1) (pos 1) (field 0 format ln)) three)))
-
-  -- the other keys with one number: what is asked of the key is seen by computing
+  -- the keys with one number: what is asked of the key is seen by computing
   module _ (k : Key) (low high : ℕ) (a : fieldsOf k ≡ 1) (b : fieldCount k ≡ 1) (c : fields k ln ≡ parts comma (valueOf k ln)) (d : numbersSound k ln ≡ within (pos low) (pos high) (field 0 k ln))
       (f : fault r k ln ≡ broken 2 (row2 k ln) (broken 3 (row3 k ln) none)) where
-    counting-read : numberRead true (countIn (spelling k) low high s ended) at ≡ answered (fault r k ln) (Sound (naturalOf (field 0 k ln)) 0 (nextPlace at 1))
-    unfolding numberRead
+    counting-read : numberRead (countIn (spelling k) low high s ended) at ≡ answered (fault r k ln) (Sound (naturalOf (field 0 k ln)) 0 (nextPlace at 1))
     counting-read =
-        ap (λ (x : Count). numberRead true x at) (count-rows k s ended low high a b c d) ∙ number-read true _ _ _ at
+        ap (λ (x : Count). numberRead x at) (count-rows k s ended low high a b c d) ∙ number-read _ _ _ at
         ∙ ap (λ (o : Option ℕ). answered o (Sound (naturalOf (field 0 k ln)) 0 (nextPlace at 1))) (sym f)
 
     counting-left : numberAfter (countIn (spelling k) low high s ended) at words ≡ left (fault r k ln) (put at (naturalOf (field 0 k ln) ∷ []) words) words
@@ -175,7 +144,15 @@ module _ (r : Reading) (s : Bytes) (ended : Bool) (at : ℕ) (words : List ℕ) 
         ap (λ (x : Count). numberAfter x at words) (count-rows k s ended low high a b c d) ∙ number-left _ _ _ at words
         ∙ ap (λ (o : Option ℕ). left o (put at (naturalOf (field 0 k ln) ∷ []) words) words) (sym f)
 
-  pub actions-read : numberRead true (countIn (spelling actions) 0 maxActions s ended) at ≡ answered (fault r actions ln) (Sound (naturalOf (field 0 actions ln)) 0 (nextPlace at 1))
+  pub format-read : numberRead (countIn (spelling format) firstFormat lastFormat s ended) at ≡ answered (fault r format ln) (Sound (naturalOf (field 0 format ln)) 0 (nextPlace at 1))
+  unfolding fieldsOf fieldCount fields numbersSound is place
+  format-read = counting-read format firstFormat lastFormat refl refl refl refl (fault-format r s ended)
+
+  pub format-left : numberAfter (countIn (spelling format) firstFormat lastFormat s ended) at words ≡ left (fault r format ln) (put at (naturalOf (field 0 format ln) ∷ []) words) words
+  unfolding fieldsOf fieldCount fields numbersSound is place
+  format-left = counting-left format firstFormat lastFormat refl refl refl refl (fault-format r s ended)
+
+  pub actions-read : numberRead (countIn (spelling actions) 0 maxActions s ended) at ≡ answered (fault r actions ln) (Sound (naturalOf (field 0 actions ln)) 0 (nextPlace at 1))
   unfolding fieldsOf fieldCount fields numbersSound is place
   actions-read = counting-read actions 0 maxActions refl refl refl refl (fault-actions r s ended)
 
@@ -183,7 +160,7 @@ module _ (r : Reading) (s : Bytes) (ended : Bool) (at : ℕ) (words : List ℕ) 
   unfolding fieldsOf fieldCount fields numbersSound is place
   actions-left = counting-left actions 0 maxActions refl refl refl refl (fault-actions r s ended)
 
-  pub variables-read : numberRead true (countIn (spelling variables) 0 maxVariables s ended) at ≡ answered (fault r variables ln) (Sound (naturalOf (field 0 variables ln)) 0 (nextPlace at 1))
+  pub variables-read : numberRead (countIn (spelling variables) 0 maxVariables s ended) at ≡ answered (fault r variables ln) (Sound (naturalOf (field 0 variables ln)) 0 (nextPlace at 1))
   unfolding fieldsOf fieldCount fields numbersSound is place
   variables-read = counting-read variables 0 maxVariables refl refl refl refl (fault-variables r s ended)
 
@@ -191,7 +168,7 @@ module _ (r : Reading) (s : Bytes) (ended : Bool) (at : ℕ) (words : List ℕ) 
   unfolding fieldsOf fieldCount fields numbersSound is place
   variables-left = counting-left variables 0 maxVariables refl refl refl refl (fault-variables r s ended)
 
-  pub automata-read : numberRead true (countIn (spelling automata) 1 maxAutomata s ended) at ≡ answered (fault r automata ln) (Sound (naturalOf (field 0 automata ln)) 0 (nextPlace at 1))
+  pub automata-read : numberRead (countIn (spelling automata) 1 maxAutomata s ended) at ≡ answered (fault r automata ln) (Sound (naturalOf (field 0 automata ln)) 0 (nextPlace at 1))
   unfolding fieldsOf fieldCount fields numbersSound is place
   automata-read = counting-read automata 1 maxAutomata refl refl refl refl (fault-automata r s ended)
 
@@ -199,7 +176,7 @@ module _ (r : Reading) (s : Bytes) (ended : Bool) (at : ℕ) (words : List ℕ) 
   unfolding fieldsOf fieldCount fields numbersSound is place
   automata-left = counting-left automata 1 maxAutomata refl refl refl refl (fault-automata r s ended)
 
-  pub locations-read : numberRead true (countIn (spelling locations) 1 maxLocations s ended) at ≡ answered (fault r locations ln) (Sound (naturalOf (field 0 locations ln)) 0 (nextPlace at 1))
+  pub locations-read : numberRead (countIn (spelling locations) 1 maxLocations s ended) at ≡ answered (fault r locations ln) (Sound (naturalOf (field 0 locations ln)) 0 (nextPlace at 1))
   unfolding fieldsOf fieldCount fields numbersSound is place
   locations-read = counting-read locations 1 maxLocations refl refl refl refl (fault-locations r s ended)
 
@@ -208,13 +185,13 @@ module _ (r : Reading) (s : Bytes) (ended : Bool) (at : ℕ) (words : List ℕ) 
   locations-left = counting-left locations 1 maxLocations refl refl refl refl (fault-locations r s ended)
 
 -- `edges=E`: row 15 too
-edges-by : (before : ℕ) (two three : Bool) (n at : ℕ) → numberRead true (fewEdges before (byRows two three n)) at ≡ answered (broken 2 two (broken 3 three (broken 15 (ltb maxEdges (before + n)) none))) (Sound n 0 (nextPlace at 1))
+edges-by : (before : ℕ) (two three : Bool) (n at : ℕ) → numberRead (fewEdges before (byRows two three n)) at ≡ answered (broken 2 two (broken 3 three (broken 15 (ltb maxEdges (before + n)) none))) (Sound n 0 (nextPlace at 1))
 unfolding fewEdges byRows
 edges-by before true three n at = unfold numberRead answered broken in refl
 edges-by before false true n at = unfold numberRead answered broken in refl
 edges-by before false false n at = go (ltb maxEdges (before + n))
   where
-    go : (b : Bool) → numberRead true (elim b as (λ x. Count) [ true ↦ Unsound 15 | false ↦ Is n ]) at ≡ answered (broken 2 false (broken 3 false (broken 15 b none))) (Sound n 0 (nextPlace at 1))
+    go : (b : Bool) → numberRead (elim b as (λ x. Count) [ true ↦ Unsound 15 | false ↦ Is n ]) at ≡ answered (broken 2 false (broken 3 false (broken 15 b none))) (Sound n 0 (nextPlace at 1))
     go true = unfold numberRead answered broken in refl
     go false = unfold numberRead answered broken in refl
 
@@ -236,10 +213,10 @@ module _ (r : Reading) (s : Bytes) (ended : Bool) (at : ℕ) (words : List ℕ) 
   unfolding passesEdges
   by-edges = ap (λ (n : ℕ). broken 2 (row2 edges le) (broken 3 (row3 edges le) (broken 15 (ltb maxEdges (n + naturalOf (field 0 edges le))) none))) counted ∙ sym (fault-edges r s ended)
 
-  pub edges-read : numberRead true (fewEdges before (countIn (spelling edges) 0 maxEdges s ended)) at ≡ answered (fault r edges le) (Sound (naturalOf (field 0 edges le)) 0 (nextPlace at 1))
+  pub edges-read : numberRead (fewEdges before (countIn (spelling edges) 0 maxEdges s ended)) at ≡ answered (fault r edges le) (Sound (naturalOf (field 0 edges le)) 0 (nextPlace at 1))
   unfolding fieldsOf fieldCount fields numbersSound is place
   edges-read =
-      ap (λ (x : Count). numberRead true (fewEdges before x) at) (count-rows edges s ended 0 maxEdges refl refl refl refl) ∙ edges-by before _ _ _ at
+      ap (λ (x : Count). numberRead (fewEdges before x) at) (count-rows edges s ended 0 maxEdges refl refl refl refl) ∙ edges-by before _ _ _ at
       ∙ ap (λ (o : Option ℕ). answered o (Sound (naturalOf (field 0 edges le)) 0 (nextPlace at 1))) by-edges
 
   pub edges-left : numberAfter (fewEdges before (countIn (spelling edges) 0 maxEdges s ended)) at words ≡ left (fault r edges le) (put at (naturalOf (field 0 edges le) ∷ []) words) words

@@ -1,9 +1,9 @@
 -- What the reader of one line answers, by the key that is due, and the buffer after it. It is exactly what `fault` and `entry` say: the law
 -- reads-lines.
 use Prim.Native.Nat.{ℕ}
-use mathlib.Core.Bool.{Bool, true, false}
+use mathlib.Core.Bool.{Bool}
 use mathlib.Core.List.{List}
-use Rattle.model.specs.Bounds.{maxActions, maxVariables, maxAutomata, maxLocations, maxEdges}
+use Rattle.model.specs.Bounds.{firstFormat, lastFormat, maxActions, maxVariables, maxAutomata, maxLocations, maxEdges}
 use Rattle.model.specs.Lines as Lines
 use Rattle.line_order.specs.declared.Key.{Key}
 use Rattle.line_order.specs.declared.Key.the-variants.{Format, Actions, Variables, Variable, Automata, Sync, Locations, Init, Inv, Edges, Edge, Compose, End}
@@ -19,22 +19,22 @@ use Rattle.read_line.specs.Edge.{edgeRead, edgeAfter}
 use Rattle.read_line.specs.Composition.{composeRead, composeAfter}
 
 unfoldable pub lineRead : Bytes → (ended : Bool) → Key → Counts → (words : List ℕ) (at : ℕ) → LineRead
-lineRead s ended Format c words at = numberRead false (countIn (spelling Lines.format) 1 1 s ended) at
-lineRead s ended Actions c words at = numberRead true (countIn (spelling Lines.actions) 0 maxActions s ended) at
-lineRead s ended Variables c words at = numberRead true (countIn (spelling Lines.variables) 0 maxVariables s ended) at
+lineRead s ended Format c words at = numberRead (countIn (spelling Lines.format) firstFormat lastFormat s ended) at
+lineRead s ended Actions c words at = numberRead (countIn (spelling Lines.actions) 0 maxActions s ended) at
+lineRead s ended Variables c words at = numberRead (countIn (spelling Lines.variables) 0 maxVariables s ended) at
 lineRead s ended Variable c words at = boundsRead (boundsIn (spelling Lines.variable) s ended) at
-lineRead s ended Automata c words at = numberRead true (countIn (spelling Lines.automata) 1 maxAutomata s ended) at
+lineRead s ended Automata c words at = numberRead (countIn (spelling Lines.automata) 1 maxAutomata s ended) at
 lineRead s ended Sync c words at = syncRead s ended c at
-lineRead s ended Locations c words at = numberRead true (countIn (spelling Lines.locations) 1 maxLocations s ended) at
+lineRead s ended Locations c words at = numberRead (countIn (spelling Lines.locations) 1 maxLocations s ended) at
 lineRead s ended Init c words at = locationRead (spelling Lines.init) s ended c words at
 lineRead s ended Inv c words at = locationRead (spelling Lines.inv) s ended c words at
-lineRead s ended Edges c words at = numberRead true (fewEdges (c .edges) (countIn (spelling Lines.edges) 0 maxEdges s ended)) at
+lineRead s ended Edges c words at = numberRead (fewEdges (c .edges) (countIn (spelling Lines.edges) 0 maxEdges s ended)) at
 lineRead s ended Edge c words at = edgeRead s ended c words at
 lineRead s ended Compose c words at = composeRead s ended c at
 lineRead s ended End c words at = Fault 2
 
 unfoldable pub lineAfter : Bytes → (ended : Bool) → Key → Counts → (words : List ℕ) (at : ℕ) → List ℕ
-lineAfter s ended Format c words at = numberAfter (countIn (spelling Lines.format) 1 1 s ended) at words
+lineAfter s ended Format c words at = numberAfter (countIn (spelling Lines.format) firstFormat lastFormat s ended) at words
 lineAfter s ended Actions c words at = numberAfter (countIn (spelling Lines.actions) 0 maxActions s ended) at words
 lineAfter s ended Variables c words at = numberAfter (countIn (spelling Lines.variables) 0 maxVariables s ended) at words
 lineAfter s ended Variable c words at = boundsAfter (boundsIn (spelling Lines.variable) s ended) at words

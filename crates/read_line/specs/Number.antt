@@ -31,11 +31,10 @@ countIn name low high s ended =
       | false ↦ elim (within (pos low) (pos high) (valueAfter name s)) [ true ↦ Count.Is (naturalOf (valueAfter name s)) | false ↦ Count.Unsound 3 ]
     ]
 
--- the answer, and the buffer then; `number` says whether the line counts something
-unfoldable pub numberRead : (counts : Bool) → Count → (at : ℕ) → LineRead
-numberRead true (Count.Is n) at = Sound n 0 (nextPlace at 1)
-numberRead false (Count.Is n) at = Sound 0 0 (nextPlace at 1)
-numberRead counts (Count.Unsound row) at = Fault row
+-- the answer, and the buffer then
+unfoldable pub numberRead : Count → (at : ℕ) → LineRead
+numberRead (Count.Is n) at = Sound n 0 (nextPlace at 1)
+numberRead (Count.Unsound row) at = Fault row
 
 unfoldable pub numberAfter : Count → (at : ℕ) → List ℕ → List ℕ
 numberAfter (Count.Is n) at words = put at (n ∷ []) words

@@ -14,7 +14,8 @@ ghost use mathlib.Core.Path.{_≡_};
 ghost use Rattle.read_predicate.specs.Scratch.{Scratch};
 ghost use Rattle.read_line.specs.Line.{lineRead, lineAfter};
 
-// Sound: the line's number if it counts something, the nodes of its predicate, and the place of the next word. Fault: the smallest row that it breaks.
+// Sound: the line's number if it counts something or is the format's, the nodes of its predicate, and the place of the next
+// word. Fault: the smallest row that it breaks.
 pub enum LineRead {
     Sound(usize, usize, usize),
     Fault(u32),

@@ -7,10 +7,9 @@ use model::Model;
 use text_bytes::Integer;
 use text_bytes::Natural;
 ghost use mathlib.Core.Path.{_≡_};
-ghost use mathlib.Core.Bool.{true, false};
 ghost use Prim.Native.Nat.{_+_};
 ghost use lib.Dec.{ltb};
-ghost use Rattle.model.specs.Bounds.{maxEdges, leastNumber, greatestNumber};
+ghost use Rattle.model.specs.Bounds.{firstFormat, lastFormat, maxEdges, leastNumber, greatestNumber};
 ghost use Rattle.model.specs.Lines as Lines;
 ghost use Rattle.format.specs.Spelling.{spelling};
 ghost use Rattle.text_bytes.specs.Number.{integerIn};
@@ -53,22 +52,12 @@ fn index(n: u32) -> usize
     n as usize
 }
 
-// A line that counts something.
+// A line that counts something, or the format's.
 pub fn counting(count: Count, words: &mut [u32; Model::WORDS], at: usize) -> LineRead
-    ensures { λ r. ⌜ (r ≡ numberRead true count at) × (now (words .exit) ≡ numberAfter count at (now (words .entry))) ⌝ }
+    ensures { λ r. ⌜ (r ≡ numberRead count at) × (now (words .exit) ≡ numberAfter count at (now (words .entry))) ⌝ }
 {
     match count {
         Count::Is(n) => LineRead::Sound(index(n), 0, append_one(words, at, n)),
-        Count::Unsound(row) => LineRead::Fault(row),
-    }
-}
-
-// A line with a number that counts nothing.
-pub fn plain(count: Count, words: &mut [u32; Model::WORDS], at: usize) -> LineRead
-    ensures { λ r. ⌜ (r ≡ numberRead false count at) × (now (words .exit) ≡ numberAfter count at (now (words .entry))) ⌝ }
-{
-    match count {
-        Count::Is(n) => LineRead::Sound(0, 0, append_one(words, at, n)),
         Count::Unsound(row) => LineRead::Fault(row),
     }
 }
@@ -175,11 +164,22 @@ pub fn ranging(bounds: Bounds, table: &mut [u32; Model::WORDS], at: usize) -> Li
     }
 }
 
-// The format's line: its number is 1.
+// The format's line.
 pub fn format(line: &[u8], ended: bool, words: &mut [u32; Model::WORDS], at: usize) -> LineRead
-    ensures { λ r. ⌜ (r ≡ numberRead false (countIn (spelling Lines.format) 1 1 (now (line .entry)) ended) at) × (now (words .exit) ≡ numberAfter (countIn (spelling Lines.format) 1 1 (now (line .entry)) ended) at (now (words .entry))) ⌝ }
+    ensures { λ r. ⌜ (r ≡ numberRead (countIn (spelling Lines.format) firstFormat lastFormat (now (line .entry)) ended) at)
+        × (now (words .exit) ≡ numberAfter (countIn (spelling Lines.format) firstFormat lastFormat (now (line .entry)) ended) at (now (words .entry))) ⌝ }
 {
-    plain(one_number(line, ended, b"format=", 1, 1), words, at)
+    counting(
+        one_number(
+            line,
+            ended,
+            b"format=",
+            Model::FIRST_FORMAT as u32,
+            Model::LAST_FORMAT as u32,
+        ),
+        words,
+        at,
+    )
 }
 
 // A line that counts something, from low to high.
@@ -192,7 +192,7 @@ pub fn counting_line(
     words: &mut [u32; Model::WORDS],
     at: usize,
 ) -> LineRead
-    ensures { λ r. ⌜ (r ≡ numberRead true (countIn (now (name .entry)) low high (now (line .entry)) ended) at) × (now (words .exit) ≡ numberAfter (countIn (now (name .entry)) low high (now (line .entry)) ended) at (now (words .entry))) ⌝ }
+    ensures { λ r. ⌜ (r ≡ numberRead (countIn (now (name .entry)) low high (now (line .entry)) ended) at) × (now (words .exit) ≡ numberAfter (countIn (now (name .entry)) low high (now (line .entry)) ended) at (now (words .entry))) ⌝ }
 {
     counting(one_number(line, ended, name, low, high), words, at)
 }
@@ -205,7 +205,7 @@ pub fn edges(
     words: &mut [u32; Model::WORDS],
     at: usize,
 ) -> LineRead
-    ensures { λ r. ⌜ (r ≡ numberRead true (fewEdges before (countIn (spelling Lines.edges) 0 maxEdges (now (line .entry)) ended)) at) × (now (words .exit) ≡ numberAfter (fewEdges before (countIn (spelling Lines.edges) 0 maxEdges (now (line .entry)) ended)) at (now (words .entry))) ⌝ }
+    ensures { λ r. ⌜ (r ≡ numberRead (fewEdges before (countIn (spelling Lines.edges) 0 maxEdges (now (line .entry)) ended)) at) × (now (words .exit) ≡ numberAfter (fewEdges before (countIn (spelling Lines.edges) 0 maxEdges (now (line .entry)) ended)) at (now (words .entry))) ⌝ }
 {
     counting(
         few_edges(

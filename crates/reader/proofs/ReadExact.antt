@@ -83,10 +83,10 @@ few-count Compose d count h = h
 few-count End d count h = h
 
 -- after the number of the variables, and after a variable
-few-variables : (n count : ℕ) → count + n ≤ maxVariables → Few (dueVariables n .key) (dueVariables n) count
+few-variables : (f n count : ℕ) → count + n ≤ maxVariables → Few (dueVariables f n .key) (dueVariables f n) count
 unfolding dueVariables ifNone
-few-variables zero count h = omega arith
-few-variables (suc n) count h = (h, omega arith)
+few-variables f zero count h = omega arith
+few-variables f (suc n) count h = (h, omega arith)
 
 few-either : (n : ℕ) (d f : Due) (count : ℕ) → Few (d .key) d count → Few (f .key) f count → Few (ifNone n d f .key) (ifNone n d f) count
 unfolding ifNone
@@ -96,12 +96,12 @@ few-either (suc n) d f count p q = q
 few-after : (e : Entry) (d : Due) (r : Reading) (at : ℕ) → Placed (codeOf (keyOf e)) at (variableCount r) → faultOf r e ≡ none → Few (codeOf (keyOf e)) d (variableCount r)
     → Few (dueAfterKey (codeOf (keyOf e)) d (numberOf e) .key) (dueAfterKey (codeOf (keyOf e)) d (numberOf e)) (variableCount (noted r e))
 unfolding dueAfterKey dueAutomata dueLocations dueEdges codeOf keyOf numberOf noted withModel withAutomata withPred variableCount faultOf numbersInRange
-few-after formatLine d r at p f h = h
+few-after (formatLine n) d r at p f h = h
 few-after (actionsLine n) d r at p f h = h
 few-after (variablesLine n) d r at p f h =
     let ranged = leb-true n maxVariables (not-false (leb n maxVariables) (broken-inv 3 _ _ f .0)) in
-    few-variables n (variableCount r) (omega (arith, p .1, ranged))
-few-after (variableLine x) d r at p f h = few-variables (d .variables - 1) _ (omega (arith, h .0, h .1, length-append (r .model .variables) (x ∷ [])))
+    few-variables (d .format) n (variableCount r) (omega (arith, p .1, ranged))
+few-after (variableLine x) d r at p f h = few-variables (d .format) (d .variables - 1) _ (omega (arith, h .0, h .1, length-append (r .model .variables) (x ∷ [])))
 few-after (automataLine n) d r at p f h = few-either n _ _ _ h h
 few-after (syncLine list) d r at p f h = h
 few-after (locationsLine n) d r at p f h = few-either n _ _ _ h h
@@ -114,7 +114,7 @@ few-after (composeLine c) d r at p f h = h
 -- the ranges declared so far stand among the words so far
 room-after : (e : Entry) (r : Reading) (at : ℕ) → Placed (codeOf (keyOf e)) at (variableCount r) → 2 * variableCount r ≤ at - 3 → 2 * variableCount (noted r e) ≤ (at + length (lineWords e)) - 3
 unfolding codeOf keyOf noted withModel withAutomata withPred variableCount lineWords
-room-after formatLine r at p h = omega arith
+room-after (formatLine n) r at p h = omega arith
 room-after (actionsLine n) r at p h = omega arith
 room-after (variablesLine n) r at p h = omega arith
 room-after (variableLine x) r at p h = omega (arith, p, length-append (r .model .variables) (x ∷ []))
@@ -133,10 +133,10 @@ toCome r [] [] = []
 toCome r [] (l ∷ ls) = []
 toCome r (k ∷ ks) [] = []
 toCome r (k ∷ ks) (l ∷ ls) =
-    elim (fault r k l) [ some row ↦ [] | none ↦ lineWords (entry k l) ++ toCome (noted r (entry k l)) (thenDue (entry k l) ++ ks) ls ]
+    elim (fault r k l) [ some row ↦ [] | none ↦ lineWords (entry k l) ++ toCome (noted r (entry k l)) (thenDue (r .model .format) (entry k l) ++ ks) ls ]
 
 come-on : (r : Reading) (k : LineKey) (ks : List LineKey) (l : Line) (ls : List Line) → fault r k l ≡ none
-    → toCome r (k ∷ ks) (l ∷ ls) ≡ lineWords (entry k l) ++ toCome (noted r (entry k l)) (thenDue (entry k l) ++ ks) ls
+    → toCome r (k ∷ ks) (l ∷ ls) ≡ lineWords (entry k l) ++ toCome (noted r (entry k l)) (thenDue (r .model .format) (entry k l) ++ ks) ls
 unfolding toCome
 come-on r k ks l ls h = rw (h, toCome)
 
@@ -232,7 +232,7 @@ ends-refused r ks n ls row stream words e =
 
 -- a line more in front
 ends-line : (r : Reading) (k : LineKey) (ks : List LineKey) (n : ℕ) (l : Line) (ls : List Line) (stream : List ℕ) (o : Outcome) → fault r k l ≡ none
-    → Ends (noted r (entry k l)) (thenDue (entry k l) ++ ks) (suc n) ls (stream ++ lineWords (entry k l)) o → Ends r (k ∷ ks) n (l ∷ ls) stream o
+    → Ends (noted r (entry k l)) (thenDue (r .model .format) (entry k l) ++ ks) (suc n) ls (stream ++ lineWords (entry k l)) o → Ends r (k ∷ ks) n (l ∷ ls) stream o
 unfolding flatMap
 ends-line r k ks n l ls stream o f h =
     let e = entry k l in
@@ -320,14 +320,14 @@ module _ (text : Bytes) (t : List ℕ) (r : Reading) (n : ℕ) (p : Place) (word
           let q : keysDue (p .due) ≡ keyOf e ∷ ks = due-line (p .due) k key ∙ ap (λ (j : LineKey). j ∷ ks) (sym (entry-key k line)) in
           let key′ : p .due .key ≡ codeOf (keyOf e) = key ∙ ap codeOf (sym (entry-key k line)) in
           let clear = entry-fault r k line f in
-          let rest = toCome (noted r e) (thenDue e ++ ks) (linesOf (drop (stopAt text p + 1) text)) in
+          let rest = toCome (noted r e) (thenDue (r .model .format) e ++ ks) (linesOf (drop (stopAt text p + 1) text)) in
           let parted : t ≡ stream ++ (lineWords e ++ rest) =
           h .ahead ∙ ap (λ (x : List ℕ). stream ++ x) (rw (due-line (p .due) k key, lines-here text p l) (come-on r k ks line _ f)) in
           let there : drop (length stream) t ≡ lineWords e ++ rest = ap (drop (length stream)) parted ∙ drop-append-seam stream (lineWords e ++ rest) in
           let size = length-append stream (lineWords e) in
           let g = going-after t n (scanOf p (length stream)) r e ks rest (omega (arith, h .slow)) q clear there (h .going) in
           let placed : Placed (codeOf (keyOf e)) (length stream) (variableCount r) = rw key′ at (h .going .placed) in
-          let due : keysDue (dueAfter (p .due) (numberOf e)) ≡ thenDue e ++ ks = due-after (p .due) e ks q in
+          let due : keysDue (dueAfter (p .due) (numberOf e)) ≡ thenDue (r .model .format) e ++ ks = due-after (p .due) r (h .going .format) e ks q in
           record {
             going = rw size g;
             few = subst (λ (j : Key). Few (dueAfterKey j (p .due) (numberOf e) .key) (dueAfterKey j (p .due) (numberOf e)) (variableCount (noted r e))) (sym key′)
@@ -357,8 +357,8 @@ module _ (text : Bytes) (t : List ℕ) (r : Reading) (n : ℕ) (p : Place) (word
           let goes = round-goes text left (n + 1) p words new (sym (round-words text (n + 1) p words false off l refl _ refl)) after (sym (round-line text (n + 1) p words false off l refl _ refl) ∙ round) in
           goal (k ∷ ks) _ _ (due-line (p .due) k key) (lines-here text p l) goes
           (ends-line r k ks (n + 1) line _ stream _ f
-          (subst (λ (i : ℕ). Ends (noted r e) (thenDue e ++ ks) i (linesOf (drop (stopAt text p + 1) text)) (stream ++ lineWords e) (readFrom text left (n + 1 + 1) after new)) number
-          (subst (λ (x : List LineKey). Ends (noted r e) x (n + 1 + 1) (linesOf (drop (stopAt text p + 1) text)) (stream ++ lineWords e) (readFrom text left (n + 1 + 1) after new)) (due-after (p .due) e ks q) later)))
+          (subst (λ (i : ℕ). Ends (noted r e) (thenDue (r .model .format) e ++ ks) i (linesOf (drop (stopAt text p + 1) text)) (stream ++ lineWords e) (readFrom text left (n + 1 + 1) after new)) number
+          (subst (λ (x : List LineKey). Ends (noted r e) x (n + 1 + 1) (linesOf (drop (stopAt text p + 1) text)) (stream ++ lineWords e) (readFrom text left (n + 1 + 1) after new)) (due-after (p .due) r (h .going .format) e ks q) later)))
 
 module _ (exact : ReadsLines lineRead lineAfter) (text : Bytes) (short : length text ≤ maxBytes) where
   rounds : (left : ℕ) (t : List ℕ) (r : Reading) (n : ℕ) (p : Place) (words stream : List ℕ) → length text < p .byte + left → Stand text t r n p words stream

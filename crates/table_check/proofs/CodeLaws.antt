@@ -25,7 +25,7 @@ use Rattle.table_tree.specs.declared.checked.TreeCheck.{TreeCheck}
 use Rattle.table_tree.specs.Checked.{treeCheck}
 use Rattle.table_check.specs.declared.Line.{Line}
 use Rattle.table_check.specs.declared.Line.the-variants.{Sound, Bad}
-use Rattle.table_check.specs.Line.{when, formatAt, numberAt, variableAt, capped, syncAt, rangesIn, walkedTo, nodesSound, predicateAt, locationAt, edgesAt, endsSound, edgeAt, ofTree, composeAt, lineAt}
+use Rattle.table_check.specs.Line.{when, numberAt, variableAt, capped, syncAt, rangesIn, walkedTo, nodesSound, predicateAt, locationAt, edgesAt, endsSound, edgeAt, ofTree, composeAt, lineAt}
 
 when-true : (b : Bool) (l : Line) → b ≡ true → l ≡ when b l
 unfolding when
@@ -41,22 +41,6 @@ no-left a b h = rw h
 no-right : (a b : Bool) → b ≡ false → (a && b) ≡ false
 no-right true b h = h
 no-right false b h = refl
-
--- `format`
-module _ (t : List ℕ) (at : ℕ) where
-  pub format-end : length t ≤ at → Bad ≡ formatAt t at
-  unfolding formatAt
-  format-end h = when-false _ _ (no-left (ltb at (length t)) (eqb (getD t at 0) 1) (le-ltb at (length t) h))
-
-  pub format-good : at < length t → getD t at 0 ≡ 1 → Sound 0 0 (at + 1) ≡ formatAt t at
-  unfolding formatAt
-  format-good h e = when-true _ _ (and-intro (lt-ltb at (length t) h) (eq-eqb (getD t at 0) 1 e))
-
-  pub format-bad : (getD t at 0 ≡ 1 → ⊥) → Bad ≡ formatAt t at
-  unfolding formatAt
-  format-bad e = when-false _ _ (no-right (ltb at (length t)) (eqb (getD t at 0) 1) (ne-eqb (getD t at 0) 1 e))
-
-pub ruleset format-laws = (format-end, format-good, format-bad)
 
 -- `number`
 module _ (t : List ℕ) (at least most : ℕ) where
@@ -378,7 +362,7 @@ pub ruleset compose-laws = (compose-many, compose-good, compose-bad)
 
 -- `line`
 module _ (t : List ℕ) (at : ℕ) (c : Counts) (k : Key) where
-  pub line-format : k ≡ Format → (r : Line) → r ≡ formatAt t at → r ≡ lineAt t at k c
+  pub line-format : k ≡ Format → (r : Line) → r ≡ numberAt t at 1 1 → r ≡ lineAt t at k c
   unfolding lineAt
   line-format h r e = rw h e
 

@@ -10,7 +10,7 @@ use lib.ListN.{length, take, drop, take-append-drop}
 use lib.Seq.{take-at}
 use lib.Dec.{leb, ltb}
 use Rattle.model.specs.Basic.{every, lacks, countUp, same}
-use Rattle.model.specs.Bounds.{maxActions, maxVariables, maxAutomata, maxLocations, maxTreeNodes, lastAutomaton}
+use Rattle.model.specs.Bounds.{firstFormat, lastFormat, maxActions, maxVariables, maxAutomata, maxLocations, maxTreeNodes, lastAutomaton}
 use Rattle.model.specs.Composition.{Tree, par, syn, leaf, leaves, treeSize}
 use Rattle.model.specs.Lines.{Key as LineKey, format, actions, variables, variable, automata, sync, locations, init, inv, edges, edge, compose, Entry, formatLine, actionsLine, variablesLine, variableLine, automataLine, syncLine, locationsLine, initLine, invLine, edgesLine, edgeLine, composeLine, keyOf, Reading}
 use Rattle.model.specs.Limits.{treeInRange, numbersInRange, treeRises, isDisordered, isTooLarge, contentFault, faultOf}
@@ -19,7 +19,7 @@ use Rattle.model.specs.Table.{setWords, lineWords}
 use Rattle.model.proofs.Tests.{and-intro, and-left, and-right, and-same, every-append}
 use Rattle.model.proofs.Lists.{same-of, same-self}
 use Rattle.model.proofs.Decode.{unbroken, none-lacks}
-use Rattle.model.proofs.LimitLines.{tree-ranged, actions-line, variables-line, automata-line, locations-line}
+use Rattle.model.proofs.LimitLines.{format-line, tree-ranged, actions-line, variables-line, automata-line, locations-line}
 use Rattle.line_order.specs.declared.Counts.{Counts}
 use Rattle.line_order.specs.Due.{codeOf, numberOf}
 use Rattle.line_order.specs.Counts.{nodesOf, Counted}
@@ -31,7 +31,7 @@ use Rattle.table_tree.proofs.Sound.{tree-check-of, tree-check-back}
 use Rattle.table_check.specs.declared.Line.the-variants.{Sound}
 use Rattle.table_check.specs.Scan.{Declared, LineAt, LineExact}
 use Rattle.table_check.specs.Line.{word, capped, ofTree, composeAt, lineAt}
-use Rattle.table_check.proofs.NumberLines.{when-sound, when-true, mended, head-of, line-at, number-sound, number-of, format-sound, format-of, edges-sound, edges-of, variable-sound, variable-of, capped-few, rises-capped, sync-sound, sync-of}
+use Rattle.table_check.proofs.NumberLines.{when-sound, when-true, mended, head-of, line-at, number-sound, number-of, edges-sound, edges-of, variable-sound, variable-of, capped-few, rises-capped, sync-sound, sync-of}
 use Rattle.table_check.proofs.PredicateLines.{init-sound, inv-sound, location-of, edge-sound, edge-of}
 
 -- a tree's leaves are in range, and so its automata are few
@@ -118,7 +118,9 @@ module _ (t : List ℕ) where
   module _ (fit : every (λ w. ltb w 4294967296) t ≡ true) (r : Reading) (c : Counts) (k : Counted r c) (d : Declared t r) (at : ℕ) where
     sound-line : (key : LineKey) (number nodes next : ℕ) → lineAt t at (codeOf key) c ≡ Sound number nodes next → LineAt t r key at number nodes next
     unfolding lineAt codeOf keyOf numberOf nodesOf lineWords
-    sound-line format number nodes next h = format-sound t r at number nodes next h
+    sound-line format number nodes next h =
+        let s = number-sound t at firstFormat lastFormat number nodes next h in
+        line-at t r (formatLine (word t at)) at number nodes next _ (none-lacks _ (format-line r _ .1 (s .1, s .2))) (head-of t at (s .0)) (s .3)
     sound-line actions number nodes next h =
         let s = number-sound t at 0 maxActions number nodes next h in
         line-at t r (actionsLine (word t at)) at number nodes next _ (none-lacks _ (actions-line r _ .1 (s .2))) (head-of t at (s .0)) (s .3)
@@ -141,7 +143,7 @@ module _ (t : List ℕ) where
 
     complete-line : (e : Entry) (rest : List ℕ) → faultOf r e ≡ none → drop at t ≡ lineWords e ++ rest → lineAt t at (codeOf (keyOf e)) c ≡ Sound (numberOf e) (nodesOf e) (at + length (lineWords e))
     unfolding lineAt codeOf keyOf numberOf nodesOf lineWords setWords lacks
-    complete-line formatLine rest g w = format-of t at rest w
+    complete-line (formatLine n) rest g w = let l = format-line r n .0 (ap lacks g) in number-of t at firstFormat lastFormat n rest w (l .0) (l .1)
     complete-line (actionsLine n) rest g w = number-of t at 0 maxActions n rest w (omega arith) (actions-line r n .0 (ap lacks g))
     complete-line (variablesLine n) rest g w = number-of t at 0 maxVariables n rest w (omega arith) (variables-line r n .0 (ap lacks g))
     complete-line (variableLine x) rest g w = variable-of t r at x rest g w

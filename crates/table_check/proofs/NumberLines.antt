@@ -6,7 +6,7 @@ use mathlib.Core.List.{List, [], _∷_, _++_}
 use mathlib.Core.Option.{Option, none}
 use native.Mathlib.Omega.{arith}
 use native.Mathlib.Numerals.{add-one}
-use borrow.Author.Tests.{leb-true, leb-false, le-leb, lt-ltb, ltb-true, ltb-false, eqb-true, eq-eqb, not-false}
+use borrow.Author.Tests.{leb-true, leb-false, le-leb, lt-ltb, ltb-true, ltb-false, eqb-true, not-false}
 use lib.IntN.{ℤ, pos, negsuc}
 use lib.Signed.{leZ}
 use lib.ListN.{length, drop, length-drop}
@@ -15,14 +15,14 @@ use lib.Dec.{eqb, leb, ltb}
 use Rattle.model.specs.Basic.{between, every, lacks}
 use Rattle.model.specs.Bounds.{maxActions, maxEdges, leastNumber, greatestNumber, bias}
 use Rattle.model.specs.Predicate.{Range, range, numWord}
-use Rattle.model.specs.Lines.{Entry, actionsLine, formatLine, variableLine, syncLine, edgesLine, keyOf, Reading, noted, withModel}
+use Rattle.model.specs.Lines.{Entry, actionsLine, variableLine, syncLine, edgesLine, keyOf, Reading, noted, withModel}
 use Rattle.model.specs.Limits.{inRange, rises, broken, numbersInRange, contentFault, faultOf}
 use Rattle.model.specs.Lawful.{LawfulRange}
 use Rattle.model.specs.Table.{biased, unbiased, code, kinds, wordOf, lowBits, highBits, setWords, setOf, lineWords}
 use Rattle.model.proofs.Tests.{and-intro, and-left, and-right, every-at}
 use Rattle.model.proofs.Bits.{rises-cons, set-back}
 use Rattle.model.proofs.Decode.{unbroken, none-lacks}
-use Rattle.model.proofs.LimitLines.{format-line, variable-line, sync-line, edges-line}
+use Rattle.model.proofs.LimitLines.{variable-line, sync-line, edges-line}
 use Rattle.line_order.specs.declared.Counts.{Counts}
 use Rattle.line_order.specs.Due.{numberOf}
 use Rattle.line_order.specs.Counts.{nodesOf, Counted}
@@ -34,7 +34,7 @@ use Rattle.table_tree.proofs.NodeLaws.{later}
 use Rattle.table_check.specs.declared.Line.{Line}
 use Rattle.table_check.specs.declared.Line.the-variants.{Sound}
 use Rattle.table_check.specs.Scan.{LineAt}
-use Rattle.table_check.specs.Line.{when, word, formatAt, numberAt, variableAt, capped, syncAt, edgesAt}
+use Rattle.table_check.specs.Line.{when, word, numberAt, variableAt, capped, syncAt, edgesAt}
 
 -- a line that is sound if a test holds
 pub when-sound : (b : Bool) (l : Line) (number nodes next : ℕ) → when b l ≡ Sound number nodes next → (b ≡ true) × (l ≡ Sound number nodes next)
@@ -99,20 +99,6 @@ module _ (t : List ℕ) where
     number-of n rest e l u =
         let f = first-of at n rest e in
         rw (f .is) (when-true _ (and-intro (lt-ltb at (length t) (f .below)) (and-intro (le-leb least n l) (le-leb n most u))))
-
-  pub format-sound : (r : Reading) (at number nodes next : ℕ) → formatAt t at ≡ Sound number nodes next → LineAt t r (keyOf formatLine) at number nodes next
-  unfolding formatAt numberOf nodesOf lineWords
-  format-sound r at number nodes next h =
-      let s = when-sound _ _ number nodes next h in
-      let below = ltb-true at (length t) (and-left (ltb at (length t)) (eqb (word t at) 1) (s .0)) in
-      let one = eqb-true (word t at) 1 (and-right (ltb at (length t)) (eqb (word t at) 1) (s .0)) in
-      line-at r formatLine at number nodes next (drop (at + 1) t) (none-lacks _ (format-line r)) (head-of at below ∙ ap (λ (n : ℕ). n ∷ drop (at + 1) t) one) (s .1)
-
-  pub format-of : (at : ℕ) (rest : List ℕ) → drop at t ≡ 1 ∷ rest → formatAt t at ≡ Sound 0 0 (at + 1)
-  unfolding formatAt
-  format-of at rest e =
-      let f = first-of at 1 rest e in
-      when-true _ (and-intro (lt-ltb at (length t) (f .below)) (eq-eqb (word t at) 1 (f .is)))
 
   -- row 15
   pub edges-sound : (r : Reading) (c : Counts) (at number nodes next : ℕ) → Counted r c → edgesAt t at c ≡ Sound number nodes next → LineAt t r (keyOf (edgesLine (word t at))) at number nodes next

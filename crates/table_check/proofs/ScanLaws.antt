@@ -35,7 +35,7 @@ use Rattle.line_order.specs.declared.Counts.{Counts}
 use Rattle.line_order.specs.Due.{isEnd, ifNone, dueVariables, dueAutomata, dueLocations, dueEdges, dueAfterKey, dueAfter, keysDue, laterDue, codeOf, numberOf, Begun}
 use Rattle.line_order.specs.Counts.{mostCount, nodesOf, Counted, Paced}
 use Rattle.line_order.proofs.KeyLaws.{named, no-end}
-use Rattle.line_order.proofs.DueLaws.{due-first, due-key, due-line, due-end, end-due, due-after}
+use Rattle.line_order.proofs.DueLaws.{due-first, format-first, format-after, due-key, due-line, due-end, end-due, due-after}
 use Rattle.line_order.proofs.CountsLaws.{paced-first, paced-after, paced-room, counted-first, counted-after, begun-first, begun-at, begun-after}
 use Rattle.table_check.specs.declared.Line.{Line}
 use Rattle.table_check.specs.declared.Line.the-variants.{Sound, Bad}
@@ -92,7 +92,7 @@ placed-either (suc n) d f at count p q = q
 
 placed-after : (e : Entry) (d : Due) (r : Reading) (at : ℕ) → Placed (codeOf (keyOf e)) at (variableCount r) → Placed (dueAfterKey (codeOf (keyOf e)) d (numberOf e) .key) (at + length (lineWords e)) (variableCount (noted r e))
 unfolding dueAfterKey dueVariables dueAutomata dueLocations dueEdges codeOf keyOf numberOf lineWords noted withModel variableCount
-placed-after formatLine d r at h = omega arith
+placed-after (formatLine n) d r at h = omega arith
 placed-after (actionsLine n) d r at h = omega arith
 placed-after (variablesLine n) d r at h = placed-either n _ _ _ _ tt (omega arith)
 placed-after (variableLine x) d r at h = placed-either (d .variables - 1) _ _ _ _ tt (omega (arith, length-append (r .model .variables) (x ∷ [])))
@@ -135,7 +135,7 @@ module _ (t : List ℕ) where
 
   declared-after : (r : Reading) (e : Entry) (at : ℕ) (rest : List ℕ) → Placed (codeOf (keyOf e)) at (variableCount r) → faultOf r e ≡ none → drop at t ≡ lineWords e ++ rest → Declared t r → Declared t (noted r e)
   unfolding noted withModel withAutomata withPred variableCount keyOf codeOf lineWords lacks
-  declared-after r formatLine at rest p f w h = h
+  declared-after r (formatLine n) at rest p f w h = record { lawful = h .lawful; words = h .words }
   declared-after r (actionsLine n) at rest p f w h = record { lawful = h .lawful; words = h .words }
   declared-after r (variablesLine n) at rest p f w h = h
   declared-after r (variableLine x) at rest p f w h = declared-more r x at rest p w (variable-line r x .0 (ap lacks f)) h
@@ -155,7 +155,7 @@ pred-nodes r p rest h = ltb-false maxNodes (r .nodes + length (words p)) (unbrok
 
 few-nodes : (r : Reading) (e : Entry) → r .nodes ≤ maxNodes → faultOf r e ≡ none → r .nodes + nodesOf e ≤ maxNodes
 unfolding nodesOf faultOf contentFault locationFault
-few-nodes r formatLine l f = omega arith
+few-nodes r (formatLine n) l f = omega arith
 few-nodes r (actionsLine n) l f = omega arith
 few-nodes r (variablesLine n) l f = omega arith
 few-nodes r (variableLine x) l f = omega arith
@@ -171,7 +171,7 @@ few-nodes r (composeLine c) l f = omega arith
 -- what a line adds to them
 noted-nodes : (r : Reading) (e : Entry) → noted r e .nodes ≡ r .nodes + nodesOf e
 unfolding nodesOf noted withModel withAutomata withPred
-noted-nodes r formatLine = omega arith
+noted-nodes r (formatLine n) = omega arith
 noted-nodes r (actionsLine n) = omega arith
 noted-nodes r (variablesLine n) = omega arith
 noted-nodes r (variableLine x) = omega arith
@@ -189,6 +189,7 @@ pub record Going (t : List ℕ) (n : ℕ) (s : Scan) (r : Reading) : Type 0 wher
   pub counted : Counted r (s .counts)
   pub paced : Paced n (s .counts)
   pub begun : Begun (s .due) r
+  pub format : s .due .format ≡ r .model .format
   pub few : r .nodes ≤ maxNodes
   pub declared : Declared t r
   pub placed : Placed (s .due .key) (s .at) (variableCount r)
@@ -201,6 +202,7 @@ going-first t =
       counted = counted-first;
       paced = paced-first;
       begun = begun-first;
+      format = format-first;
       few = omega arith;
       declared = record { lawful = λ x m. absurd (List·Memᴰ·not-nil m); words = refl };
       placed = (refl, refl);
@@ -217,6 +219,7 @@ going-after t n s r e ks rest l q f w g =
       counted = rw key (counted-after r (s .counts) e (g .counted) room (begun-at (s .due) r e ks q (g .begun)));
       paced = paced-after n (s .counts) (s .due .key) (numberOf e) (nodesOf e) (g .paced);
       begun = begun-after (s .due) r e ks q (g .begun);
+      format = format-after (s .due) r (g .format) e ks q;
       few = omega (arith, noted-nodes r e);
       declared = declared-after t r e (s .at) rest (rw key at (g .placed)) f w (g .declared);
       placed = subst (λ (k : Key). Placed (dueAfterKey k (s .due) (numberOf e) .key) (s .at + length (lineWords e)) (variableCount (noted r e))) (sym key) (placed-after e (s .due) r (s .at) (rw key at (g .placed)));
@@ -235,7 +238,7 @@ found-end : (t : List ℕ) (r : Reading) (from to : ℕ) → from ≡ to → Fou
 unfolding withinLimits flatMap
 found-end t r from to e = record { entries = []; model = r .model; follows = refl; within = refl; words = ap (λ (i : ℕ). drop i t) e }
 
-found-line : (t : List ℕ) (r : Reading) (k : LineKey) (ks : List LineKey) (at number nodes next to : ℕ) (a : LineAt t r k at number nodes next) → Found t (noted r (a .entry)) (thenDue (a .entry) ++ ks) next to → Found t r (k ∷ ks) at to
+found-line : (t : List ℕ) (r : Reading) (k : LineKey) (ks : List LineKey) (at number nodes next to : ℕ) (a : LineAt t r k at number nodes next) → Found t (noted r (a .entry)) (thenDue (r .model .format) (a .entry) ++ ks) next to → Found t r (k ∷ ks) at to
 unfolding withinLimits flatMap lacks
 found-line t r k ks at number nodes next to a f =
     record {
@@ -268,7 +271,7 @@ module _ (t : List ℕ) (line : ℕ → Key → Counts → Line) (exact : LineEx
           let g′ = going-after t n s r x (laterDue d) (drop next t) (omega arith) q (a .unbroken) (a .words) g in
           let h′ = ap (scanned line fuel) (sym same) ∙ sym (scanned-sound line fuel s number nodes next (ap isEnd key ∙ no-end k) e) ∙ h in
           let f : Found t (noted r x) (keysDue (dueAfter d (numberOf x))) (s .at + length (lineWords x)) to = on s′ (noted r x) g′ h′ in
-          rw (due-line d k key) (found-line t r k (laterDue d) (s .at) number nodes next to a (rw (due-after d x (laterDue d) q, ← a .ends) at f))
+          rw (due-line d k key) (found-line t r k (laterDue d) (s .at) number nodes next to a (rw (due-after d r (g .format) x (laterDue d) q, ← a .ends) at f))
 
       by-key : Onward → (s .due .key ≡ End) ⊎ ((k : LineKey) × (s .due .key ≡ codeOf k)) → Found t r (keysDue (s .due)) (s .at) to
       by-key on (inl e) = rw (end-due (s .due) e) (found-end t r (s .at) to (got (s .at) to (sym (scanned-end line fuel s (ap isEnd e)) ∙ h)))
@@ -293,7 +296,7 @@ module _ (t : List ℕ) (line : ℕ → Key → Counts → Line) (exact : LineEx
       let sound = exact .complete r (s .counts) e at more (g .counted) (g .declared) ok w′ in
       let step = scanned-sound line fuel s (numberOf e) (nodesOf e) (at + size) (ap isEnd key ∙ no-end (keyOf e)) (ap (λ (j : Key). line at j (s .counts)) key ∙ sound) in
       let v = sym (drop-drop size at t) ∙ ap (λ (x : List ℕ). drop size x) w′ ∙ drop-append-seam (lineWords e) more in
-      let onward = scan-complete es (thenDue e ++ ks) fuel (n + 1) (scanAfter s (numberOf e) (nodesOf e) (at + size)) (noted r e) m rest (omega arith) (going-after t n s r e ks more (omega arith) q′ ok w′ g) (due-after (s .due) e ks q′) (f .1) (and-right (lacks (faultOf r e)) (withinLimits (noted r e) es) b) v (omega arith) in
+      let onward = scan-complete es (thenDue (r .model .format) e ++ ks) fuel (n + 1) (scanAfter s (numberOf e) (nodesOf e) (at + size)) (noted r e) m rest (omega arith) (going-after t n s r e ks more (omega arith) q′ ok w′ g) (due-after (s .due) r (g .format) e ks q′) (f .1) (and-right (lacks (faultOf r e)) (withinLimits (noted r e) es) b) v (omega arith) in
       (onward .0, step ∙ onward .1, onward .2)
 
   -- the answer, by what the rounds come to

@@ -5,7 +5,7 @@ use mathlib.Core.List.{List, map}
 use lib.ListN.{length, getD, take, drop}
 use lib.Dec.{eqb, leb, ltb}
 use Rattle.model.specs.Basic.{every}
-use Rattle.model.specs.Bounds.{maxActions, maxVariables, maxAutomata, maxLocations, maxEdges, maxNodes, lastLocation}
+use Rattle.model.specs.Bounds.{firstFormat, lastFormat, maxActions, maxVariables, maxAutomata, maxLocations, maxEdges, maxNodes, lastLocation}
 use Rattle.model.specs.Predicate.{namesOutside, namesNew}
 use Rattle.model.specs.Limits.{rises}
 use Rattle.model.specs.Table.{wordOf, setOf}
@@ -48,9 +48,6 @@ module _ (t : List ℕ) where
   abbrev pub word : ℕ → ℕ
   word at = getD t at 0
 
-  unfoldable pub formatAt : (at : ℕ) → Line
-  formatAt at = when (ltb at (length t) && eqb (word at) 1) (Sound 0 0 (at + 1))
-
   -- a number from least to most
   unfoldable pub numberAt : (at least most : ℕ) → Line
   numberAt at least most = when (ltb at (length t) && (leb least (word at) && leb (word at) most)) (Sound (word at) 0 (at + 1))
@@ -91,7 +88,7 @@ module _ (t : List ℕ) where
   composeAt at c = when (leb (c .automata) maxAutomata) (ofTree (treeCheck t at (capped (c .actions)) (c .automata)))
 
   unfoldable pub lineAt : (at : ℕ) → Key → Counts → Line
-  lineAt at Format c = formatAt at
+  lineAt at Format c = numberAt at firstFormat lastFormat
   lineAt at Actions c = numberAt at 0 maxActions
   lineAt at Variables c = numberAt at 0 maxVariables
   lineAt at Variable c = variableAt at

@@ -9,21 +9,7 @@ ghost use mathlib.Core.Path.{_≡_};
 ghost use mathlib.Core.List.{[]};
 ghost use lib.Dec.{leb};
 ghost use Prim.Native.Nat.{_+_};
-ghost use Rattle.table_check.specs.Line.{formatAt, numberAt, variableAt, capped, syncAt, rangesIn, walkedTo, nodesSound, predicateAt, locationAt, edgesAt, endsSound, edgeAt, composeAt, lineAt};
-
-// The format's number is 1.
-fn format(t: &[u32], at: usize) -> Line
-    ensures { λ r. ⌜ r ≡ formatAt (now (t .entry)) at ⌝ }
-{
-    if t.len() <= at {
-        return Line::Bad;
-    }
-    if t[at] == 1 {
-        Line::Sound(0, 0, at + 1)
-    } else {
-        Line::Bad
-    }
-}
+ghost use Rattle.table_check.specs.Line.{numberAt, variableAt, capped, syncAt, rangesIn, walkedTo, nodesSound, predicateAt, locationAt, edgesAt, endsSound, edgeAt, composeAt, lineAt};
 
 // A number from least to most.
 fn number(t: &[u32], at: usize, least: usize, most: usize) -> Line
@@ -243,7 +229,7 @@ pub(crate) fn line(t: &[u32], at: usize, key: Key, counts: Counts) -> Line
     ensures { λ r. ⌜ r ≡ lineAt (now (t .entry)) at key counts ⌝ }
 {
     match key {
-        Key::Format => format(t, at),
+        Key::Format => number(t, at, Model::FIRST_FORMAT, Model::LAST_FORMAT),
         Key::Actions => number(t, at, 0, Model::LAST_ACTION),
         Key::Variables => number(t, at, 0, Model::VARIABLES),
         Key::Variable => variable(t, at),

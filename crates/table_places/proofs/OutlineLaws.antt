@@ -166,7 +166,7 @@ ranges-length (v ∷ vs) = omega (arith, ranges-length vs)
 
 -- a sheet
 module _ (t rest : List ℕ) (m : Model) (e : t ≡ sheetWords m ++ rest) where
-  pub sheet-parts : drop 0 t ≡ 1 ∷ m .actions ∷ length (m .variables) ∷ (wordsOf (map variableLine (m .variables)) ++ (length (m .automata) ∷ (automatonWords (m .automata) ++ (lineWords (composeLine (m .tree)) ++ rest))))
+  pub sheet-parts : drop 0 t ≡ m .format ∷ m .actions ∷ length (m .variables) ∷ (wordsOf (map variableLine (m .variables)) ++ (length (m .automata) ∷ (automatonWords (m .automata) ++ (lineWords (composeLine (m .tree)) ++ rest))))
   unfolding sheetWords lines flatMap lineWords
   sheet-parts =
       let vs = map variableLine (m .variables) in
@@ -176,9 +176,9 @@ module _ (t rest : List ℕ) (m : Model) (e : t ≡ sheetWords m ++ rest) where
       let last : wordsOf (xs ++ composeLine (m .tree) ∷ []) ++ rest ≡ wordsOf xs ++ (c ++ rest) =
       ap (λ (l : List ℕ). l ++ rest) (words-append xs (composeLine (m .tree) ∷ [])) ∙ append-assoc (wordsOf xs) (c ++ []) rest ∙ ap (λ (l : List ℕ). wordsOf xs ++ (l ++ rest)) (append-nil c) in
       e ∙
-      ap (λ (l : List ℕ). 1 ∷ m .actions ∷ length (m .variables) ∷ (l ++ rest)) (words-append vs others) ∙
-      ap (λ (l : List ℕ). 1 ∷ m .actions ∷ length (m .variables) ∷ l) (append-assoc (wordsOf vs) (wordsOf others) rest) ∙
-      ap (λ (l : List ℕ). 1 ∷ m .actions ∷ length (m .variables) ∷ (wordsOf vs ++ (length (m .automata) ∷ l))) last
+      ap (λ (l : List ℕ). m .format ∷ m .actions ∷ length (m .variables) ∷ (l ++ rest)) (words-append vs others) ∙
+      ap (λ (l : List ℕ). m .format ∷ m .actions ∷ length (m .variables) ∷ l) (append-assoc (wordsOf vs) (wordsOf others) rest) ∙
+      ap (λ (l : List ℕ). m .format ∷ m .actions ∷ length (m .variables) ∷ (wordsOf vs ++ (length (m .automata) ∷ l))) last
 
   pub count-at : drop (countAt t) t ≡ length (m .automata) ∷ (automatonWords (m .automata) ++ (lineWords (composeLine (m .tree)) ++ rest))
   unfolding countAt
@@ -187,7 +187,7 @@ module _ (t rest : List ℕ) (m : Model) (e : t ≡ sheetWords m ++ rest) where
       let vs = wordsOf (map variableLine (m .variables)) in
       let others = length (m .automata) ∷ (automatonWords (m .automata) ++ (lineWords (composeLine (m .tree)) ++ rest)) in
       let v : getD t 2 0 ≡ n = ap (λ (l : List ℕ). getD l 2 0) sheet-parts in
-      let first : drop (reach t 0 3) t ≡ vs ++ others = reached t 0 3 (1 ∷ m .actions ∷ n ∷ []) (vs ++ others) sheet-parts refl in
+      let first : drop (reach t 0 3) t ≡ vs ++ others = reached t 0 3 (m .format ∷ m .actions ∷ n ∷ []) (vs ++ others) sheet-parts refl in
       rw v (
       reach-drop t (reach t (reach t 0 3) n) n ∙ ap (drop n) (reach-drop t (reach t 0 3) n) ∙ drop-drop n n (drop (reach t 0 3) t) ∙
       ap (drop (n + n)) first ∙ drop-at vs others (n + n) (ranges-length (m .variables)))

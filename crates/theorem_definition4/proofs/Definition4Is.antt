@@ -187,6 +187,7 @@ linear-is m lawful = record {
   gs = map (valuesOf (λ l. l .inv)) (m .automata);
   leads-fs = leads-are m (λ l. l .init) lawful;
   leads-gs = leads-are m (λ l. l .inv) lawful;
+  format = refl;
   actions = refl;
   variables = ap (λ rs. m .variables ++ rs) (sym (pointers-are (λ l. l .init) (m .automata)));
   fresh = fresh-is m lawful;

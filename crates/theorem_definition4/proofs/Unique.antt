@@ -64,6 +64,7 @@ location-same x y p q = ap₂ (λ u w. record { init = u; inv = w }) p q
 
 -- what two linearizations of one model share: all but the list of edges, and of this the set
 pub record SameAutomaton (l k : Model) : Type 0 where
+  pub format : l .format ≡ k .format
   pub actions : l .actions ≡ k .actions
   pub variables : l .variables ≡ k .variables
   pub tree : l .tree ≡ k .tree
@@ -82,6 +83,7 @@ linearizations-same m l k p q =
     let init = p .init ∙ ap (λ fs. all (preds (clauses (length (m .variables)) 0 fs))) same-fs ∙ sym (q .init) in
     let inv = p .inv ∙ ap (λ gs. all (preds (clauses (length (m .variables)) 0 gs))) same-gs ∙ sym (q .inv) in
     record {
+      format = p .format ∙ sym (q .format);
       actions = p .actions ∙ sym (q .actions);
       variables = p .variables ∙ ap (λ fs. m .variables ++ map pointerTo fs) same-fs ∙ sym (q .variables);
       tree = p .tree ∙ sym (q .tree);

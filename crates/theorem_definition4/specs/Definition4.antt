@@ -48,8 +48,9 @@ pub record IsLinearization (m l : Model) : Type 0 where
   pub gs : List (List Pred)
   pub leads-fs : Leads m (λ x. x .init) (m .tree) fs
   pub leads-gs : Leads m (λ x. x .inv) (m .tree) gs
-  -- a sheet declares its actions and its variables: the composition's, and behind these the pointers ls, one for each of fs,
-  -- and none of them in FV(p)
+  -- a sheet declares its format, its actions and its variables: the composition's, and behind these the pointers ls, one for
+  -- each of fs, and none of them in FV(p)
+  pub format : l .format ≡ m .format
   pub actions : l .actions ≡ m .actions
   pub variables : l .variables ≡ m .variables ++ map pointerTo fs
   pub fresh : Fresh m

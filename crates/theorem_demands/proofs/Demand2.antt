@@ -17,6 +17,7 @@ use Rattle.model.specs.Limits.{limits}
 use Rattle.model.specs.Lawful.{Lawful}
 use Rattle.model.specs.Table.{tableOf, opened, openTable}
 use Rattle.model.specs.Linear.{linear, mergedInit, mergedInv, mergedEdges, mergeFault}
+use Rattle.model.proofs.LinesLaws.{sheet}
 use Rattle.model.proofs.LimitsLaws.{lawful-is}
 use Rattle.model.proofs.LinearLimits.{linear-limited}
 use Rattle.model.proofs.TableLaws.{table-length, table-one-to-one, model-given}
@@ -180,13 +181,14 @@ automaton-same x y p q r =
     ∙ ap (λ (ls : List Location). record { sync = y .sync; locations = ls; edges = x .edges }) q
     ∙ ap (λ (es : List Edge). record { sync = y .sync; locations = y .locations; edges = es }) r
 
-model-same : (l k : Model) → l .actions ≡ k .actions → l .variables ≡ k .variables → l .automata ≡ k .automata
-    → l .tree ≡ k .tree → l ≡ k
-model-same l k p q r s =
-    ap (λ (a : ℕ). record { actions = a; variables = l .variables; automata = l .automata; tree = l .tree }) p
-    ∙ ap (λ (vs : List Range). record { actions = k .actions; variables = vs; automata = l .automata; tree = l .tree }) q
-    ∙ ap (λ (xs : List Automaton). record { actions = k .actions; variables = k .variables; automata = xs; tree = l .tree }) r
-    ∙ ap (λ (c : Tree). record { actions = k .actions; variables = k .variables; automata = k .automata; tree = c }) s
+model-same : (l k : Model) → l .format ≡ k .format → l .actions ≡ k .actions → l .variables ≡ k .variables
+    → l .automata ≡ k .automata → l .tree ≡ k .tree → l ≡ k
+model-same l k f p q r s =
+    ap (λ (n : ℕ). sheet n (l .actions) (l .variables) (l .automata) (l .tree)) f
+    ∙ ap (λ (a : ℕ). sheet (k .format) a (l .variables) (l .automata) (l .tree)) p
+    ∙ ap (λ (vs : List Range). sheet (k .format) (k .actions) vs (l .automata) (l .tree)) q
+    ∙ ap (λ (xs : List Automaton). sheet (k .format) (k .actions) (k .variables) xs (l .tree)) r
+    ∙ ap (λ (c : Tree). sheet (k .format) (k .actions) (k .variables) (k .automata) c) s
 
 one-merged : (m : Model) (text text' : Bytes) (edges edges' : ℕ) → IsMergedText m text edges
     → IsMergedText m text' edges' → (text ≡ text') × (edges ≡ edges')
@@ -199,7 +201,7 @@ one-merged m text text' edges edges' i j =
     (ap (λ (x : Automaton). x .sync) p ∙ s .sync ∙ ap (λ (x : Automaton). x .sync) (sym q))
     (ap (λ (x : Automaton). x .locations) p ∙ s .locations ∙ ap (λ (x : Automaton). x .locations) (sym q))
     e in
-    let l : i .sheet ≡ j .sheet = model-same _ _ (s .actions) (s .variables) (i .one ∙ ap (λ (x : Automaton). x ∷ []) a ∙ sym (j .one)) (s .tree) in
+    let l : i .sheet ≡ j .sheet = model-same _ _ (s .format) (s .actions) (s .variables) (i .one ∙ ap (λ (x : Automaton). x ∷ []) a ∙ sym (j .one)) (s .tree) in
     (i .spelled ∙ ap textOf l ∙ sym (j .spelled), i .counted ∙ ap length e ∙ sym (j .counted))
 
 pub demand-2 : ReadsAndWritesExactly

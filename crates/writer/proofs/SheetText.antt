@@ -27,7 +27,7 @@ use Rattle.line_order.specs.declared.Key.{Key}
 use Rattle.line_order.specs.declared.Due.{Due}
 use Rattle.line_order.specs.Due.{isEnd, dueFirst, dueAfterKey, dueAfter, keysDue, laterKeys, laterDue, codeOf, numberOf}
 use Rattle.line_order.proofs.KeyLaws.{no-end}
-use Rattle.line_order.proofs.DueLaws.{due-first, due-key, due-later, due-end, due-after}
+use Rattle.line_order.proofs.DueLaws.{due-first, format-first, format-after, due-key, due-later, due-end, due-after}
 use Rattle.table_check.specs.declared.Checked.{Checked}
 use Rattle.table_check.specs.declared.Checked.the-variants.{Good, Refused}
 use Rattle.table_check.specs.Check.{answered}
@@ -50,7 +50,7 @@ fields a b c t = simp (append-assoc, append-nil)
 -- the value of a line that breaks no row
 value-text : (r : Reading) (e : Entry) (rest : List ℕ) → faultOf r e ≡ none → valueOf (codeOf (keyOf e)) (lineWords e ++ rest) ≡ valueText e
 unfolding valueOf codeOf keyOf lineWords valueText setWords numbersInRange contentFault rangeText edgeText fieldText joined ledBy
-value-text r formatLine rest h = refl
+value-text r (formatLine n) rest h = refl
 value-text r (actionsLine n) rest h = refl
 value-text r (variablesLine n) rest h = refl
 value-text r (variableLine x) rest h =
@@ -76,7 +76,7 @@ value-text r (composeLine c) rest h =
 
 key-text : (e : Entry) → keyText (codeOf (keyOf e)) ≡ spelling (keyOf e)
 unfolding keyText codeOf keyOf
-key-text formatLine = refl
+key-text (formatLine n) = refl
 key-text (actionsLine n) = refl
 key-text (variablesLine n) = refl
 key-text (variableLine x) = refl
@@ -97,7 +97,7 @@ line-text r e rest h =
 -- what is due after it
 due-counted : (e : Entry) (d : Due) (rest : List ℕ) → dueAfterKey (codeOf (keyOf e)) d (getD (lineWords e ++ rest) 0 0) ≡ dueAfterKey (codeOf (keyOf e)) d (numberOf e)
 unfolding dueAfterKey codeOf keyOf lineWords numberOf
-due-counted formatLine d rest = refl
+due-counted (formatLine n) d rest = refl
 due-counted (actionsLine n) d rest = refl
 due-counted (variablesLine n) d rest = refl
 due-counted (variableLine x) d rest = refl
@@ -137,10 +137,10 @@ unfolding laterDue laterKeys codeOf
 none-later d ks k = sym (due-later d compose ks k) ∙ ap (λ (q : Key). laterKeys q d) (due-key d compose ks k)
 
 module _ (m : Model) (d : Due) (r : Reading) (es : List Entry) (rest : List ℕ) where
-  after-line : (e : Entry) (ks : List LineKey) → keysDue d ≡ keyOf e ∷ ks → Follows es (noted r e) (thenDue e ++ ks) m
+  after-line : (e : Entry) (ks : List LineKey) → keysDue d ≡ keyOf e ∷ ks → Follows es (noted r e) (thenDue (r .model .format) e ++ ks) m
       → Stands es (drop (sizeOf (codeOf (keyOf e)) (lineWords e ++ (flatMap lineWords es ++ rest))) (lineWords e ++ (flatMap lineWords es ++ rest)))
   unfolding Stands sizeOf codeOf keyOf lineWords setWords predWords nodeCount thenDue
-  after-line formatLine ks k f = (rest, refl)
+  after-line (formatLine n) ks k f = (rest, refl)
   after-line (actionsLine n) ks k f = (rest, refl)
   after-line (variablesLine n) ks k f = (rest, refl)
   after-line (variableLine x) ks k f = (rest, refl)
@@ -156,27 +156,27 @@ module _ (m : Model) (d : Due) (r : Reading) (es : List Entry) (rest : List ℕ)
   after-line (composeLine c) ks k f = none-follow es (noted r (composeLine c)) ks m (none-later d ks k) f _
 
 -- all lines that follow
-lines-text : (es : List Entry) (r : Reading) (ks : List LineKey) (m : Model) (d : Due) → keysDue d ≡ ks → Follows es r ks m → withinLimits r es ≡ true → (n : ℕ) → length es < n → (rest : List ℕ)
+lines-text : (es : List Entry) (r : Reading) (ks : List LineKey) (m : Model) (d : Due) → d .format ≡ r .model .format → keysDue d ≡ ks → Follows es r ks m → withinLimits r es ≡ true → (n : ℕ) → length es < n → (rest : List ℕ)
     → linesFrom n d (flatMap lineWords es ++ rest) ≡ flatMap lineText es
 unfolding withinLimits flatMap dueAfter Stands isEnd
-lines-text es r ks m d k f h zero l rest = absurd (omega arith)
-lines-text [] r [] m d k f h (suc n) l rest = lines-end n d rest (ap isEnd (due-end d k))
-lines-text [] r (k' ∷ ks) m d k f h (suc n) l rest = absurd f
-lines-text (e ∷ es) r [] m d k f h (suc n) l rest = absurd f
-lines-text (e ∷ es) r (k' ∷ ks) m d k f h (suc n) l rest =
+lines-text es r ks m d x k f h zero l rest = absurd (omega arith)
+lines-text [] r [] m d x k f h (suc n) l rest = lines-end n d rest (ap isEnd (due-end d k))
+lines-text [] r (k' ∷ ks) m d x k f h (suc n) l rest = absurd f
+lines-text (e ∷ es) r [] m d x k f h (suc n) l rest = absurd f
+lines-text (e ∷ es) r (k' ∷ ks) m d x k f h (suc n) l rest =
     let ok = none-lacks (faultOf r e) (and-left (lacks (faultOf r e)) _ h) in
-    let keys : keysDue d ≡ keyOf e ∷ ks = k ∙ ap (λ (x : LineKey). x ∷ ks) (sym (f .0)) in
+    let keys : keysDue d ≡ keyOf e ∷ ks = k ∙ ap (λ (j : LineKey). j ∷ ks) (sym (f .0)) in
     let key : d .key ≡ codeOf (keyOf e) = due-key d (keyOf e) ks keys in
     let later = flatMap lineWords es ++ rest in
     let ws = lineWords e ++ later in
     let next = after-line m d r es rest e ks keys (f .1) in
     let due : dueAfter d (getD ws 0 0) ≡ dueAfter d (numberOf e) =
     ap (λ (q : Key). dueAfterKey q d (getD ws 0 0)) key ∙ due-counted e d later ∙ ap (λ (q : Key). dueAfterKey q d (numberOf e)) (sym key) in
-    let others = lines-text es (noted r e) (thenDue e ++ ks) m (dueAfter d (numberOf e)) (due-after d e ks keys) (f .1) (and-right (lacks (faultOf r e)) _ h) n (omega arith) (next .0) in
+    let others = lines-text es (noted r e) (thenDue (r .model .format) e ++ ks) m (dueAfter d (numberOf e)) (format-after d r x e ks keys) (due-after d r x e ks keys) (f .1) (and-right (lacks (faultOf r e)) _ h) n (omega arith) (next .0) in
     ap (linesFrom (suc n) d) (append-assoc (lineWords e) (flatMap lineWords es) rest) ∙
     lines-on n d ws (ap isEnd key ∙ no-end (keyOf e)) ∙
     ap₂ (λ (a b : Bytes). a ++ b) (ap (λ (q : Key). lineOf q ws) key ∙ line-text r e later ok)
-    (ap (λ (x : Due). linesFrom n x (drop (sizeOf (d .key) ws) ws)) due ∙
+    (ap (λ (y : Due). linesFrom n y (drop (sizeOf (d .key) ws) ws)) due ∙
     ap (linesFrom n (dueAfter d (numberOf e))) (ap (λ (q : Key). drop (sizeOf q ws) ws) key ∙ next .1) ∙
     others)
 
@@ -187,7 +187,7 @@ module _ (m : Model) (h : Lawful m) (t rest : List ℕ) (stands : t ≡ sheetWor
   sheet-text =
       let few = lines-few m h in
       ap (linesFrom 8193 dueFirst) stands ∙
-      lines-text (lines m) atFirst dueAtFirst m dueFirst due-first (follow-lines m) (lawful-is m .1 h) 8193 (omega arith) rest
+      lines-text (lines m) atFirst dueAtFirst m dueFirst format-first due-first (follow-lines m) (lawful-is m .1 h) 8193 (omega arith) rest
 
   -- and it fits
   pub words-text : (room : ℕ) → 65536 ≤ room → (old : Bytes) → roomAnswer room (sheetText t) (length old) ≡ copyAnswer (textOf m) (length old)

@@ -14,7 +14,7 @@ automata-due-requires c κs = search needs
 
 returns : tie.Need-returns
 unfolding dueEdges
-returns c = c .automata-due .ensures ∙ ap dueAutomata (c .before .less .ensures) ∙ sym (if-none _ _ _ (c .before .before .if1 .taken))
+returns c = c .automata-due .ensures ∙ ap (dueAutomata _) (c .before .less .ensures) ∙ sym (if-none _ _ _ (c .before .before .if1 .taken))
 
 returns-2 : tie.Need-returns-2
 unfolding dueEdges

@@ -13,20 +13,11 @@ count-at-requires c κs = search needs
 word-requires-2 : tie.Need-word-requires-2
 word-requires-2 c κs = search needs
 
-put-requires : tie.Need-put-requires
-put-requires c κs = search needs
-
-word-requires-3 : tie.Need-word-requires-3
-word-requires-3 c κs = search needs
-
-put-requires-2 : tie.Need-put-requires-2
-put-requires-2 c κs = search needs
-
 pointer-requires : tie.Need-pointer-requires
 pointer-requires c κs = search needs
 
-put-requires-3 : tie.Need-put-requires-3
-put-requires-3 c κs = search needs
+numbers-requires : tie.Need-numbers-requires
+numbers-requires c κs = search needs
 
 step-requires : tie.Need-step-requires
 step-requires c κs = search needs
@@ -43,8 +34,8 @@ automaton-at-requires c κs = search needs
 pointers-requires : tie.Need-pointers-requires
 pointers-requires c κs = search needs
 
-put-requires-4 : tie.Need-put-requires-4
-put-requires-4 c κs = search needs
+put-requires : tie.Need-put-requires
+put-requires c κs = search needs
 
 returns : tie.Need-returns
 returns c = search (needs, head-is)
@@ -56,15 +47,12 @@ head-spec =
     word-requires
     count-at-requires
     word-requires-2
-    put-requires
-    word-requires-3
-    put-requires-2
     pointer-requires
-    put-requires-3
+    numbers-requires
     step-requires
     pointer-requires-2
     copy-requires
     automaton-at-requires
     pointers-requires
-    put-requires-4
+    put-requires
     returns)

@@ -7,20 +7,20 @@ use Rattle.table_check.proofs.one_line.line.Tie as tie
 enum-told : tie.Need-enum-told
 enum-told c = search needs
 
-format-requires : tie.Need-format-requires
-format-requires c κs = search needs
+number-requires : tie.Need-number-requires
+number-requires c κs = search needs
 
 enum-told-2 : tie.Need-enum-told-2
 enum-told-2 c = search needs
 
-number-requires : tie.Need-number-requires
-number-requires c κs = search needs
+number-requires-2 : tie.Need-number-requires-2
+number-requires-2 c κs = search needs
 
 enum-told-3 : tie.Need-enum-told-3
 enum-told-3 c = search needs
 
-number-requires-2 : tie.Need-number-requires-2
-number-requires-2 c κs = search needs
+number-requires-3 : tie.Need-number-requires-3
+number-requires-3 c κs = search needs
 
 enum-told-4 : tie.Need-enum-told-4
 enum-told-4 c = search needs
@@ -31,8 +31,8 @@ variable-requires c κs = search needs
 enum-told-5 : tie.Need-enum-told-5
 enum-told-5 c = search needs
 
-number-requires-3 : tie.Need-number-requires-3
-number-requires-3 c κs = search needs
+number-requires-4 : tie.Need-number-requires-4
+number-requires-4 c κs = search needs
 
 enum-told-6 : tie.Need-enum-told-6
 enum-told-6 c = search needs
@@ -43,8 +43,8 @@ sync-requires c κs = search needs
 enum-told-7 : tie.Need-enum-told-7
 enum-told-7 c = search needs
 
-number-requires-4 : tie.Need-number-requires-4
-number-requires-4 c κs = search needs
+number-requires-5 : tie.Need-number-requires-5
+number-requires-5 c κs = search needs
 
 enum-told-8 : tie.Need-enum-told-8
 enum-told-8 c = search needs
@@ -123,19 +123,19 @@ line-spec =
     tie.close
     (tie.spec
     enum-told
-    format-requires
-    enum-told-2
     number-requires
-    enum-told-3
+    enum-told-2
     number-requires-2
+    enum-told-3
+    number-requires-3
     enum-told-4
     variable-requires
     enum-told-5
-    number-requires-3
+    number-requires-4
     enum-told-6
     sync-requires
     enum-told-7
-    number-requires-4
+    number-requires-5
     enum-told-8
     location-requires
     enum-told-9
