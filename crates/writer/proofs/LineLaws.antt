@@ -1,15 +1,20 @@
 -- Each way out of the code of src/line.rt.
-use Prim.Native.Nat.{ℕ, _+_}
-use mathlib.Core.Path.{_≡_, ap}
+use Prim.Native.Nat.{ℕ, _+_, _-_, _≤_}
+use mathlib.Core.Path.{_≡_, refl, sym, ap, subst, _∙_}
+use native.Mathlib.Omega.{arith}
 use mathlib.Core.List.{List, [], _∷_, _++_, append-assoc}
 use lib.ListN.{getD, take, drop}
-use Rattle.format.specs.Bytes.{Bytes, joined, space}
+use Rattle.format.specs.Bytes.{Bytes, bytes, joined, space}
+use Rattle.format.specs.Spelling.{spelling}
 use Rattle.format.specs.Number.{decimal, signed}
 use Rattle.model.specs.Table.{unbiased}
 use Rattle.line_order.specs.declared.Key.{Key}
+use Rattle.line_order.specs.declared.Key.the-variants.{Format, Actions, Variables, Variable, Automata, Sync, Locations, Init, Inv, Edges, Edge, Compose, End}
+use Rattle.writer.specs.declared.line.Part.{Part}
+use Rattle.writer.specs.declared.line.Shape.{Shape}
 use Rattle.text_bytes.specs.declared.answer.Written.{Written}
 use Rattle.writer.specs.Growing.{Grew}
-use Rattle.writer.specs.Text.{setText, wordsText, nodeTexts, rangeText, predicateText, fieldText, edgeText, treeText, valueOf, keyText, lineOf, sizeOf}
+use Rattle.writer.specs.Text.{setText, wordsText, nodeTexts, rangeText, predicateText, fieldText, edgeText, treeText, shapeOf, valueBy, valueOf, keyPart, keyText, lineOf, sizeOf}
 use Rattle.writer.proofs.GrowingLaws.{grew-none, grew-then}
 
 -- `range`
@@ -44,13 +49,13 @@ pub tree-is : (ws later : List ℕ) (n : ℕ) (at r : Written) (old new : Bytes)
 unfolding treeText
 tree-is ws later n at r old new e f g = rw (← f, ← e) g
 
--- `name`, `value` and `size`, by the key
+-- `among_keys`, `shape_of` and `size`, by the key
 module _ (key k : Key) (e : key ≡ k) where
-  pub name-by : (at r : Written) (old new : Bytes) → Grew (keyText k) at old new r → Grew (keyText key) at old new r
-  name-by at r old new g = rw e g
+  pub part-by : (p : Part) → p ≡ keyPart k → p ≡ keyPart key
+  part-by p h = rw e h
 
-  pub value-by : (ws : List ℕ) (at r : Written) (old new : Bytes) → Grew (valueOf k ws) at old new r → Grew (valueOf key ws) at old new r
-  value-by ws at r old new g = rw e g
+  pub shape-by : (s : Shape) → s ≡ shapeOf k → s ≡ shapeOf key
+  shape-by s h = rw e h
 
   pub size-by : (ws : List ℕ) (n : ℕ) → n ≡ sizeOf k ws → n ≡ sizeOf key ws
   size-by ws n h = rw e h
@@ -59,6 +64,28 @@ pub size-more : (a n m : ℕ) → n ≡ m → a + n ≡ a + m
 size-more a n m e = ap (λ (x : ℕ). a + x) e
 
 pub ruleset size-laws = (size-by, size-more)
+
+-- `value`, by what it is
+pub value-shape : (key : Key) (ws : List ℕ) → valueBy (shapeOf key) ws ≡ valueOf key ws
+unfolding valueBy shapeOf valueOf
+value-shape Format ws = refl
+value-shape Actions ws = refl
+value-shape Variables ws = refl
+value-shape Variable ws = refl
+value-shape Automata ws = refl
+value-shape Sync ws = refl
+value-shape Locations ws = refl
+value-shape Init ws = refl
+value-shape Inv ws = refl
+value-shape Edges ws = refl
+value-shape Edge ws = refl
+value-shape Compose ws = refl
+value-shape End ws = refl
+
+pub value-by : (key : Key) (s k : Shape) (ws : List ℕ) (at r : Written) (old new : Bytes) → s ≡ shapeOf key → s ≡ k → Grew (valueBy k ws) at old new r
+    → Grew (valueOf key ws) at old new r
+value-by key s k ws at r old new e f g =
+    subst (λ (t : Bytes). Grew t at old new r) (ap (λ (x : Shape). valueBy x ws) (sym f ∙ e) ∙ value-shape key ws) g
 
 -- a value that is a number or a set is what its words say
 module _ (ws : List ℕ) (x : ℕ) (e : x ≡ getD ws 0 0) (at r : Written) (old new : Bytes) where
@@ -73,7 +100,57 @@ value-none at b = grew-none at b
 
 pub ruleset value-laws = (value-by, value-number, value-set, value-none)
 
-pub ruleset name-laws = (name-by, value-none)
+-- the row of all keys has each at its part
+unfoldable pub inKeys : Part → Bytes
+inKeys p = take (p .to - p .from) (drop (p .from) (bytes "format=actions=variables=variable=automata=sync=locations=init=inv=edges=edge=compose="))
+
+pub key-part : (key : Key) → inKeys (keyPart key) ≡ keyText key
+unfolding inKeys keyPart keyText spelling
+key-part Format = refl
+key-part Actions = refl
+key-part Variables = refl
+key-part Variable = refl
+key-part Automata = refl
+key-part Sync = refl
+key-part Locations = refl
+key-part Init = refl
+key-part Inv = refl
+key-part Edges = refl
+key-part Edge = refl
+key-part Compose = refl
+key-part End = refl
+
+pub key-within : (key : Key) → (keyPart key .from ≤ keyPart key .to) × (keyPart key .to ≤ 86)
+unfolding keyPart
+key-within Format = (omega arith, omega arith)
+key-within Actions = (omega arith, omega arith)
+key-within Variables = (omega arith, omega arith)
+key-within Variable = (omega arith, omega arith)
+key-within Automata = (omega arith, omega arith)
+key-within Sync = (omega arith, omega arith)
+key-within Locations = (omega arith, omega arith)
+key-within Init = (omega arith, omega arith)
+key-within Inv = (omega arith, omega arith)
+key-within Edges = (omega arith, omega arith)
+key-within Edge = (omega arith, omega arith)
+key-within Compose = (omega arith, omega arith)
+key-within End = (omega arith, omega arith)
+
+module _ (key : Key) (p : Part) (e : p ≡ keyPart key) where
+  pub name-rises : p .from ≤ p .to
+  name-rises = rw e (key-within key .0)
+
+  pub name-inside : p .to ≤ 86
+  name-inside = rw e (key-within key .1)
+
+  pub name-grew : (at r : Written) (old new : Bytes) → Grew (inKeys p) at old new r → Grew (keyText key) at old new r
+  name-grew at r old new g = subst (λ (t : Bytes). Grew t at old new r) (ap inKeys e ∙ key-part key) g
+
+pub ruleset part-laws = (part-by)
+
+pub ruleset shape-laws = (shape-by)
+
+pub ruleset name-laws = (name-rises, name-inside, name-grew)
 
 -- `line`
 pub line-is : (key : Key) (ws : List ℕ) (at a b r : Written) (old cur mid new : Bytes) → Grew (keyText key) at old cur a → Grew (valueOf key ws) a cur mid b → Grew (10 ∷ []) b mid new r → Grew (lineOf key ws) at old new r

@@ -14,6 +14,9 @@ use Rattle.line_order.specs.declared.Key.{Key}
 use Rattle.line_order.specs.declared.Key.the-variants.{Format, Actions, Variables, Variable, Automata, Sync, Locations, Init, Inv, Edges, Edge, Compose, End}
 use Rattle.line_order.specs.declared.Due.{Due}
 use Rattle.line_order.specs.Due.{isEnd, dueFirst, dueAfter}
+use Rattle.writer.specs.declared.line.Part.{Part}
+use Rattle.writer.specs.declared.line.Shape.{Shape}
+use Rattle.writer.specs.declared.line.Shape.the-variants as S
 use Rattle.writer.specs.Growing.{between}
 
 -- A node of a predicate, and nodes in a row.
@@ -97,6 +100,31 @@ valueOf Edge ws = edgeText ws
 valueOf Compose ws = treeText ws
 valueOf End ws = []
 
+-- the same in two parts: what the value is, and its text
+unfoldable pub shapeOf : Key → Shape
+shapeOf Format = S.Number
+shapeOf Actions = S.Number
+shapeOf Variables = S.Number
+shapeOf Variable = S.Range
+shapeOf Automata = S.Number
+shapeOf Sync = S.Set
+shapeOf Locations = S.Number
+shapeOf Init = S.Predicate
+shapeOf Inv = S.Predicate
+shapeOf Edges = S.Number
+shapeOf Edge = S.Edge
+shapeOf Compose = S.Tree
+shapeOf End = S.Nothing
+
+unfoldable pub valueBy : Shape → List ℕ → Bytes
+valueBy S.Number ws = decimal (getD ws 0 0)
+valueBy S.Range ws = rangeText ws
+valueBy S.Set ws = setText (getD ws 0 0) (getD ws 1 0)
+valueBy S.Predicate ws = predicateText ws
+valueBy S.Edge ws = edgeText ws
+valueBy S.Tree ws = treeText ws
+valueBy S.Nothing ws = []
+
 unfoldable pub keyText : Key → Bytes
 keyText Format = spelling format
 keyText Actions = spelling actions
@@ -111,6 +139,25 @@ keyText Edges = spelling edges
 keyText Edge = spelling edge
 keyText Compose = spelling compose
 keyText End = []
+
+-- Where a key stands among all keys in one row; that part of it is its text (the law key-part).
+abbrev part : (from to : ℕ) → Part
+part from to = record { from = from; to = to }
+
+unfoldable pub keyPart : Key → Part
+keyPart Format = part 0 7
+keyPart Actions = part 7 15
+keyPart Variables = part 15 25
+keyPart Variable = part 25 34
+keyPart Automata = part 34 43
+keyPart Sync = part 43 48
+keyPart Locations = part 48 58
+keyPart Init = part 58 63
+keyPart Inv = part 63 67
+keyPart Edges = part 67 73
+keyPart Edge = part 73 78
+keyPart Compose = part 78 86
+keyPart End = part 86 86
 
 -- A line, and how many words it has; after the composition no line follows, so its size is not asked for.
 unfoldable pub lineOf : Key → List ℕ → Bytes

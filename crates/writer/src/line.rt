@@ -6,8 +6,10 @@ use crate::words::{self};
 use line_order::Key;
 use text_bytes::Written;
 ghost use mathlib.Core.Path.{_≡_};
+ghost use Prim.Native.Nat.{_-_, _≤_};
+ghost use lib.ListN.{length, take, drop};
 ghost use Rattle.writer.specs.Growing.{Grew};
-ghost use Rattle.writer.specs.Text.{rangeText, predicateText, fieldText, edgeText, treeText, valueOf, keyText, lineOf, sizeOf};
+ghost use Rattle.writer.specs.Text.{rangeText, predicateText, fieldText, edgeText, treeText, shapeOf, valueOf, keyPart, keyText, lineOf, sizeOf};
 
 // Both ends of a range.
 fn range(ws: &[u32], out: &mut [u8], at: Written) -> Written
@@ -52,45 +54,99 @@ fn tree(ws: &[u32], out: &mut [u8], at: Written) -> Written
     nodes::nodes(read::rest(ws, 1), n, out, at)
 }
 
-fn value(key: Key, ws: &[u32], out: &mut [u8], at: Written) -> Written
-    ensures { λ r. ⌜ Grew (valueOf key (now (ws .entry))) at (now (out .entry)) (now (out .exit)) r ⌝ }
+// What a line's value is, by its key.
+pub enum Shape {
+    Number,
+    Range,
+    Set,
+    Predicate,
+    Edge,
+    Tree,
+    Nothing,
+}
+
+fn shape_of(key: Key) -> Shape
+    ensures { λ r. ⌜ r ≡ shapeOf key ⌝ }
 {
     match key {
-        Key::Format => growing::number(read::word(ws, 0), out, at),
-        Key::Actions => growing::number(read::word(ws, 0), out, at),
-        Key::Variables => growing::number(read::word(ws, 0), out, at),
-        Key::Variable => range(ws, out, at),
-        Key::Automata => growing::number(read::word(ws, 0), out, at),
-        Key::Sync => nodes::set(read::word(ws, 0), read::word(ws, 1), out, at),
-        Key::Locations => growing::number(read::word(ws, 0), out, at),
-        Key::Init => predicate(ws, out, at),
-        Key::Inv => predicate(ws, out, at),
-        Key::Edges => growing::number(read::word(ws, 0), out, at),
-        Key::Edge => edge(ws, out, at),
-        Key::Compose => tree(ws, out, at),
-        Key::End => at,
+        Key::Format => Shape::Number,
+        Key::Actions => Shape::Number,
+        Key::Variables => Shape::Number,
+        Key::Variable => Shape::Range,
+        Key::Automata => Shape::Number,
+        Key::Sync => Shape::Set,
+        Key::Locations => Shape::Number,
+        Key::Init => Shape::Predicate,
+        Key::Inv => Shape::Predicate,
+        Key::Edges => Shape::Number,
+        Key::Edge => Shape::Edge,
+        Key::Compose => Shape::Tree,
+        Key::End => Shape::Nothing,
     }
 }
 
-// A key, the equals sign with it.
+fn value(key: Key, ws: &[u32], out: &mut [u8], at: Written) -> Written
+    ensures { λ r. ⌜ Grew (valueOf key (now (ws .entry))) at (now (out .entry)) (now (out .exit)) r ⌝ }
+{
+    let s = shape_of(key);
+    match s {
+        Shape::Number => growing::number(read::word(ws, 0), out, at),
+        Shape::Range => range(ws, out, at),
+        Shape::Set => nodes::set(read::word(ws, 0), read::word(ws, 1), out, at),
+        Shape::Predicate => predicate(ws, out, at),
+        Shape::Edge => edge(ws, out, at),
+        Shape::Tree => tree(ws, out, at),
+        Shape::Nothing => at,
+    }
+}
+
+// A part of a row of bytes.
+pub struct Part {
+    pub from: usize,
+    pub to: usize,
+}
+
+// Where a key stands among all keys.
+fn among_keys(key: Key) -> Part
+    ensures { λ r. ⌜ r ≡ keyPart key ⌝ }
+{
+    match key {
+        Key::Format => Part { from: 0, to: 7 },
+        Key::Actions => Part { from: 7, to: 15 },
+        Key::Variables => Part { from: 15, to: 25 },
+        Key::Variable => Part { from: 25, to: 34 },
+        Key::Automata => Part { from: 34, to: 43 },
+        Key::Sync => Part { from: 43, to: 48 },
+        Key::Locations => Part { from: 48, to: 58 },
+        Key::Init => Part { from: 58, to: 63 },
+        Key::Inv => Part { from: 63, to: 67 },
+        Key::Edges => Part { from: 67, to: 73 },
+        Key::Edge => Part { from: 73, to: 78 },
+        Key::Compose => Part { from: 78, to: 86 },
+        Key::End => Part { from: 86, to: 86 },
+    }
+}
+
+fn put_part(row: &[u8], p: Part, out: &mut [u8], at: Written) -> Written
+    requires { ⌜ (p .from ≤ p .to) × (p .to ≤ length (now row)) ⌝ }
+    ensures { λ r. ⌜ Grew (take (p .to - p .from) (drop (p .from) (now (row .entry)))) at (now (out .entry)) (now (out .exit)) r ⌝ }
+{
+    let from = p.from;
+    let to = p.to;
+    growing::put(&row[from..to], out, at)
+}
+
+// A key, the equals sign with it. All keys stand in one row, for a literal in each arm would be checked much longer.
 fn name(key: Key, out: &mut [u8], at: Written) -> Written
     ensures { λ r. ⌜ Grew (keyText key) at (now (out .entry)) (now (out .exit)) r ⌝ }
 {
-    match key {
-        Key::Format => growing::put(b"format=", out, at),
-        Key::Actions => growing::put(b"actions=", out, at),
-        Key::Variables => growing::put(b"variables=", out, at),
-        Key::Variable => growing::put(b"variable=", out, at),
-        Key::Automata => growing::put(b"automata=", out, at),
-        Key::Sync => growing::put(b"sync=", out, at),
-        Key::Locations => growing::put(b"locations=", out, at),
-        Key::Init => growing::put(b"init=", out, at),
-        Key::Inv => growing::put(b"inv=", out, at),
-        Key::Edges => growing::put(b"edges=", out, at),
-        Key::Edge => growing::put(b"edge=", out, at),
-        Key::Compose => growing::put(b"compose=", out, at),
-        Key::End => at,
-    }
+    let p = among_keys(key);
+    put_part(
+        b"format=actions=variables=variable=automata=sync=locations=init=inv=edges=edge=compose=",
+        p,
+        out,
+        at,
+    )
 }
 
 // The line with this key whose words these begin with.
