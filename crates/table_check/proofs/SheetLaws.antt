@@ -1,15 +1,15 @@
 -- Each way out of the code of src/sheet.rt.
 use Prim.Native.Nat.{ℕ, zero, suc, _+_, _-_, _≤_, _<_}
 use mathlib.Core.Path.{_≡_, refl, sym, _∙_, ap}
-use mathlib.Core.Bool.{Bool, true, false, _&&_}
+use mathlib.Core.Bool.{Bool, true, false, _&&_, and-true, and-assoc}
 use mathlib.Core.List.{List}
 use mathlib.Core.Option.{Option, none, some}
 use native.Mathlib.Numerals.{sub-one, add-one}
 use lib.ListN.{length, getD, drop-of-length-le}
 use lib.Seq.{drop-cons}
 use lib.Dec.{eqb}
-use borrow.Author.Tests.{eq-eqb, ne-eqb}
 use Rattle.model.specs.Basic.{every}
+use Rattle.model.specs.Bounds.{tableWords}
 use Rattle.line_order.specs.declared.Due.{Due}
 use Rattle.line_order.specs.declared.Counts.{Counts}
 use Rattle.line_order.specs.Due.{isEnd, dueFirst, dueAfter}
@@ -21,24 +21,25 @@ use Rattle.table_check.specs.Line.{lineAt}
 use Rattle.table_check.specs.Scan.{scanFirst, scanAfter, zerosFrom, scanned, scannedSheet}
 use Rattle.table_check.proofs.ScanLaws.{scanned-end, scanned-sound, scanned-bad}
 
--- `zeros`
-module _ (t : List ℕ) (i : ℕ) (whole : Bool) (inv : zerosFrom t i ≡ whole) where
-  pub zeros-end : length t ≤ i → true ≡ whole
+-- `zeros`: what was found so far, and the words that are left
+module _ (t : List ℕ) (i : ℕ) (all whole : Bool) (inv : (all && zerosFrom t i) ≡ whole) where
+  pub zeros-end : length t ≤ i → all ≡ whole
   unfolding zerosFrom every
-  zeros-end h = rw (drop-of-length-le t h) at inv
+  zeros-end h = sym (and-true all) ∙ rw (drop-of-length-le t h) at inv
 
-  module _ (h : i < length t) where
-    zeros-step : zerosFrom t i ≡ (eqb (getD t i 0) 0 && zerosFrom t (i + 1))
-    unfolding zerosFrom every
-    zeros-step = rw (drop-cons t i 0 h, add-one i)
+  zeros-step : i < length t → zerosFrom t i ≡ (eqb (getD t i 0) 0 && zerosFrom t (i + 1))
+  unfolding zerosFrom every
+  zeros-step h = rw (drop-cons t i 0 h, add-one i)
 
-    pub zeros-not : (getD t i 0 ≡ 0 → ⊥) → false ≡ whole
-    zeros-not e = rw (ne-eqb (getD t i 0) 0 e) at (sym zeros-step ∙ inv)
+  pub zeros-more : i < length t → (now : Bool) → now ≡ (all && eqb (getD t i 0) 0) → (now && zerosFrom t (i + 1)) ≡ whole
+  zeros-more h now e =
+      ap (λ (b : Bool). b && zerosFrom t (i + 1)) e ∙ and-assoc all (eqb (getD t i 0) 0) (zerosFrom t (i + 1)) ∙
+      ap (λ (b : Bool). all && b) (sym (zeros-step h)) ∙ inv
 
-    pub zeros-more : getD t i 0 ≡ 0 → zerosFrom t (i + 1) ≡ whole
-    zeros-more e = rw (eq-eqb (getD t i 0) 0 e) at (sym zeros-step ∙ inv)
+pub zeros-first : (b : Bool) → (true && b) ≡ b
+zeros-first b = refl
 
-pub ruleset zeros-laws = (zeros-end, zeros-not, zeros-more)
+pub ruleset zeros-laws = (zeros-first, zeros-end, zeros-more)
 
 -- `Scan::first` and `Scan::after`
 pub first-by : (d : Due) (k : Counts) → d ≡ dueFirst → k ≡ countsNone → _≡_ {A = Scan} (record { due = d; counts = k; at = 0 }) scanFirst
@@ -54,9 +55,9 @@ unfoldable pub zerosAfter : List ℕ → Option ℕ → Bool
 zerosAfter t o = elim o [ none ↦ false | some at ↦ zerosFrom t at ]
 
 module _ (t : List ℕ) where
-  pub sheet-first : (s : Scan) → s ≡ scanFirst → zerosAfter t (scanned (lineAt t) 8193 s) ≡ scannedSheet (lineAt t) t
+  pub sheet-first : (s : Scan) → s ≡ scanFirst → zerosAfter t (scanned (lineAt t) (tableWords + 1) s) ≡ scannedSheet (lineAt t) t
   unfolding scannedSheet zerosAfter
-  sheet-first s h = ap (λ (x : Scan). zerosAfter t (scanned (lineAt t) 8193 x)) h
+  sheet-first s h = ap (λ (x : Scan). zerosAfter t (scanned (lineAt t) (tableWords + 1) x)) h
 
   module _ (left : ℕ) (s : Scan) (whole : Bool) (inv : zerosAfter t (scanned (lineAt t) left s) ≡ whole) where
     pub sheet-spent : left ≡ 0 → false ≡ whole

@@ -9,18 +9,17 @@ ghost use mathlib.Core.Path.{_≡_};
 ghost use Rattle.table_check.specs.Line.{lineAt};
 ghost use Rattle.table_check.specs.Scan.{scanFirst, scanAfter, zerosFrom, scannedSheet};
 
-// Every word from `at` on is 0.
+// Every word from `at` on is 0. None ends the loop early, so that the compiler can test many at once.
 fn zeros(t: &[u32], at: usize) -> bool
     ensures { λ r. ⌜ r ≡ zerosFrom (now (t .entry)) at ⌝ }
 {
+    let mut all = true;
     let mut i = at;
     while i < t.len() {
-        if t[i] != 0 {
-            return false;
-        }
+        all = all & (t[i] == 0);
         i += 1;
     }
-    true
+    all
 }
 
 impl Scan {
