@@ -14,7 +14,12 @@ use lib.Pow.{pow-mono, shl-exact}
 use borrow.Author.Tests.{le-leb, lt-leb, eq-eqb, ne-eqb, leb-true, leb-false}
 use Rattle.model.specs.Basic.{eqZ}
 use Rattle.model.specs.Bounds.{maxVariables, maxAutomata}
+use Rattle.model.specs.Predicate.{named, nothing, theOld, theNew}
 use Rattle.model.specs.Table.{bit}
+use Rattle.node_words.specs.declared.Node.{Node}
+use Rattle.node_words.specs.declared.Node.the-variants.{All, Any, Not, Imp, Eq, Le, Number, Old, New, Add, Sub, Mul, If, Stray}
+use Rattle.node_words.specs.Nodes.{meant, nodeOf}
+use Rattle.node_words.proofs.NodeLaws.{word-by}
 use Rattle.judge_search.specs.Masks.{mask}
 use Rattle.judge_candidates.specs.Bits.{cap, clear, withBit, leftOut, restOf, differs, changedBits, agrees, stillBits}
 
@@ -78,15 +83,29 @@ pub ruleset clear-laws = (clear-set, clear-not)
 
 -- `left_out`
 module _ (s w : ℕ) where
-  pub out-new : w % 16 ≡ 8 → (r : ℕ) → r ≡ clear s (w / 16) → r ≡ leftOut s w
-  unfolding leftOut
-  out-new h r e = rw (eq-eqb (w % 16) 8 h, leftOut) e
+  pub out-new : (n : Node) → n ≡ nodeOf w → (k : ℕ) → n ≡ New k → (r : ℕ) → r ≡ clear s k → r ≡ leftOut s w
+  unfolding leftOut meant named
+  out-new n e k h r f = rw (word-by w n (New k) e h, leftOut) f
 
-  pub out-other : (w % 16 ≡ 8 → ⊥) → s ≡ leftOut s w
-  unfolding leftOut
-  out-other h = rw (ne-eqb (w % 16) 8 h, leftOut)
-
-pub ruleset out-laws = (out-new, out-other)
+  pub out-other : (n : Node) → n ≡ nodeOf w → ((k : ℕ) → n ≡ New k → ⊥) → s ≡ leftOut s w
+  unfolding leftOut meant named
+  out-other n e h = rw (word-by w n n e refl, leftOut) (go n h)
+    where
+      go : (m : Node) → ((k : ℕ) → m ≡ New k → ⊥) → s ≡ elim (named (meant m)) [ nothing ↦ s | theOld k ↦ s | theNew k ↦ clear s k ]
+      go (All k) d = refl
+      go (Any k) d = refl
+      go Not d = refl
+      go Imp d = refl
+      go Eq d = refl
+      go Le d = refl
+      go (Number z) d = refl
+      go (Old k) d = refl
+      go (New k) d = absurd (d k refl)
+      go Add d = refl
+      go Sub d = refl
+      go Mul d = refl
+      go If d = refl
+      go Stray d = refl
 
 -- `rest`
 module _ (t : List ℕ) (i left mask whole : ℕ) (inv : restOf mask (take left (drop i t)) ≡ whole) where

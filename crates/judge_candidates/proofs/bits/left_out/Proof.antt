@@ -1,17 +1,27 @@
 -- `judge_candidates::bits::left_out` meets its contract.
-use Rattle.judge_candidates.proofs.BitsLaws.{out-laws}
+use Rattle.judge_candidates.proofs.BitsLaws.{out-new, out-other}
+use Rattle.node_words.specs.declared.Node.the-variants.{New}
+use Rattle.node_words.proofs.NodeLaws.{none-of}
+use mathlib.Core.List.{[], _∷_}
 use borrow.Author.Needs.{needs}
 use Rattle.judge_candidates.proofs.bits.left_out.Statement.{statement}
 use Rattle.judge_candidates.proofs.bits.left_out.Tie as tie
+
+node-of-requires : tie.Need-node-of-requires
+node-of-requires c κs = search needs
+
+enum-known-node : tie.Need-enum-known-node
+enum-known-node c = search needs
 
 clear-requires : tie.Need-clear-requires
 clear-requires c κs = search needs
 
 returns : tie.Need-returns
-returns c = search (needs, out-laws)
+returns c = search (needs, out-new)
 
 returns-2 : tie.Need-returns-2
-returns-2 c = search (needs, out-laws)
+returns-2 c = out-other _ _ _ (c .before .node-of .ensures) (λ k. none-of (New 0 ∷ []) _ (New k) (c .match .keys2) tt)
 
 pub left-out-spec : {M : Type 1} → statement M
-left-out-spec = tie.close (tie.spec clear-requires returns returns-2)
+left-out-spec =
+    tie.close (tie.spec node-of-requires enum-known-node clear-requires returns returns-2)
