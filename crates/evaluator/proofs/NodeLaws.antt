@@ -11,12 +11,9 @@ use lib.ListN.{length, getD}
 use Rattle.model.specs.Basic.{eqZ}
 use Rattle.model.specs.Table.{wordOf, unbiased}
 use Rattle.node_words.specs.declared.Node.{Node}
-use Rattle.node_words.specs.declared.Node.the-variants.{All, Any, Not, Imp, Eq, Le, Number, Old, New, Add, Sub, Mul, If, Stray}
+use Rattle.node_words.specs.declared.Node.the-variants.{All, Any, Not, Imp, Eq, Le, Number, Old, New, Add, Sub, Mul, If}
 use Rattle.node_words.specs.Nodes.{meant, nodeOf}
-use denote.Enum.Declared.{tagOf}
-use types.Run.{OneOf}
-use Rattle.node_words.proofs.Node.{the-type}
-use Rattle.node_words.proofs.NodeLaws.{word-by, others, none-of}
+use Rattle.node_words.proofs.NodeLaws.{word-by, Other, by-others}
 use Rattle.arithmetic.specs.Cut.{cut}
 use Rattle.evaluator.specs.declared.nodes.Truth.{Truth}
 use Rattle.evaluator.specs.declared.nodes.Value.{Value}
@@ -25,47 +22,12 @@ use Rattle.evaluator.specs.declared.nodes.Pair.{Pair}
 use Rattle.evaluator.specs.Evaluate.{truth, valued, gathered, paired, Predicates, Expressions, gather, implication, numbers, choice, predicateBy, expressionBy, predicateStep, expressionStep, predicateAt, expressionAt}
 use Rattle.evaluator.proofs.Steps.{predicate-is, expression-is}
 
--- The nodes that a predicate, or an expression, begins with, and what the others give.
+-- The nodes that a predicate, or an expression, begins with.
 abbrev begin-predicates : List Node
 begin-predicates = All 0 ∷ Any 0 ∷ Not ∷ Imp ∷ Eq ∷ Le ∷ []
 
 abbrev begin-expressions : List Node
 begin-expressions = Number 0 ∷ Old 0 ∷ New 0 ∷ Add ∷ Sub ∷ Mul ∷ If ∷ []
-
-module _ (P : Predicates) (E : Expressions) (left at : ℕ) where
-  other-p : (n : Node) → ((k : ℕ) → n ≡ All k → ⊥) → ((k : ℕ) → n ≡ Any k → ⊥) → (n ≡ Not → ⊥) → (n ≡ Imp → ⊥) → (n ≡ Eq → ⊥) → (n ≡ Le → ⊥) → truth false at left ≡ predicateBy P E (meant n) left at
-  unfolding predicateBy meant
-  other-p (All k) a b c d e f = absurd (a k refl)
-  other-p (Any k) a b c d e f = absurd (b k refl)
-  other-p Not a b c d e f = absurd (c refl)
-  other-p Imp a b c d e f = absurd (d refl)
-  other-p Eq a b c d e f = absurd (e refl)
-  other-p Le a b c d e f = absurd (f refl)
-  other-p (Number k) a b c d e f = refl
-  other-p (Old k) a b c d e f = refl
-  other-p (New k) a b c d e f = refl
-  other-p Add a b c d e f = refl
-  other-p Sub a b c d e f = refl
-  other-p Mul a b c d e f = refl
-  other-p If a b c d e f = refl
-  other-p Stray a b c d e f = refl
-
-  other-e : (before after : List ℤ) (n : Node) → ((k : ℕ) → n ≡ Number k → ⊥) → ((k : ℕ) → n ≡ Old k → ⊥) → ((k : ℕ) → n ≡ New k → ⊥) → (n ≡ Add → ⊥) → (n ≡ Sub → ⊥) → (n ≡ Mul → ⊥) → (n ≡ If → ⊥) → valued (pos 0) at left ≡ expressionBy P E before after (meant n) left at
-  unfolding expressionBy meant
-  other-e before after (All k) a b c d e f g = refl
-  other-e before after (Any k) a b c d e f g = refl
-  other-e before after Not a b c d e f g = refl
-  other-e before after Imp a b c d e f g = refl
-  other-e before after Eq a b c d e f g = refl
-  other-e before after Le a b c d e f g = refl
-  other-e before after (Number k) a b c d e f g = absurd (a k refl)
-  other-e before after (Old k) a b c d e f g = absurd (b k refl)
-  other-e before after (New k) a b c d e f g = absurd (c k refl)
-  other-e before after Add a b c d e f g = absurd (d refl)
-  other-e before after Sub a b c d e f g = absurd (e refl)
-  other-e before after Mul a b c d e f g = absurd (f refl)
-  other-e before after If a b c d e f g = absurd (g refl)
-  other-e before after Stray a b c d e f g = refl
 
 module _ (words : List ℕ) (before after : List ℤ) where
   abbrev P : Predicates
@@ -177,12 +139,14 @@ module _ (words : List ℕ) (before after : List ℤ) where
             unfolding predicateBy meant
             le-p h x hx hr = rw (by-node-p Le h, ← hx) hr
 
-            pub stray-p : OneOf (others begin-predicates) (tagOf the-type n) → r ≡ truth false (at + 1) (left - 1) → r ≡ P left at
+            pub stray-p : Other begin-predicates n → r ≡ truth false (at + 1) (left - 1) → r ≡ P left at
+            unfolding predicateBy meant
             stray-p o hr =
-                let no = none-of begin-predicates n in
-                let none =
-                other-p P E (left - 1) (at + 1) n (λ k. no (All k) o tt) (λ k. no (Any k) o tt) (no Not o tt) (no Imp o tt) (no Eq o tt) (no Le o tt) in
-                hr ∙ none ∙ sym (by-node-p n refl)
+                let said : Truth = truth false (at + 1) (left - 1) in
+                let same : (k : ℕ) → said ≡ said = λ k. refl in
+                rw (by-node-p n refl)
+                (hr ∙ by-others (λ (m : Node). said ≡ predicateBy P E (meant m) (left - 1) (at + 1)) begin-predicates n o
+                (tt, tt, tt, tt, tt, tt, same, same, same, refl, refl, refl, refl, refl))
 
           module _ (r : Value) where
             pub num-e : (k : ℕ) → n ≡ Number k → r ≡ valued (cut (unbiased k)) (at + 1) (left - 1) → r ≡ E left at
@@ -213,13 +177,14 @@ module _ (words : List ℕ) (before after : List ℤ) where
             unfolding expressionBy meant
             if-e h hr = rw (by-node-e If h) hr
 
-            pub stray-e : OneOf (others begin-expressions) (tagOf the-type n) → r ≡ valued (pos 0) (at + 1) (left - 1) → r ≡ E left at
+            pub stray-e : Other begin-expressions n → r ≡ valued (pos 0) (at + 1) (left - 1) → r ≡ E left at
+            unfolding expressionBy meant
             stray-e o hr =
-                let no = none-of begin-expressions n in
-                let none =
-                other-e P E (left - 1) (at + 1) before after n (λ k. no (Number k) o tt) (λ k. no (Old k) o tt) (λ k. no (New k) o tt) (no Add o tt) (no Sub o tt) (no Mul o tt)
-                (no If o tt) in
-                hr ∙ none ∙ sym (by-node-e n refl)
+                let said : Value = valued (pos 0) (at + 1) (left - 1) in
+                let same : (k : ℕ) → said ≡ said = λ k. refl in
+                rw (by-node-e n refl)
+                (hr ∙ by-others (λ (m : Node). said ≡ expressionBy P E before after (meant m) (left - 1) (at + 1)) begin-expressions n o
+                (same, same, refl, refl, refl, refl, tt, tt, tt, tt, tt, tt, tt, refl))
 
 pub ruleset predicate-laws = (none-p, past-p, all-p, any-p, not-p, imp-p, eq-p, le-p, stray-p)
 

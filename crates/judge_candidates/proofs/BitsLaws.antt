@@ -1,7 +1,7 @@
 -- Each way out of the code of src/bits.rt.
 use mathlib.Core.Path.{_≡_, refl, sym, ap, _∙_}
 use mathlib.Core.Bool.{Bool, true, false, not, true≢false}
-use mathlib.Core.List.{List}
+use mathlib.Core.List.{List, [], _∷_}
 use Prim.Native.Nat.{ℕ, zero, suc, _+_, _-_, _*_, _%_, _/_, _^_, _≤_, _<_}
 use native.Mathlib.Omega.{arith}
 use native.Mathlib.Nat.{div-eq-of-lt, one-mul, pow-succ'}
@@ -17,9 +17,9 @@ use Rattle.model.specs.Bounds.{maxVariables, maxAutomata}
 use Rattle.model.specs.Predicate.{named, nothing, theOld, theNew}
 use Rattle.model.specs.Table.{bit}
 use Rattle.node_words.specs.declared.Node.{Node}
-use Rattle.node_words.specs.declared.Node.the-variants.{All, Any, Not, Imp, Eq, Le, Number, Old, New, Add, Sub, Mul, If, Stray}
+use Rattle.node_words.specs.declared.Node.the-variants.{New}
 use Rattle.node_words.specs.Nodes.{meant, nodeOf}
-use Rattle.node_words.proofs.NodeLaws.{word-by}
+use Rattle.node_words.proofs.NodeLaws.{word-by, Other, by-others}
 use Rattle.judge_search.specs.Masks.{mask}
 use Rattle.judge_candidates.specs.Bits.{cap, clear, withBit, leftOut, restOf, differs, changedBits, agrees, stillBits}
 
@@ -87,25 +87,15 @@ module _ (s w : ℕ) where
   unfolding leftOut meant named
   out-new n e k h r f = rw (word-by w n (New k) e h, leftOut) f
 
-  pub out-other : (n : Node) → n ≡ nodeOf w → ((k : ℕ) → n ≡ New k → ⊥) → s ≡ leftOut s w
+  pub out-other : (n : Node) → n ≡ nodeOf w → Other (New 0 ∷ []) n → s ≡ leftOut s w
   unfolding leftOut meant named
-  out-other n e h = rw (word-by w n n e refl, leftOut) (go n h)
-    where
-      go : (m : Node) → ((k : ℕ) → m ≡ New k → ⊥) → s ≡ elim (named (meant m)) [ nothing ↦ s | theOld k ↦ s | theNew k ↦ clear s k ]
-      go (All k) d = refl
-      go (Any k) d = refl
-      go Not d = refl
-      go Imp d = refl
-      go Eq d = refl
-      go Le d = refl
-      go (Number z) d = refl
-      go (Old k) d = refl
-      go (New k) d = absurd (d k refl)
-      go Add d = refl
-      go Sub d = refl
-      go Mul d = refl
-      go If d = refl
-      go Stray d = refl
+  out-other n e o =
+      let same : (k : ℕ) → s ≡ s = λ k. refl in
+      rw (word-by w n n e refl, leftOut)
+      (by-others (λ (m : Node). s ≡ elim (named (meant m)) [ nothing ↦ s | theOld k ↦ s | theNew k ↦ clear s k ]) (New 0 ∷ []) n o
+      (same, same, refl, refl, refl, refl, same, same, tt, refl, refl, refl, refl, refl))
+
+pub ruleset out-laws = (out-new, out-other)
 
 -- `rest`
 module _ (t : List ℕ) (i left mask whole : ℕ) (inv : restOf mask (take left (drop i t)) ≡ whole) where

@@ -1,12 +1,12 @@
 -- Nodes and the words that hold them.
 use mathlib.Core.Path.{_≡_, refl, sym, ap, subst, _∙_}
-use mathlib.Core.Bool.{Bool, true, false, not}
+use mathlib.Core.Bool.{Bool, true, false, not, _||_, true≢false}
 use mathlib.Core.List.{List, [], _∷_}
 use Prim.Native.Nat.{ℕ, suc, _+_, _-_, _*_, _%_, _/_, _≤_}
 use native.Mathlib.Omega.{arith}
-use borrow.Author.Tests.{leb-true, leb-false}
+use borrow.Author.Tests.{leb-true, leb-false, eqb-true}
 use lib.IntN.{pos, negsuc}
-use lib.Dec.{T, leb}
+use lib.Dec.{T, eqb, leb}
 use lib.ListN.{getD}
 use denote.Enum.Declared.{tagOf}
 use mir.Val.{hasKey}
@@ -41,8 +41,8 @@ meant-of w =
 pub word-by : (w : ℕ) (n m : Node) → n ≡ nodeOf w → n ≡ m → wordOf w ≡ meant m
 word-by w n m e h = sym (meant-of w) ∙ ap meant (sym e ∙ h)
 
--- In the arm `_` of a `match` the node's tag is known to be one of those that have no arm of their own. So it is no node
--- that has one.
+-- In the arm `_` of a `match` the node's tag is known to be one of those that have no arm of their own. So what holds of
+-- these nodes holds of the node.
 abbrev tags : List Node → List ℕ
 tags [] = []
 tags (n ∷ ns) = tagOf the-type n ∷ tags ns
@@ -54,8 +54,72 @@ without but (t ∷ ts) = elim (hasKey but t) [ true ↦ without but ts | false �
 abbrev pub others : List Node → List ℕ
 others but = without (tags but) (tags (All 0 ∷ Any 0 ∷ Not ∷ Imp ∷ Eq ∷ Le ∷ Number 0 ∷ Old 0 ∷ New 0 ∷ Add ∷ Sub ∷ Mul ∷ If ∷ Stray ∷ []))
 
-pub none-of : (but : List Node) (n m : Node) → OneOf (others but) (tagOf the-type n) → T (not (hasKey (others but) (tagOf the-type m))) → n ≡ m → ⊥
-none-of but n m k h e = miss (others but) (tagOf the-type m) h (subst (λ (x : Node). OneOf (others but) (tagOf the-type x)) e k)
+abbrev pub Other : List Node → Node → Type 0
+Other but n = OneOf (others but) (tagOf the-type n)
+
+-- nothing is asked at the tags of those with an arm
+abbrev unless : List ℕ → ℕ → Type 0 → Type 0
+unless but t A = elim (hasKey but t) as (λ b. Type 0) [ true ↦ Unit | false ↦ A ]
+
+abbrev pub Others : (Node → Type 0) → List Node → Type 0
+Others F but =
+    unless (tags but) 0 ((k : ℕ) → F (All k)) ×
+    unless (tags but) 1 ((k : ℕ) → F (Any k)) ×
+    unless (tags but) 2 (F Not) ×
+    unless (tags but) 3 (F Imp) ×
+    unless (tags but) 4 (F Eq) ×
+    unless (tags but) 5 (F Le) ×
+    unless (tags but) 6 ((k : ℕ) → F (Number k)) ×
+    unless (tags but) 7 ((k : ℕ) → F (Old k)) ×
+    unless (tags but) 8 ((k : ℕ) → F (New k)) ×
+    unless (tags but) 9 (F Add) ×
+    unless (tags but) 10 (F Sub) ×
+    unless (tags but) 11 (F Mul) ×
+    unless (tags but) 12 (F If) ×
+    unless (tags but) 13 (F Stray)
+
+kept : (but : List ℕ) (t : ℕ) (A : Type 0) → unless but t A → hasKey but t ≡ false → A
+kept but t A a e = subst (λ (b : Bool). elim b as (λ c. Type 0) [ true ↦ Unit | false ↦ A ]) e a
+
+left-free : (but ts : List ℕ) (x : ℕ) → hasKey (without but ts) x ≡ true → hasKey but x ≡ false
+left-free but [] x h = absurd (true≢false (sym h))
+left-free but (t ∷ ts) x h = go (hasKey but t) refl (left-free but ts x) h
+  where
+    here : (c : Bool) → eqb t x ≡ c → hasKey but t ≡ false → (hasKey (without but ts) x ≡ true → hasKey but x ≡ false)
+        → (c || hasKey (without but ts) x) ≡ true → hasKey but x ≡ false
+    here true f e ih g = ap (hasKey but) (sym (eqb-true t x f)) ∙ e
+    here false f e ih g = ih g
+
+    go : (b : Bool) → hasKey but t ≡ b → (hasKey (without but ts) x ≡ true → hasKey but x ≡ false)
+        → hasKey (elim b as (λ c. List ℕ) [ true ↦ without but ts | false ↦ t ∷ without but ts ]) x ≡ true → hasKey but x ≡ false
+    go true e ih g = ih g
+    go false e ih g = here (eqb t x) refl e ih g
+
+has-key : (keys : List ℕ) (x : ℕ) → OneOf keys x → hasKey keys x ≡ true
+has-key keys x o = go (hasKey keys x) refl
+  where
+    go : (b : Bool) → hasKey keys x ≡ b → hasKey keys x ≡ true
+    go true e = e
+    go false e = absurd (miss keys x (subst (λ (b : Bool). T (not b)) (sym e) tt) o)
+
+free : (but : List Node) (t : ℕ) → OneOf (others but) t → hasKey (tags but) t ≡ false
+free but t o = left-free (tags but) (others []) t (has-key (others but) t o)
+
+pub by-others : (F : Node → Type 0) (but : List Node) (n : Node) → Other but n → Others F but → F n
+by-others F but (All k) o h = kept (tags but) 0 ((k : ℕ) → F (All k)) (h .0) (free but 0 o) k
+by-others F but (Any k) o h = kept (tags but) 1 ((k : ℕ) → F (Any k)) (h .1) (free but 1 o) k
+by-others F but Not o h = kept (tags but) 2 (F Not) (h .2) (free but 2 o)
+by-others F but Imp o h = kept (tags but) 3 (F Imp) (h .3) (free but 3 o)
+by-others F but Eq o h = kept (tags but) 4 (F Eq) (h .4) (free but 4 o)
+by-others F but Le o h = kept (tags but) 5 (F Le) (h .5) (free but 5 o)
+by-others F but (Number k) o h = kept (tags but) 6 ((k : ℕ) → F (Number k)) (h .6) (free but 6 o) k
+by-others F but (Old k) o h = kept (tags but) 7 ((k : ℕ) → F (Old k)) (h .7) (free but 7 o) k
+by-others F but (New k) o h = kept (tags but) 8 ((k : ℕ) → F (New k)) (h .8) (free but 8 o) k
+by-others F but Add o h = kept (tags but) 9 (F Add) (h .9) (free but 9 o)
+by-others F but Sub o h = kept (tags but) 10 (F Sub) (h .10) (free but 10 o)
+by-others F but Mul o h = kept (tags but) 11 (F Mul) (h .11) (free but 11 o)
+by-others F but If o h = kept (tags but) 12 (F If) (h .12) (free but 12 o)
+by-others F but Stray o h = kept (tags but) 13 (F Stray) (h .13) (free but 13 o)
 
 -- `node_of`, by the kind
 past : {k : ℕ} (n : ℕ) → n ≤ k → (k ≡ n → ⊥) → n + 1 ≤ k

@@ -1,8 +1,5 @@
 -- `judge_candidates::bits::left_out` meets its contract.
-use Rattle.judge_candidates.proofs.BitsLaws.{out-new, out-other}
-use Rattle.node_words.specs.declared.Node.the-variants.{New}
-use Rattle.node_words.proofs.NodeLaws.{none-of}
-use mathlib.Core.List.{[], _∷_}
+use Rattle.judge_candidates.proofs.BitsLaws.{out-laws}
 use borrow.Author.Needs.{needs}
 use Rattle.judge_candidates.proofs.bits.left_out.Statement.{statement}
 use Rattle.judge_candidates.proofs.bits.left_out.Tie as tie
@@ -17,10 +14,10 @@ clear-requires : tie.Need-clear-requires
 clear-requires c κs = search needs
 
 returns : tie.Need-returns
-returns c = search (needs, out-new)
+returns c = search (needs, out-laws)
 
 returns-2 : tie.Need-returns-2
-returns-2 c = out-other _ _ _ (c .before .node-of .ensures) (λ k. none-of (New 0 ∷ []) _ (New k) (c .match .keys2) tt)
+returns-2 c = search (needs, out-laws)
 
 pub left-out-spec : {M : Type 1} → statement M
 left-out-spec =
