@@ -13,7 +13,7 @@ use Rattle.model.specs.Table.{wordOf, unbiased}
 use Rattle.node_words.specs.declared.Node.{Node}
 use Rattle.node_words.specs.declared.Node.the-variants.{All, Any, Not, Imp, Eq, Le, Number, Old, New, Add, Sub, Mul, If}
 use Rattle.node_words.specs.Nodes.{meant, nodeOf}
-use Rattle.node_words.proofs.NodeLaws.{word-by, Other, by-others}
+use Rattle.node_words.proofs.NodeLaws.{word-by, Other, by-others, begin-predicates, begin-expressions}
 use Rattle.arithmetic.specs.Cut.{cut}
 use Rattle.evaluator.specs.declared.nodes.Truth.{Truth}
 use Rattle.evaluator.specs.declared.nodes.Value.{Value}
@@ -21,13 +21,6 @@ use Rattle.evaluator.specs.declared.nodes.Gathered.{Gathered}
 use Rattle.evaluator.specs.declared.nodes.Pair.{Pair}
 use Rattle.evaluator.specs.Evaluate.{truth, valued, gathered, paired, Predicates, Expressions, gather, implication, numbers, choice, predicateBy, expressionBy, predicateStep, expressionStep, predicateAt, expressionAt}
 use Rattle.evaluator.proofs.Steps.{predicate-is, expression-is}
-
--- The nodes that a predicate, or an expression, begins with.
-abbrev begin-predicates : List Node
-begin-predicates = All 0 ∷ Any 0 ∷ Not ∷ Imp ∷ Eq ∷ Le ∷ []
-
-abbrev begin-expressions : List Node
-begin-expressions = Number 0 ∷ Old 0 ∷ New 0 ∷ Add ∷ Sub ∷ Mul ∷ If ∷ []
 
 module _ (words : List ℕ) (before after : List ℤ) where
   abbrev P : Predicates

@@ -2,18 +2,24 @@
 use mathlib.Core.Path.{_≡_, refl, sym, ap, subst, _∙_}
 use mathlib.Core.Bool.{Bool, true, false, not, _||_, true≢false}
 use mathlib.Core.List.{List, [], _∷_}
-use Prim.Native.Nat.{ℕ, suc, _+_, _-_, _*_, _%_, _/_, _≤_}
+use Prim.Native.Nat.{ℕ, suc, _+_, _-_, _*_, _%_, _/_, _≤_, _<_}
 use native.Mathlib.Omega.{arith}
-use borrow.Author.Tests.{leb-true, leb-false, eqb-true}
-use lib.IntN.{pos, negsuc}
+use borrow.Author.Tests.{leb-true, leb-false, le-leb, eqb-true}
+use native.Mathlib.Nat.{mod-eq-of-lt}
+use lib.IntN.{ℤ, pos, negsuc}
+use lib.Signed.{leZ}
 use lib.Dec.{T, eqb, leb}
 use lib.ListN.{getD}
 use denote.Enum.Declared.{tagOf}
 use mir.Val.{hasKey}
 use types.Run.{OneOf, miss}
-use Rattle.model.specs.Bounds.{bias}
-use Rattle.model.specs.Predicate.{Word, numWord, stray}
+use Rattle.model.specs.Basic.{between}
+use Rattle.model.specs.Bounds.{bias, leastNumber, greatestNumber, maxOperands, lastVariable}
+use Rattle.model.specs.Predicate.{Word, allOf, anyOf, notWord, impWord, eqWord, leWord, numWord, oldWord, newWord, addWord, subWord, mulWord, ifWord, stray}
+use Rattle.model.specs.Limits.{inRange}
 use Rattle.model.specs.Table.{biased, unbiased, code, kinds, wordOf}
+use Rattle.model.proofs.Tests.{and-right}
+use Rattle.model.proofs.Decode.{number-back}
 use Rattle.model.proofs.WordKinds.{word-of, each-at, kind-from}
 use Rattle.node_words.specs.declared.Node.{Node}
 use Rattle.node_words.specs.declared.Node.the-variants.{All, Any, Not, Imp, Eq, Le, Number, Old, New, Add, Sub, Mul, If, Stray}
@@ -28,6 +34,31 @@ biased-unbiased n = go (leb bias n) refl
     go : (t : Bool) → leb bias n ≡ t → biased (elim t [ true ↦ pos (n - bias) | false ↦ negsuc (bias - suc n) ]) ≡ n
     go true e = let l = leb-true bias n e in omega arith
     go false e = let l = leb-false bias n e in omega arith
+
+-- the numbers in range are those that are at most 65535 with the bias
+leb-same : (k l m n : ℕ) → (k ≤ l → m ≤ n) → (m ≤ n → k ≤ l) → leb k l ≡ leb m n
+leb-same k l m n to from = go (leb k l) refl (leb m n) refl
+  where
+    go : (t : Bool) → leb k l ≡ t → (u : Bool) → leb m n ≡ u → leb k l ≡ leb m n
+    go true e u f = e ∙ sym (le-leb m n (to (leb-true k l e)))
+    go false e true f = let g = leb-false k l e in let h = from (leb-true m n f) in absurd (omega arith)
+    go false e false f = e ∙ sym f
+
+pub number-span : (n : ℕ) → leb n 65535 ≡ between leastNumber greatestNumber (unbiased n)
+unfolding between unbiased
+number-span n = go (leb bias n) refl
+  where
+    go : (t : Bool) → leb bias n ≡ t → leb n 65535 ≡ between leastNumber greatestNumber (elim t [ true ↦ pos (n - bias) | false ↦ negsuc (bias - suc n) ])
+    go true e = let l = leb-true bias n e in leb-same n 65535 (n - bias) 32767 (λ h. omega arith) (λ h. omega arith)
+    go false e =
+        let l = leb-false bias n e in
+        le-leb n 65535 (omega arith) ∙ sym (rw (le-leb (bias - suc n) 32767 (omega arith)))
+
+-- a number in range, with the bias
+pub biased-small : (z : ℤ) → between leastNumber greatestNumber z ≡ true → biased z ≤ 65535
+unfolding between biased
+biased-small (pos n) h = omega (arith, leb-true n 32767 (and-right (leZ leastNumber (pos n)) (leZ (pos n) greatestNumber) h))
+biased-small (negsuc n) h = omega arith
 
 -- the node that a word holds stands for the word
 pub meant-of : (w : ℕ) → meant (nodeOf w) ≡ wordOf w
@@ -120,6 +151,13 @@ by-others F but Sub o h = kept (tags but) 10 (F Sub) (h .10) (free but 10 o)
 by-others F but Mul o h = kept (tags but) 11 (F Mul) (h .11) (free but 11 o)
 by-others F but If o h = kept (tags but) 12 (F If) (h .12) (free but 12 o)
 by-others F but Stray o h = kept (tags but) 13 (F Stray) (h .13) (free but 13 o)
+
+-- the nodes that a predicate begins with, and an expression
+abbrev pub begin-predicates : List Node
+begin-predicates = All 0 ∷ Any 0 ∷ Not ∷ Imp ∷ Eq ∷ Le ∷ []
+
+abbrev pub begin-expressions : List Node
+begin-expressions = Number 0 ∷ Old 0 ∷ New 0 ∷ Add ∷ Sub ∷ Mul ∷ If ∷ []
 
 -- `node_of`, by the kind
 past : {k : ℕ} (n : ℕ) → n ≤ k → (k ≡ n → ⊥) → n + 1 ≤ k
@@ -250,3 +288,41 @@ module _ (n : Node) where
   word-stray h = rw h
 
 pub ruleset word-laws = (word-all, word-any, word-not, word-imp, word-eq, word-le, word-number, word-old, word-new, word-add, word-sub, word-mul, word-if, word-stray)
+
+-- a word of 32 bits has room for its node's argument, so its node's word is the code of what it says
+room-small : (k : ℕ) → k < 268435456 → room k ≡ k
+unfolding room
+room-small k h = mod-eq-of-lt h
+
+fits-node : (w : ℕ) → w < 4294967296 → fitted (nodeOf w) ≡ nodeOf w
+unfolding fitted nodeOf nodeFor wordOf kinds
+fits-node w h =
+    let a = w / 16 in
+    let e : room a ≡ a = room-small a (omega arith) in
+    let number : Number (room (biased (unbiased a))) ≡ Number (biased (unbiased a)) = ap Number (rw (biased-unbiased a) e) in
+    each-at (λ (x : Word). fitted (nodeFor x) ≡ nodeFor x) (kinds a)
+    (ap All e, (ap Any e, (refl, (refl, (refl, (refl, (number, (ap Old e, (ap New e, (refl, (refl, (refl, (refl, refl))))))))))))) (w % 16)
+
+pub word-again : (w : ℕ) → w < 4294967296 → wordFor (nodeOf w) ≡ code (wordOf w)
+unfolding wordFor
+word-again w h = ap (λ (n : Node). code (meant n)) (fits-node w h) ∙ ap code (meant-of w)
+
+-- so has a word for the node of a word in range
+pub word-for : (x : Word) → inRange x ≡ true → wordFor (nodeFor x) ≡ code x
+unfolding wordFor fitted nodeFor meant inRange
+word-for (allOf k) h = let l = leb-true k maxOperands h in ap (λ (j : ℕ). code (allOf j)) (room-small k (omega arith))
+word-for (anyOf k) h = let l = leb-true k maxOperands h in ap (λ (j : ℕ). code (anyOf j)) (room-small k (omega arith))
+word-for notWord h = refl
+word-for impWord h = refl
+word-for eqWord h = refl
+word-for leWord h = refl
+word-for (numWord z) h =
+    let l = biased-small z h in
+    ap (λ (n : ℕ). code (numWord (unbiased n))) (room-small (biased z) (omega arith)) ∙ ap (λ (y : ℤ). code (numWord y)) (number-back z h)
+word-for (oldWord k) h = let l = leb-true k lastVariable h in ap (λ (j : ℕ). code (oldWord j)) (room-small k (omega arith))
+word-for (newWord k) h = let l = leb-true k lastVariable h in ap (λ (j : ℕ). code (newWord j)) (room-small k (omega arith))
+word-for addWord h = refl
+word-for subWord h = refl
+word-for mulWord h = refl
+word-for ifWord h = refl
+word-for stray h = refl
