@@ -35,6 +35,11 @@ biased-unbiased n = go (leb bias n) refl
     go true e = let l = leb-true bias n e in omega arith
     go false e = let l = leb-false bias n e in omega arith
 
+-- a number from 0 up
+pub unbiased-up : (z : ℕ) → unbiased (bias + z) ≡ pos z
+unfolding unbiased
+unbiased-up z = rw (le-leb bias (bias + z) (omega arith), unbiased) (ap pos (omega arith))
+
 -- the numbers in range are those that are at most 65535 with the bias
 leb-same : (k l m n : ℕ) → (k ≤ l → m ≤ n) → (m ≤ n → k ≤ l) → leb k l ≡ leb m n
 leb-same k l m n to from = go (leb k l) refl (leb m n) refl
@@ -307,20 +312,42 @@ pub word-again : (w : ℕ) → w < 4294967296 → wordFor (nodeOf w) ≡ code (w
 unfolding wordFor
 word-again w h = ap (λ (n : Node). code (meant n)) (fits-node w h) ∙ ap code (meant-of w)
 
--- so has a word for the node of a word in range
+-- so has the word of a node with a small argument
+module _ (k : ℕ) (h : k < 268435456) where
+  pub all-small : wordFor (All k) ≡ code (allOf k)
+  unfolding wordFor fitted meant
+  all-small = ap (λ (j : ℕ). code (allOf j)) (room-small k h)
+
+  pub any-small : wordFor (Any k) ≡ code (anyOf k)
+  unfolding wordFor fitted meant
+  any-small = ap (λ (j : ℕ). code (anyOf j)) (room-small k h)
+
+  pub old-small : wordFor (Old k) ≡ code (oldWord k)
+  unfolding wordFor fitted meant
+  old-small = ap (λ (j : ℕ). code (oldWord j)) (room-small k h)
+
+  pub new-small : wordFor (New k) ≡ code (newWord k)
+  unfolding wordFor fitted meant
+  new-small = ap (λ (j : ℕ). code (newWord j)) (room-small k h)
+
+pub number-small : (n : ℕ) → n < 268435456 → wordFor (Number n) ≡ code (numWord (unbiased n))
+unfolding wordFor fitted meant
+number-small n h = ap (λ (j : ℕ). code (numWord (unbiased j))) (room-small n h)
+
+-- and with one in range
 pub word-for : (x : Word) → inRange x ≡ true → wordFor (nodeFor x) ≡ code x
 unfolding wordFor fitted nodeFor meant inRange
-word-for (allOf k) h = let l = leb-true k maxOperands h in ap (λ (j : ℕ). code (allOf j)) (room-small k (omega arith))
-word-for (anyOf k) h = let l = leb-true k maxOperands h in ap (λ (j : ℕ). code (anyOf j)) (room-small k (omega arith))
+word-for (allOf k) h = let l = leb-true k maxOperands h in all-small k (omega arith)
+word-for (anyOf k) h = let l = leb-true k maxOperands h in any-small k (omega arith)
 word-for notWord h = refl
 word-for impWord h = refl
 word-for eqWord h = refl
 word-for leWord h = refl
 word-for (numWord z) h =
     let l = biased-small z h in
-    ap (λ (n : ℕ). code (numWord (unbiased n))) (room-small (biased z) (omega arith)) ∙ ap (λ (y : ℤ). code (numWord y)) (number-back z h)
-word-for (oldWord k) h = let l = leb-true k lastVariable h in ap (λ (j : ℕ). code (oldWord j)) (room-small k (omega arith))
-word-for (newWord k) h = let l = leb-true k lastVariable h in ap (λ (j : ℕ). code (newWord j)) (room-small k (omega arith))
+    number-small (biased z) (omega arith) ∙ ap (λ (y : ℤ). code (numWord y)) (number-back z h)
+word-for (oldWord k) h = let l = leb-true k lastVariable h in old-small k (omega arith)
+word-for (newWord k) h = let l = leb-true k lastVariable h in new-small k (omega arith)
 word-for addWord h = refl
 word-for subWord h = refl
 word-for mulWord h = refl
