@@ -17,7 +17,7 @@ use Rattle.model.specs.Basic.{between}
 use Rattle.model.specs.Bounds.{bias, leastNumber, greatestNumber, maxOperands, lastVariable}
 use Rattle.model.specs.Predicate.{Word, allOf, anyOf, notWord, impWord, eqWord, leWord, numWord, oldWord, newWord, addWord, subWord, mulWord, ifWord, stray}
 use Rattle.model.specs.Limits.{inRange}
-use Rattle.model.specs.Table.{biased, unbiased, code, kinds, wordOf}
+use Rattle.model.specs.Table.{biased, unbiased, nodeWord, kindOf, argumentOf, code, kinds, wordOf}
 use Rattle.model.proofs.Tests.{and-right}
 use Rattle.model.proofs.Decode.{number-back}
 use Rattle.model.proofs.WordKinds.{word-of, each-at, kind-from}
@@ -69,9 +69,9 @@ biased-small (negsuc n) h = omega arith
 pub meant-of : (w : ℕ) → meant (nodeOf w) ≡ wordOf w
 unfolding meant nodeFor nodeOf wordOf kinds
 meant-of w =
-    let number = ap (λ (n : ℕ). numWord (unbiased n)) (biased-unbiased (w / 16)) in
-    each-at (λ (x : Word). meant (nodeFor x) ≡ x) (kinds (w / 16))
-    (refl, (refl, (refl, (refl, (refl, (refl, (number, (refl, (refl, (refl, (refl, (refl, (refl, refl))))))))))))) (w % 16)
+    let number = ap (λ (n : ℕ). numWord (unbiased n)) (biased-unbiased (argumentOf w)) in
+    each-at (λ (x : Word). meant (nodeFor x) ≡ x) (kinds (argumentOf w))
+    (refl, (refl, (refl, (refl, (refl, (refl, (number, (refl, (refl, (refl, (refl, (refl, (refl, refl))))))))))))) (kindOf w)
 
 -- so a word is known by its node
 pub word-by : (w : ℕ) (n m : Node) → n ≡ nodeOf w → n ≡ m → wordOf w ≡ meant m
@@ -170,7 +170,7 @@ past n h ne = omega arith
 
 module _ (w : ℕ) where
   held : (kind : ℕ) → w % 16 ≡ kind → nodeFor (getD (kinds (w / 16)) kind stray) ≡ nodeOf w
-  unfolding nodeOf
+  unfolding nodeOf kindOf argumentOf
   held kind e = rw (word-of w kind e)
 
   pub holds-all : w % 16 ≡ 0 → All (w / 16) ≡ nodeOf w
@@ -226,7 +226,7 @@ module _ (w : ℕ) where
   holds-if e = held 12 e
 
   pub holds-none : (w % 16 ≡ 0 → ⊥) → (w % 16 ≡ 1 → ⊥) → (w % 16 ≡ 2 → ⊥) → (w % 16 ≡ 3 → ⊥) → (w % 16 ≡ 4 → ⊥) → (w % 16 ≡ 5 → ⊥) → (w % 16 ≡ 6 → ⊥) → (w % 16 ≡ 7 → ⊥) → (w % 16 ≡ 8 → ⊥) → (w % 16 ≡ 9 → ⊥) → (w % 16 ≡ 10 → ⊥) → (w % 16 ≡ 11 → ⊥) → (w % 16 ≡ 12 → ⊥) → Stray ≡ nodeOf w
-  unfolding nodeFor nodeOf kinds
+  unfolding nodeFor nodeOf kinds kindOf argumentOf
   holds-none a b c d e f g h i j k l m =
       let six = past 5 (past 4 (past 3 (past 2 (past 1 (past 0 (omega arith) a) b) c) d) e) f in
       let above = past 12 (past 11 (past 10 (past 9 (past 8 (past 7 (past 6 six g) h) i) j) k) l) m in
@@ -237,59 +237,59 @@ pub ruleset holds-laws = (holds-all, holds-any, holds-not, holds-imp, holds-eq, 
 -- `word_of`, by the node
 module _ (n : Node) where
   pub word-all : (k r : ℕ) → n ≡ All k → r ≡ 0 + 16 * (k % 268435456) → r ≡ wordFor n
-  unfolding wordFor fitted room meant code
+  unfolding wordFor fitted room meant code nodeWord
   word-all k r h e = rw h e
 
   pub word-any : (k r : ℕ) → n ≡ Any k → r ≡ 1 + 16 * (k % 268435456) → r ≡ wordFor n
-  unfolding wordFor fitted room meant code
+  unfolding wordFor fitted room meant code nodeWord
   word-any k r h e = rw h e
 
   pub word-not : n ≡ Not → 2 ≡ wordFor n
-  unfolding wordFor fitted meant code
+  unfolding wordFor fitted meant code nodeWord
   word-not h = rw h
 
   pub word-imp : n ≡ Imp → 3 ≡ wordFor n
-  unfolding wordFor fitted meant code
+  unfolding wordFor fitted meant code nodeWord
   word-imp h = rw h
 
   pub word-eq : n ≡ Eq → 4 ≡ wordFor n
-  unfolding wordFor fitted meant code
+  unfolding wordFor fitted meant code nodeWord
   word-eq h = rw h
 
   pub word-le : n ≡ Le → 5 ≡ wordFor n
-  unfolding wordFor fitted meant code
+  unfolding wordFor fitted meant code nodeWord
   word-le h = rw h
 
   pub word-number : (k r : ℕ) → n ≡ Number k → r ≡ 6 + 16 * (k % 268435456) → r ≡ wordFor n
-  unfolding wordFor fitted room meant code
+  unfolding wordFor fitted room meant code nodeWord
   word-number k r h e = rw (h, biased-unbiased (k % 268435456)) e
 
   pub word-old : (k r : ℕ) → n ≡ Old k → r ≡ 7 + 16 * (k % 268435456) → r ≡ wordFor n
-  unfolding wordFor fitted room meant code
+  unfolding wordFor fitted room meant code nodeWord
   word-old k r h e = rw h e
 
   pub word-new : (k r : ℕ) → n ≡ New k → r ≡ 8 + 16 * (k % 268435456) → r ≡ wordFor n
-  unfolding wordFor fitted room meant code
+  unfolding wordFor fitted room meant code nodeWord
   word-new k r h e = rw h e
 
   pub word-add : n ≡ Add → 9 ≡ wordFor n
-  unfolding wordFor fitted meant code
+  unfolding wordFor fitted meant code nodeWord
   word-add h = rw h
 
   pub word-sub : n ≡ Sub → 10 ≡ wordFor n
-  unfolding wordFor fitted meant code
+  unfolding wordFor fitted meant code nodeWord
   word-sub h = rw h
 
   pub word-mul : n ≡ Mul → 11 ≡ wordFor n
-  unfolding wordFor fitted meant code
+  unfolding wordFor fitted meant code nodeWord
   word-mul h = rw h
 
   pub word-if : n ≡ If → 12 ≡ wordFor n
-  unfolding wordFor fitted meant code
+  unfolding wordFor fitted meant code nodeWord
   word-if h = rw h
 
   pub word-stray : n ≡ Stray → 15 ≡ wordFor n
-  unfolding wordFor fitted meant code
+  unfolding wordFor fitted meant code nodeWord
   word-stray h = rw h
 
 pub ruleset word-laws = (word-all, word-any, word-not, word-imp, word-eq, word-le, word-number, word-old, word-new, word-add, word-sub, word-mul, word-if, word-stray)
@@ -300,13 +300,13 @@ unfolding room
 room-small k h = mod-eq-of-lt h
 
 fits-node : (w : ℕ) → w < 4294967296 → fitted (nodeOf w) ≡ nodeOf w
-unfolding fitted nodeOf nodeFor wordOf kinds
+unfolding fitted nodeOf nodeFor wordOf kinds argumentOf
 fits-node w h =
-    let a = w / 16 in
+    let a = argumentOf w in
     let e : room a ≡ a = room-small a (omega arith) in
     let number : Number (room (biased (unbiased a))) ≡ Number (biased (unbiased a)) = ap Number (rw (biased-unbiased a) e) in
     each-at (λ (x : Word). fitted (nodeFor x) ≡ nodeFor x) (kinds a)
-    (ap All e, (ap Any e, (refl, (refl, (refl, (refl, (number, (ap Old e, (ap New e, (refl, (refl, (refl, (refl, refl))))))))))))) (w % 16)
+    (ap All e, (ap Any e, (refl, (refl, (refl, (refl, (number, (ap Old e, (ap New e, (refl, (refl, (refl, (refl, refl))))))))))))) (kindOf w)
 
 pub word-again : (w : ℕ) → w < 4294967296 → wordFor (nodeOf w) ≡ code (wordOf w)
 unfolding wordFor
@@ -353,3 +353,38 @@ word-for subWord h = refl
 word-for mulWord h = refl
 word-for ifWord h = refl
 word-for stray h = refl
+
+-- the code of a word in range has 32 bits; only `stray` has the code of `stray`
+pub code-small : (x : Word) → inRange x ≡ true → code x < 4294967296
+unfolding code nodeWord inRange
+code-small (allOf k) h = let l = leb-true k maxOperands h in omega arith
+code-small (anyOf k) h = let l = leb-true k maxOperands h in omega arith
+code-small notWord h = omega arith
+code-small impWord h = omega arith
+code-small eqWord h = omega arith
+code-small leWord h = omega arith
+code-small (numWord z) h = let l = biased-small z h in omega arith
+code-small (oldWord k) h = let l = leb-true k lastVariable h in omega arith
+code-small (newWord k) h = let l = leb-true k lastVariable h in omega arith
+code-small addWord h = omega arith
+code-small subWord h = omega arith
+code-small mulWord h = omega arith
+code-small ifWord h = omega arith
+code-small stray h = omega arith
+
+pub stray-only : (x : Word) → code x ≡ code stray → x ≡ stray
+unfolding code nodeWord
+stray-only (allOf k) h = absurd (omega arith)
+stray-only (anyOf k) h = absurd (omega arith)
+stray-only notWord h = absurd (omega arith)
+stray-only impWord h = absurd (omega arith)
+stray-only eqWord h = absurd (omega arith)
+stray-only leWord h = absurd (omega arith)
+stray-only (numWord z) h = absurd (omega arith)
+stray-only (oldWord k) h = absurd (omega arith)
+stray-only (newWord k) h = absurd (omega arith)
+stray-only addWord h = absurd (omega arith)
+stray-only subWord h = absurd (omega arith)
+stray-only mulWord h = absurd (omega arith)
+stray-only ifWord h = absurd (omega arith)
+stray-only stray h = refl
