@@ -23,7 +23,7 @@ use Rattle.table_places.proofs.OutlineLaws as O
 use Rattle.table_places.proofs.OutlineLaws.{read, locationWords, automatonWords, locations-count, first-location, after-automaton, after-predicate}
 use Rattle.node_words.specs.declared.Node.the-variants.{All, Number, Old}
 use Rattle.node_words.specs.Nodes.{wordFor}
-use Rattle.node_words.proofs.NodeLaws.{unbiased-up, all-small, old-small, number-small}
+use Rattle.node_words.proofs.NodeLaws.{unbiased-up, all-held, old-held, number-held}
 use Rattle.merge_words.specs.Append.{narrow}
 use Rattle.merge_words.specs.Runs.{nodesAt}
 use Rattle.merge_words.specs.NodeWords.{upward, allNode, numberNode, oldNode, pointerOf, most, capped}
@@ -123,16 +123,16 @@ pub number-code : (z : ℕ) → z < 65536 → numberNode z ≡ code (numWord (po
 unfolding numberNode
 number-code z h =
     ap (λ (n : ℕ). wordFor (Number (narrow n))) (upward-small z (omega arith)) ∙
-    ap (λ (n : ℕ). wordFor (Number n)) (narrow-is (bias + z) (omega arith)) ∙ number-small (bias + z) (omega arith) ∙
+    ap (λ (n : ℕ). wordFor (Number n)) (narrow-is (bias + z) (omega arith)) ∙ number-held (bias + z) (omega arith) ∙
     ap (λ (y : ℤ). code (numWord y)) (unbiased-up z)
 
 pub old-code : (k : ℕ) → k < 65536 → oldNode k ≡ code (oldWord k)
 unfolding oldNode
-old-code k h = ap (λ (n : ℕ). wordFor (Old n)) (narrow-is k (omega arith)) ∙ old-small k (omega arith)
+old-code k h = ap (λ (n : ℕ). wordFor (Old n)) (narrow-is k (omega arith)) ∙ old-held k (omega arith)
 
 pub all-code : (k : ℕ) → k < 65536 → allNode k ≡ code (allOf k)
 unfolding allNode
-all-code k h = ap (λ (n : ℕ). wordFor (All n)) (narrow-is k (omega arith)) ∙ all-small k (omega arith)
+all-code k h = ap (λ (n : ℕ). wordFor (All n)) (narrow-is k (omega arith)) ∙ all-held k (omega arith)
 
 -- a past location
 pub past-location : (t : List ℕ) (at : ℕ) (l : Location) (rest : List ℕ) → drop at t ≡ predWords (l .init) ++ (predWords (l .inv) ++ rest) → drop (afterPredicate t (afterPredicate t at)) t ≡ rest

@@ -29,7 +29,7 @@ use Rattle.table_places.proofs.OutlineLaws.{read, reached, wordsOf as linesOf, 
 use Rattle.merge_words.specs.Runs.{nodesAt}
 use Rattle.node_words.specs.declared.Node.the-variants.{New}
 use Rattle.node_words.specs.Nodes.{wordFor}
-use Rattle.node_words.proofs.NodeLaws.{new-small}
+use Rattle.node_words.proofs.NodeLaws.{new-held}
 use Rattle.merge_words.specs.NodeWords.{allNode, numberNode, oldNode, newNode, pointerOf, most, capped}
 use Rattle.merge_words.specs.Head.{variablesOf, automataOf}
 use Rattle.merge_words.specs.Depths.{updateDeep, updatesDeep}
@@ -168,7 +168,7 @@ adds-none m t i = record { updates = refl; moves = refl; operands-add = λ sum h
 
 new-code : (k : ℕ) → k < 65536 → newNode k ≡ code (newWord k)
 unfolding newNode
-new-code k h = ap (λ (n : ℕ). wordFor (New n)) (narrow-is k (omega arith)) ∙ new-small k (omega arith)
+new-code k h = ap (λ (n : ℕ). wordFor (New n)) (narrow-is k (omega arith)) ∙ new-held k (omega arith)
 
 module _ (m : Model) (t : List ℕ) (i place : ℕ) (e : Edge) (rest : List ℕ) (at : drop place t ≡ lineWords (edgeLine e) ++ rest) (above : 1 ≤ place) where
   taker : List Taker

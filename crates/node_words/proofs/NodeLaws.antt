@@ -314,40 +314,40 @@ word-again w h = ap (λ (n : Node). code (meant n)) (fits-node w h) ∙ ap code 
 
 -- so has the word of a node with a small argument
 module _ (k : ℕ) (h : k < 268435456) where
-  pub all-small : wordFor (All k) ≡ code (allOf k)
+  pub all-held : wordFor (All k) ≡ code (allOf k)
   unfolding wordFor fitted meant
-  all-small = ap (λ (j : ℕ). code (allOf j)) (room-small k h)
+  all-held = ap (λ (j : ℕ). code (allOf j)) (room-small k h)
 
-  pub any-small : wordFor (Any k) ≡ code (anyOf k)
+  pub any-held : wordFor (Any k) ≡ code (anyOf k)
   unfolding wordFor fitted meant
-  any-small = ap (λ (j : ℕ). code (anyOf j)) (room-small k h)
+  any-held = ap (λ (j : ℕ). code (anyOf j)) (room-small k h)
 
-  pub old-small : wordFor (Old k) ≡ code (oldWord k)
+  pub old-held : wordFor (Old k) ≡ code (oldWord k)
   unfolding wordFor fitted meant
-  old-small = ap (λ (j : ℕ). code (oldWord j)) (room-small k h)
+  old-held = ap (λ (j : ℕ). code (oldWord j)) (room-small k h)
 
-  pub new-small : wordFor (New k) ≡ code (newWord k)
+  pub new-held : wordFor (New k) ≡ code (newWord k)
   unfolding wordFor fitted meant
-  new-small = ap (λ (j : ℕ). code (newWord j)) (room-small k h)
+  new-held = ap (λ (j : ℕ). code (newWord j)) (room-small k h)
 
-pub number-small : (n : ℕ) → n < 268435456 → wordFor (Number n) ≡ code (numWord (unbiased n))
+pub number-held : (n : ℕ) → n < 268435456 → wordFor (Number n) ≡ code (numWord (unbiased n))
 unfolding wordFor fitted meant
-number-small n h = ap (λ (j : ℕ). code (numWord (unbiased j))) (room-small n h)
+number-held n h = ap (λ (j : ℕ). code (numWord (unbiased j))) (room-small n h)
 
 -- and with one in range
 pub word-for : (x : Word) → inRange x ≡ true → wordFor (nodeFor x) ≡ code x
 unfolding wordFor fitted nodeFor meant inRange
-word-for (allOf k) h = let l = leb-true k maxOperands h in all-small k (omega arith)
-word-for (anyOf k) h = let l = leb-true k maxOperands h in any-small k (omega arith)
+word-for (allOf k) h = let l = leb-true k maxOperands h in all-held k (omega arith)
+word-for (anyOf k) h = let l = leb-true k maxOperands h in any-held k (omega arith)
 word-for notWord h = refl
 word-for impWord h = refl
 word-for eqWord h = refl
 word-for leWord h = refl
 word-for (numWord z) h =
     let l = biased-small z h in
-    number-small (biased z) (omega arith) ∙ ap (λ (y : ℤ). code (numWord y)) (number-back z h)
-word-for (oldWord k) h = let l = leb-true k lastVariable h in old-small k (omega arith)
-word-for (newWord k) h = let l = leb-true k lastVariable h in new-small k (omega arith)
+    number-held (biased z) (omega arith) ∙ ap (λ (y : ℤ). code (numWord y)) (number-back z h)
+word-for (oldWord k) h = let l = leb-true k lastVariable h in old-held k (omega arith)
+word-for (newWord k) h = let l = leb-true k lastVariable h in new-held k (omega arith)
 word-for addWord h = refl
 word-for subWord h = refl
 word-for mulWord h = refl

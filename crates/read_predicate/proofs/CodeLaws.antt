@@ -32,7 +32,7 @@ use Rattle.text_bytes.proofs.Places.{take-rest}
 use Rattle.node_words.specs.declared.Node.{Node}
 use Rattle.node_words.specs.declared.Node.the-variants.{All, Any, Number, Old, New, Stray}
 use Rattle.node_words.specs.Nodes.{meant, nodeFor, fitted, wordFor}
-use Rattle.node_words.proofs.NodeLaws.{all-small, any-small, old-small, new-small, word-for}
+use Rattle.node_words.proofs.NodeLaws.{all-held, any-held, old-held, new-held, word-for}
 use Rattle.read_predicate.specs.declared.codes.Numbered.{Numbered}
 use Rattle.read_predicate.specs.declared.codes.Numbered.the-variants as C
 use Rattle.read_predicate.specs.Shape.{shapeOf}
@@ -125,10 +125,10 @@ up-small (some n) high k e = go (leb n high) refl e
 -- the word of a node with a small number is the code
 with-code : (which : Numbered) (k : ℕ) → k ≤ 512 → wordFor (nodeFor (wordWith which k)) ≡ code (wordWith which k)
 unfolding wordWith nodeFor
-with-code C.All k h = all-small k (omega arith)
-with-code C.Any k h = any-small k (omega arith)
-with-code C.Old k h = old-small k (omega arith)
-with-code C.New k h = new-small k (omega arith)
+with-code C.All k h = all-held k (omega arith)
+with-code C.Any k h = any-held k (omega arith)
+with-code C.Old k h = old-held k (omega arith)
+with-code C.New k h = new-held k (omega arith)
 
 module _ (which : Numbered) (high : ℕ) (s : Bytes) (m : Natural) (e : m ≡ naturalIn s high) where
   pub argument-in : high ≤ 512 → (k : ℕ) → m ≡ N.In k → (n : Node) → n ≡ nodeFor (wordWith which k) → (r : ℕ) → r ≡ wordFor n → r ≡ argumentCode which high s
