@@ -1,20 +1,19 @@
 -- Each way out of the code of src/lib.rt.
 use mathlib.Core.Path.{_≡_, refl, sym, ap, _∙_}
 use mathlib.Core.Bool.{Bool, true, false, not, cond, _&&_, _||_, and-false, or-false}
-use mathlib.Core.List.{List}
-use Prim.Native.Nat.{ℕ, zero, suc, _+_, _-_, _%_, _/_, _<_, _≤_}
+use mathlib.Core.List.{List, [], _∷_}
+use Prim.Native.Nat.{ℕ, zero, suc, _+_, _-_, _<_, _≤_}
 use native.Mathlib.Numerals.{sub-one}
-use native.Mathlib.Omega.{arith}
-use borrow.Author.Tests.{ltb-true, ltb-false, lt-ltb, le-ltb}
+use borrow.Author.Tests.{lt-ltb, le-ltb}
 use lib.IntN.{ℤ, pos, _+ℤ_, _-ℤ_, _*ℤ_}
 use lib.Signed.{leZ}
-use lib.ListN.{length, getD, take, drop}
-use lib.Seq.{getD-take, getD-drop}
-use lib.Dec.{ltb}
+use lib.ListN.{length, getD}
 use Rattle.model.specs.Basic.{eqZ}
-use Rattle.model.specs.Predicate.{Word, stray}
-use Rattle.model.specs.Table.{kinds, wordOf, unbiased}
-use Rattle.model.proofs.WordKinds.{word-of, each-at}
+use Rattle.model.specs.Table.{wordOf, unbiased}
+use Rattle.node_words.specs.declared.Node.{Node}
+use Rattle.node_words.specs.declared.Node.the-variants.{All, Any, Not, Imp, Eq, Le, Number, Old, New, Add, Sub, Mul, If}
+use Rattle.node_words.specs.Nodes.{meant, nodeOf}
+use Rattle.node_words.proofs.NodeLaws.{word-by, Other, by-others, begin-predicates, begin-expressions}
 use Rattle.arithmetic.specs.Cut.{cut}
 use Rattle.evaluator.specs.declared.nodes.Truth.{Truth}
 use Rattle.evaluator.specs.declared.nodes.Value.{Value}
@@ -22,34 +21,6 @@ use Rattle.evaluator.specs.declared.nodes.Gathered.{Gathered}
 use Rattle.evaluator.specs.declared.nodes.Pair.{Pair}
 use Rattle.evaluator.specs.Evaluate.{truth, valued, gathered, paired, Predicates, Expressions, gather, implication, numbers, choice, predicateBy, expressionBy, predicateStep, expressionStep, predicateAt, expressionAt}
 use Rattle.evaluator.proofs.Steps.{predicate-is, expression-is}
-
--- A kind that no predicate, or no expression, begins with.
-later : (l : List Word) (n k : ℕ) → n ≤ k → getD l k stray ≡ getD (drop n l) (k - n) stray
-later l n k h =
-    let e : k ≡ n + (k - n) = omega arith in
-    ap (λ (i : ℕ). getD l i stray) e ∙ sym (getD-drop n l (k - n) stray)
-
-past : {k : ℕ} (n : ℕ) → n ≤ k → (k ≡ n → ⊥) → n + 1 ≤ k
-past n h ne = omega arith
-
-module _ (P : Predicates) (E : Expressions) (w left at : ℕ) where
-  other-p : (w % 16 ≡ 0 → ⊥) → (w % 16 ≡ 1 → ⊥) → (w % 16 ≡ 2 → ⊥) → (w % 16 ≡ 3 → ⊥) → (w % 16 ≡ 4 → ⊥) → (w % 16 ≡ 5 → ⊥) → truth false at left ≡ predicateBy P E (wordOf w) left at
-  unfolding predicateBy kinds
-  other-p a b c d e f =
-      rw (word-of w _ refl, later (kinds (w / 16)) 6 (w % 16) (omega arith))
-      (each-at (λ x. truth false at left ≡ predicateBy P E x left at) (drop 6 (kinds (w / 16))) (refl, (refl, (refl, (refl, (refl, (refl, (refl, refl))))))) (w % 16 - 6))
-
-  other-e : (before after : List ℤ) → (w % 16 ≡ 6 → ⊥) → (w % 16 ≡ 7 → ⊥) → (w % 16 ≡ 8 → ⊥) → (w % 16 ≡ 9 → ⊥) → (w % 16 ≡ 10 → ⊥) → (w % 16 ≡ 11 → ⊥) → (w % 16 ≡ 12 → ⊥) → valued (pos 0) at left ≡ expressionBy P E before after (wordOf w) left at
-  unfolding expressionBy kinds
-  other-e before after a b c d e f g = rw (word-of w _ refl) (go (ltb (w % 16) 6) refl)
-    where
-      go : (t : Bool) → ltb (w % 16) 6 ≡ t → valued (pos 0) at left ≡ expressionBy P E before after (getD (kinds (w / 16)) (w % 16) stray) left at
-      go true h =
-          rw (sym (getD-take 6 (kinds (w / 16)) (w % 16) stray (ltb-true (w % 16) 6 h)))
-          (each-at (λ x. valued (pos 0) at left ≡ expressionBy P E before after x left at) (take 6 (kinds (w / 16))) (refl, (refl, (refl, (refl, (refl, (refl, refl)))))) (w % 16))
-      go false h =
-          let from = past 9 (past 8 (past 7 (past 6 (ltb-false (w % 16) 6 h) a) b) c) d in
-          rw (later (kinds (w / 16)) 13 (w % 16) (past 12 (past 11 (past 10 from e) f) g)) refl
 
 module _ (words : List ℕ) (before after : List ℤ) where
   abbrev P : Predicates
@@ -128,72 +99,85 @@ module _ (words : List ℕ) (before after : List ℤ) where
             go zero y = absurd (y refl)
             go (suc n) y = expression-is words before after (suc n) at ∙ rw (sub-one (suc n), lt-ltb at (length words) h, expressionStep)
 
-        -- by its kind, one of a predicate's or of an expression's
-        by-kind-p : {kind : ℕ} → w % 16 ≡ kind → P left at ≡ predicateBy P E (getD (kinds (w / 16)) kind stray) (left - 1) (at + 1)
-        by-kind-p e = by-word-p ∙ rw (word-of w _ e)
+        -- by its node, one of a predicate's or of an expression's
+        module _ (n : Node) (is : n ≡ nodeOf w) where
+          by-node-p : (m : Node) → n ≡ m → P left at ≡ predicateBy P E (meant m) (left - 1) (at + 1)
+          by-node-p m h = by-word-p ∙ rw (word-by w n m is h)
 
-        by-kind-e : {kind : ℕ} → w % 16 ≡ kind → E left at ≡ expressionBy P E before after (getD (kinds (w / 16)) kind stray) (left - 1) (at + 1)
-        by-kind-e e = by-word-e ∙ rw (word-of w _ e)
+          by-node-e : (m : Node) → n ≡ m → E left at ≡ expressionBy P E before after (meant m) (left - 1) (at + 1)
+          by-node-e m h = by-word-e ∙ rw (word-by w n m is h)
 
-        module _ (r : Truth) where
-          pub all-p : w % 16 ≡ 0 → (k : ℕ) → k ≡ w / 16 → (g : Gathered) → g ≡ gather P k (left - 1) (at + 1) true false → r ≡ truth (g .all) (g .next) (g .left) → r ≡ P left at
-          unfolding predicateBy kinds
-          all-p e k hk g hg hr = rw (by-kind-p e, ← hk, ← hg) hr
+          module _ (r : Truth) where
+            pub all-p : (k : ℕ) → n ≡ All k → (i : ℕ) → i ≡ k → (g : Gathered) → g ≡ gather P i (left - 1) (at + 1) true false → r ≡ truth (g .all) (g .next) (g .left) → r ≡ P left at
+            unfolding predicateBy meant
+            all-p k h i hi g hg hr = rw (by-node-p (All k) h, ← hi, ← hg) hr
 
-          pub any-p : w % 16 ≡ 1 → (k : ℕ) → k ≡ w / 16 → (g : Gathered) → g ≡ gather P k (left - 1) (at + 1) true false → r ≡ truth (g .any) (g .next) (g .left) → r ≡ P left at
-          unfolding predicateBy kinds
-          any-p e k hk g hg hr = rw (by-kind-p e, ← hk, ← hg) hr
+            pub any-p : (k : ℕ) → n ≡ Any k → (i : ℕ) → i ≡ k → (g : Gathered) → g ≡ gather P i (left - 1) (at + 1) true false → r ≡ truth (g .any) (g .next) (g .left) → r ≡ P left at
+            unfolding predicateBy meant
+            any-p k h i hi g hg hr = rw (by-node-p (Any k) h, ← hi, ← hg) hr
 
-          pub not-p : w % 16 ≡ 2 → (p : Truth) → p ≡ P (left - 1) (at + 1) → r ≡ truth (not (p .holds)) (p .next) (p .left) → r ≡ P left at
-          unfolding predicateBy kinds
-          not-p e p hp hr = rw (by-kind-p e, ← hp) hr
+            pub not-p : n ≡ Not → (p : Truth) → p ≡ P (left - 1) (at + 1) → r ≡ truth (not (p .holds)) (p .next) (p .left) → r ≡ P left at
+            unfolding predicateBy meant
+            not-p h p hp hr = rw (by-node-p Not h, ← hp) hr
 
-          pub imp-p : w % 16 ≡ 3 → r ≡ implication P (left - 1) (at + 1) → r ≡ P left at
-          unfolding predicateBy kinds
-          imp-p e hr = rw (by-kind-p e) hr
+            pub imp-p : n ≡ Imp → r ≡ implication P (left - 1) (at + 1) → r ≡ P left at
+            unfolding predicateBy meant
+            imp-p h hr = rw (by-node-p Imp h) hr
 
-          pub eq-p : w % 16 ≡ 4 → (n : Pair) → n ≡ numbers E (left - 1) (at + 1) → r ≡ truth (eqZ (n .first) (n .second)) (n .next) (n .left) → r ≡ P left at
-          unfolding predicateBy kinds
-          eq-p e n hn hr = rw (by-kind-p e, ← hn) hr
+            pub eq-p : n ≡ Eq → (x : Pair) → x ≡ numbers E (left - 1) (at + 1) → r ≡ truth (eqZ (x .first) (x .second)) (x .next) (x .left) → r ≡ P left at
+            unfolding predicateBy meant
+            eq-p h x hx hr = rw (by-node-p Eq h, ← hx) hr
 
-          pub le-p : w % 16 ≡ 5 → (n : Pair) → n ≡ numbers E (left - 1) (at + 1) → r ≡ truth (leZ (n .first) (n .second)) (n .next) (n .left) → r ≡ P left at
-          unfolding predicateBy kinds
-          le-p e n hn hr = rw (by-kind-p e, ← hn) hr
+            pub le-p : n ≡ Le → (x : Pair) → x ≡ numbers E (left - 1) (at + 1) → r ≡ truth (leZ (x .first) (x .second)) (x .next) (x .left) → r ≡ P left at
+            unfolding predicateBy meant
+            le-p h x hx hr = rw (by-node-p Le h, ← hx) hr
 
-          pub stray-p : (w % 16 ≡ 0 → ⊥) → (w % 16 ≡ 1 → ⊥) → (w % 16 ≡ 2 → ⊥) → (w % 16 ≡ 3 → ⊥) → (w % 16 ≡ 4 → ⊥) → (w % 16 ≡ 5 → ⊥) → r ≡ truth false (at + 1) (left - 1) → r ≡ P left at
-          stray-p a b c d e f hr = hr ∙ other-p P E w (left - 1) (at + 1) a b c d e f ∙ sym by-word-p
+            pub stray-p : Other begin-predicates n → r ≡ truth false (at + 1) (left - 1) → r ≡ P left at
+            unfolding predicateBy meant
+            stray-p o hr =
+                let said : Truth = truth false (at + 1) (left - 1) in
+                let same : (k : ℕ) → said ≡ said = λ k. refl in
+                rw (by-node-p n refl)
+                (hr ∙ by-others (λ (m : Node). said ≡ predicateBy P E (meant m) (left - 1) (at + 1)) begin-predicates n o
+                (tt, tt, tt, tt, tt, tt, same, same, same, refl, refl, refl, refl, refl))
 
-        module _ (r : Value) where
-          pub num-e : w % 16 ≡ 6 → r ≡ valued (cut (unbiased (w / 16))) (at + 1) (left - 1) → r ≡ E left at
-          unfolding expressionBy kinds
-          num-e e hr = rw (by-kind-e e) hr
+          module _ (r : Value) where
+            pub num-e : (k : ℕ) → n ≡ Number k → r ≡ valued (cut (unbiased k)) (at + 1) (left - 1) → r ≡ E left at
+            unfolding expressionBy meant
+            num-e k h hr = rw (by-node-e (Number k) h) hr
 
-          pub old-e : w % 16 ≡ 7 → r ≡ valued (getD before (w / 16) (pos 0)) (at + 1) (left - 1) → r ≡ E left at
-          unfolding expressionBy kinds
-          old-e e hr = rw (by-kind-e e) hr
+            pub old-e : (k : ℕ) → n ≡ Old k → r ≡ valued (getD before k (pos 0)) (at + 1) (left - 1) → r ≡ E left at
+            unfolding expressionBy meant
+            old-e k h hr = rw (by-node-e (Old k) h) hr
 
-          pub new-e : w % 16 ≡ 8 → r ≡ valued (getD after (w / 16) (pos 0)) (at + 1) (left - 1) → r ≡ E left at
-          unfolding expressionBy kinds
-          new-e e hr = rw (by-kind-e e) hr
+            pub new-e : (k : ℕ) → n ≡ New k → r ≡ valued (getD after k (pos 0)) (at + 1) (left - 1) → r ≡ E left at
+            unfolding expressionBy meant
+            new-e k h hr = rw (by-node-e (New k) h) hr
 
-          pub add-e : w % 16 ≡ 9 → (n : Pair) → n ≡ numbers E (left - 1) (at + 1) → r ≡ valued (cut (n .first +ℤ n .second)) (n .next) (n .left) → r ≡ E left at
-          unfolding expressionBy kinds
-          add-e e n hn hr = rw (by-kind-e e, ← hn) hr
+            pub add-e : n ≡ Add → (x : Pair) → x ≡ numbers E (left - 1) (at + 1) → r ≡ valued (cut (x .first +ℤ x .second)) (x .next) (x .left) → r ≡ E left at
+            unfolding expressionBy meant
+            add-e h x hx hr = rw (by-node-e Add h, ← hx) hr
 
-          pub sub-e : w % 16 ≡ 10 → (n : Pair) → n ≡ numbers E (left - 1) (at + 1) → r ≡ valued (cut (n .first -ℤ n .second)) (n .next) (n .left) → r ≡ E left at
-          unfolding expressionBy kinds
-          sub-e e n hn hr = rw (by-kind-e e, ← hn) hr
+            pub sub-e : n ≡ Sub → (x : Pair) → x ≡ numbers E (left - 1) (at + 1) → r ≡ valued (cut (x .first -ℤ x .second)) (x .next) (x .left) → r ≡ E left at
+            unfolding expressionBy meant
+            sub-e h x hx hr = rw (by-node-e Sub h, ← hx) hr
 
-          pub mul-e : w % 16 ≡ 11 → (n : Pair) → n ≡ numbers E (left - 1) (at + 1) → r ≡ valued (cut (n .first *ℤ n .second)) (n .next) (n .left) → r ≡ E left at
-          unfolding expressionBy kinds
-          mul-e e n hn hr = rw (by-kind-e e, ← hn) hr
+            pub mul-e : n ≡ Mul → (x : Pair) → x ≡ numbers E (left - 1) (at + 1) → r ≡ valued (cut (x .first *ℤ x .second)) (x .next) (x .left) → r ≡ E left at
+            unfolding expressionBy meant
+            mul-e h x hx hr = rw (by-node-e Mul h, ← hx) hr
 
-          pub if-e : w % 16 ≡ 12 → r ≡ choice P E (left - 1) (at + 1) → r ≡ E left at
-          unfolding expressionBy kinds
-          if-e e hr = rw (by-kind-e e) hr
+            pub if-e : n ≡ If → r ≡ choice P E (left - 1) (at + 1) → r ≡ E left at
+            unfolding expressionBy meant
+            if-e h hr = rw (by-node-e If h) hr
 
-          pub stray-e : (w % 16 ≡ 6 → ⊥) → (w % 16 ≡ 7 → ⊥) → (w % 16 ≡ 8 → ⊥) → (w % 16 ≡ 9 → ⊥) → (w % 16 ≡ 10 → ⊥) → (w % 16 ≡ 11 → ⊥) → (w % 16 ≡ 12 → ⊥) → r ≡ valued (pos 0) (at + 1) (left - 1) → r ≡ E left at
-          stray-e a b c d e f g hr = hr ∙ other-e P E w (left - 1) (at + 1) before after a b c d e f g ∙ sym by-word-e
+            pub stray-e : Other begin-expressions n → r ≡ valued (pos 0) (at + 1) (left - 1) → r ≡ E left at
+            unfolding expressionBy meant
+            stray-e o hr =
+                let said : Value = valued (pos 0) (at + 1) (left - 1) in
+                let same : (k : ℕ) → said ≡ said = λ k. refl in
+                rw (by-node-e n refl)
+                (hr ∙ by-others (λ (m : Node). said ≡ expressionBy P E before after (meant m) (left - 1) (at + 1)) begin-expressions n o
+                (same, same, refl, refl, refl, refl, tt, tt, tt, tt, tt, tt, tt, refl))
 
 pub ruleset predicate-laws = (none-p, past-p, all-p, any-p, not-p, imp-p, eq-p, le-p, stray-p)
 

@@ -1,4 +1,4 @@
-// Predicates and expressions worked out from their table words: one word a node, kind + 16 * argument, in prefix order.
+// Predicates and expressions worked out from their table words: one word a node, in prefix order.
 // Every call takes the count of nodes left, uses one for its own node and hands the rest on from operand to operand.
 // So on any words, whatever they are, no more nodes are read than were given.
 mod nodes;
@@ -7,6 +7,7 @@ use crate::nodes::Gathered;
 use crate::nodes::Pair;
 use crate::nodes::Truth;
 use crate::nodes::Value;
+use node_words::Node;
 ghost use mathlib.Core.Path.{_≡_};
 ghost use mathlib.Core.Bool.{true, false};
 ghost use Rattle.evaluator.specs.Evaluate.{predicateAt, expressionAt, gather, implication, numbers, choice, evaluate};
@@ -22,22 +23,29 @@ fn predicate(words: &[u32], at: usize, left: usize, before: &[i32], after: &[i32
     if words.len() <= at {
         return nodes::no_truth(at, rest);
     }
-    let w = words[at];
+    let node = node_words::node_of(words[at]);
     let next = at + 1;
-    match w % 16 {
-        0 => nodes::all_hold(operands(words, next, arithmetic::index(w / 16), rest, before, after)),
-        1 => nodes::any_holds(operands(
+    match node {
+        Node::All(k) => nodes::all_hold(operands(
             words,
             next,
-            arithmetic::index(w / 16),
+            arithmetic::index(k),
             rest,
             before,
             after,
         )),
-        2 => nodes::negated(predicate(words, next, rest, before, after)),
-        3 => implication(words, next, rest, before, after),
-        4 => nodes::equal(numbers(words, next, rest, before, after)),
-        5 => nodes::ordered(numbers(words, next, rest, before, after)),
+        Node::Any(k) => nodes::any_holds(operands(
+            words,
+            next,
+            arithmetic::index(k),
+            rest,
+            before,
+            after,
+        )),
+        Node::Not => nodes::negated(predicate(words, next, rest, before, after)),
+        Node::Imp => implication(words, next, rest, before, after),
+        Node::Eq => nodes::equal(numbers(words, next, rest, before, after)),
+        Node::Le => nodes::ordered(numbers(words, next, rest, before, after)),
         _ => nodes::no_truth(next, rest),
     }
 }
@@ -102,16 +110,16 @@ fn expression(words: &[u32], at: usize, left: usize, before: &[i32], after: &[i3
     if words.len() <= at {
         return nodes::no_value(at, rest);
     }
-    let w = words[at];
+    let node = node_words::node_of(words[at]);
     let next = at + 1;
-    match w % 16 {
-        6 => nodes::constant(w / 16, next, rest),
-        7 => nodes::variable(before, w / 16, next, rest),
-        8 => nodes::variable(after, w / 16, next, rest),
-        9 => nodes::added(numbers(words, next, rest, before, after)),
-        10 => nodes::subtracted(numbers(words, next, rest, before, after)),
-        11 => nodes::multiplied(numbers(words, next, rest, before, after)),
-        12 => choice(words, next, rest, before, after),
+    match node {
+        Node::Number(n) => nodes::constant(n, next, rest),
+        Node::Old(k) => nodes::variable(before, k, next, rest),
+        Node::New(k) => nodes::variable(after, k, next, rest),
+        Node::Add => nodes::added(numbers(words, next, rest, before, after)),
+        Node::Sub => nodes::subtracted(numbers(words, next, rest, before, after)),
+        Node::Mul => nodes::multiplied(numbers(words, next, rest, before, after)),
+        Node::If => choice(words, next, rest, before, after),
         _ => nodes::no_value(next, rest),
     }
 }

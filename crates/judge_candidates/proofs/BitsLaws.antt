@@ -1,7 +1,7 @@
 -- Each way out of the code of src/bits.rt.
 use mathlib.Core.Path.{_≡_, refl, sym, ap, _∙_}
 use mathlib.Core.Bool.{Bool, true, false, not, true≢false}
-use mathlib.Core.List.{List}
+use mathlib.Core.List.{List, [], _∷_}
 use Prim.Native.Nat.{ℕ, zero, suc, _+_, _-_, _*_, _%_, _/_, _^_, _≤_, _<_}
 use native.Mathlib.Omega.{arith}
 use native.Mathlib.Nat.{div-eq-of-lt, one-mul, pow-succ'}
@@ -14,7 +14,12 @@ use lib.Pow.{pow-mono, shl-exact}
 use borrow.Author.Tests.{le-leb, lt-leb, eq-eqb, ne-eqb, leb-true, leb-false}
 use Rattle.model.specs.Basic.{eqZ}
 use Rattle.model.specs.Bounds.{maxVariables, maxAutomata}
+use Rattle.model.specs.Predicate.{named, nothing, theOld, theNew}
 use Rattle.model.specs.Table.{bit}
+use Rattle.node_words.specs.declared.Node.{Node}
+use Rattle.node_words.specs.declared.Node.the-variants.{New}
+use Rattle.node_words.specs.Nodes.{meant, nodeOf}
+use Rattle.node_words.proofs.NodeLaws.{word-by, Other, by-others}
 use Rattle.judge_search.specs.Masks.{mask}
 use Rattle.judge_candidates.specs.Bits.{cap, clear, withBit, leftOut, restOf, differs, changedBits, agrees, stillBits}
 
@@ -78,13 +83,17 @@ pub ruleset clear-laws = (clear-set, clear-not)
 
 -- `left_out`
 module _ (s w : ℕ) where
-  pub out-new : w % 16 ≡ 8 → (r : ℕ) → r ≡ clear s (w / 16) → r ≡ leftOut s w
-  unfolding leftOut
-  out-new h r e = rw (eq-eqb (w % 16) 8 h, leftOut) e
+  pub out-new : (n : Node) → n ≡ nodeOf w → (k : ℕ) → n ≡ New k → (r : ℕ) → r ≡ clear s k → r ≡ leftOut s w
+  unfolding leftOut meant named
+  out-new n e k h r f = rw (word-by w n (New k) e h, leftOut) f
 
-  pub out-other : (w % 16 ≡ 8 → ⊥) → s ≡ leftOut s w
-  unfolding leftOut
-  out-other h = rw (ne-eqb (w % 16) 8 h, leftOut)
+  pub out-other : (n : Node) → n ≡ nodeOf w → Other (New 0 ∷ []) n → s ≡ leftOut s w
+  unfolding leftOut meant named
+  out-other n e o =
+      let same : (k : ℕ) → s ≡ s = λ k. refl in
+      rw (word-by w n n e refl, leftOut)
+      (by-others (λ (m : Node). s ≡ elim (named (meant m)) [ nothing ↦ s | theOld k ↦ s | theNew k ↦ clear s k ]) (New 0 ∷ []) n o
+      (same, same, refl, refl, refl, refl, same, same, tt, refl, refl, refl, refl, refl))
 
 pub ruleset out-laws = (out-new, out-other)
 

@@ -9,7 +9,8 @@ use lib.ListN.{length, getD, take, drop, set, length-set, length-map}
 use lib.Seq.{take-at, take-suc-set}
 use lib.Dec.{eqb}
 use borrow.Author.Tests.{eqb-true, eqb-false, eq-eqb, ne-eqb}
-use Rattle.model.specs.Basic.{keep}
+use Rattle.model.specs.Basic.{keep, every}
+use Rattle.model.specs.Limits.{inRange}
 use Rattle.model.specs.Bounds.{maxEdges}
 use Rattle.model.specs.Predicate.{words, holds, nodeCount}
 use Rattle.model.specs.Model.{Edge, Automaton, Model, automaton}
@@ -55,12 +56,12 @@ module _ (w rest : List ℕ) (e : Edge) (at : ℕ) (d : drop at w ≡ lineWords 
   unfolding fitsAt
   fits-edge leg = rw (from-stands, action-stands, to-stands)
 
-  pub rest-edge : restAt w at ≡ restMask e
+  pub rest-edge : every inRange (words (e .update)) ≡ true → restAt w at ≡ restMask e
   unfolding restAt predWords nodeCount
-  rest-edge =
+  rest-edge ranged =
       let ws = words (e .update) in
       let n : getD w (reach w at 3) 0 ≡ length ws = read w (reach w at 3) (length ws) (map code ws ++ rest) update-stands in
-      rw (n, nodes-stand, take-at (map code ws) rest (length ws) (simp length-map)) (rest-mask e)
+      rw (n, nodes-stand, take-at (map code ws) rest (length ws) (simp length-map)) (rest-mask e ranged)
 
   pub next-edge : drop (afterPredicate w (reach w at 3)) w ≡ rest
   next-edge = after-predicate w (reach w at 3) (e .update) rest update-stands
@@ -85,9 +86,10 @@ four-tests false false t h = refl
 
 -- For a step from s to t under an action, automaton k's edges, in a table where each update's words say what it means.
 module _ (w : List ℕ) (m : Model) (s : State) (a : ℕ) (t : State) (k : ℕ) where
-  abbrev pub Said : Edge → Type 0
-  Said e = (place : ℕ) (rest : List ℕ) → drop place w ≡ map code (words (e .update)) ++ rest
-      → evaluate w (s .values) (t .values) place ≡ holds (s .values) (t .values) (e .update)
+  pub record Said (e : Edge) : Type 0 where
+    pub means : (place : ℕ) (rest : List ℕ) → drop place w ≡ map code (words (e .update)) ++ rest
+        → evaluate w (s .values) (t .values) place ≡ holds (s .values) (t .values) (e .update)
+    pub ranged : every inRange (words (e .update)) ≡ true
 
   abbrev leg : Leg
   leg = legOf (s .locations) (t .locations) a k
@@ -100,7 +102,7 @@ module _ (w : List ℕ) (m : Model) (s : State) (a : ℕ) (t : State) (k : ℕ) 
       → takesAt w (s .values) (t .values) leg place ≡ isOffered e
   unfolding takesAt legOf isCandidate updated led
   takes-edge rest e place d said =
-      rw (fits-edge w rest e place d leg, said (reach w place 4) rest (nodes-stand w rest e place d), eqb-swap (e .from) (at s k), eqb-swap (e .to) (at t k))
+      rw (fits-edge w rest e place d leg, said .means (reach w place 4) rest (nodes-stand w rest e place d), eqb-swap (e .from) (at s k), eqb-swap (e .to) (at t k))
       (four-tests (eqb (at s k) (e .from)) (eqb (e .action) a) (eqb (at t k) (e .to)) (holds (s .values) (t .values) (e .update)))
 
   abbrev offeredOf : List Edge → List Edge
@@ -155,7 +157,7 @@ module _ (w : List ℕ) (m : Model) (s : State) (a : ℕ) (t : State) (k : ℕ) 
         let y = walk (set (x .masks) c r) next (c + 1) in
         let is : y ≡ on x =
         edge-taken w (s .values) (t .values) leg (x .masks) (x .next) c (reach w (x .next) 3) next refl refl l (isOffered e)
-        (sym (takes-edge others e (x .next) d said)) h r (sym (rest-edge w others e (x .next) d)) in
+        (sym (takes-edge others e (x .next) d said)) h r (sym (rest-edge w others e (x .next) d (said .ranged))) in
         let size : length (set (x .masks) c r) ≡ length (x .masks) = length-set (x .masks) c r in
         let z = later y (omega arith) (omega arith) (next-edge w others e (x .next) d) in
         let one : take (c + 1) (set (x .masks) c r) ≡ take c (x .masks) ++ (r ∷ []) = rw (add-one c) (take-suc-set (x .masks) c r (omega arith)) in

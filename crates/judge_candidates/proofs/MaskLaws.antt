@@ -2,19 +2,22 @@
 use mathlib.Core.Path.{_≡_, refl, sym, ap, _∙_}
 use mathlib.Core.Bool.{Bool, true, false, not, _&&_, _||_, and-true, and-false}
 use mathlib.Core.List.{List, [], _∷_, map}
-use Prim.Native.Nat.{ℕ, zero, suc, _+_, _-_, _*_, _%_, _/_, _^_, _≤_, _<_}
+use Prim.Native.Nat.{ℕ, zero, suc, _+_, _-_, _^_, _≤_, _<_}
 use native.Mathlib.Omega.{arith}
 use native.Mathlib.Nat.{div-eq-of-lt}
 use lib.ListN.{length}
 use lib.Dec.{eqb, leb}
 use lib.Pow.{pow-mono}
 use borrow.Author.Tests.{leb-true, leb-false, eqb-true, eq-eqb, ne-eqb}
-use Rattle.model.specs.Basic.{exists}
+use Rattle.model.specs.Basic.{every, exists}
 use Rattle.model.specs.Bounds.{maxVariables, maxAutomata}
-use Rattle.model.specs.Predicate.{Word, allOf, anyOf, notWord, impWord, eqWord, leWord, numWord, oldWord, newWord, addWord, subWord, mulWord, ifWord, stray, words, named, isNewOf, mentions}
+use Rattle.model.specs.Predicate.{Word, words, Named, nothing, theOld, theNew, named, isNewOf, mentions}
 use Rattle.model.specs.Model.{Model, Edge}
 use Rattle.model.specs.Rules.{State}
-use Rattle.model.specs.Table.{biased, code, bit}
+use Rattle.model.specs.Limits.{inRange}
+use Rattle.model.specs.Table.{code, bit}
+use Rattle.model.proofs.Tests.{and-left, and-right}
+use Rattle.model.proofs.Decode.{word-back}
 use Rattle.judge_cover.proofs.BitLaws.{bit-under, bit-top}
 use Rattle.judge_search.specs.Search.{unmoved}
 use Rattle.judge_search.specs.Masks.{mask, restMask, changedMask}
@@ -126,39 +129,19 @@ clear-mask f n k = go (leb n k) refl (f k) refl
 abbrev unnamed : (ℕ → Bool) → Word → ℕ → Bool
 unnamed f w j = f j && not (isNewOf j (named w))
 
-out-kind : (s w k a : ℕ) → w ≡ k + 16 * a → k < 16 → (k ≡ 8 → ⊥) → leftOut s w ≡ s
-unfolding leftOut
-out-kind s w k a e l n =
-    let r : w % 16 ≡ 8 → ⊥ = λ q. n (omega arith) in
-    rw (ne-eqb (w % 16) 8 r, leftOut)
-
-out-new : (s a : ℕ) → leftOut s (8 + 16 * a) ≡ clear s a
-unfolding leftOut
-out-new s a =
-    let r : (8 + 16 * a) % 16 ≡ 8 = omega arith in
-    let q : (8 + 16 * a) / 16 ≡ a = omega arith in
-    rw (eq-eqb ((8 + 16 * a) % 16) 8 r, leftOut, q)
-
 module _ (f : ℕ → Bool) (n : ℕ) where
   all-stay : mask f n ≡ mask (λ j. f j && true) n
   all-stay = mask-same f (λ j. f j && true) n (λ j l. sym (and-true (f j)))
 
-  out-word : (w : Word) → leftOut (mask f n) (code w) ≡ mask (unnamed f w) n
-  unfolding code named isNewOf
-  out-word (allOf k) = out-kind (mask f n) (0 + 16 * k) 0 k refl (omega arith) (λ q. omega arith) ∙ all-stay
-  out-word (anyOf k) = out-kind (mask f n) (1 + 16 * k) 1 k refl (omega arith) (λ q. omega arith) ∙ all-stay
-  out-word notWord = out-kind (mask f n) 2 2 0 refl (omega arith) (λ q. omega arith) ∙ all-stay
-  out-word impWord = out-kind (mask f n) 3 3 0 refl (omega arith) (λ q. omega arith) ∙ all-stay
-  out-word eqWord = out-kind (mask f n) 4 4 0 refl (omega arith) (λ q. omega arith) ∙ all-stay
-  out-word leWord = out-kind (mask f n) 5 5 0 refl (omega arith) (λ q. omega arith) ∙ all-stay
-  out-word (numWord z) = out-kind (mask f n) (6 + 16 * biased z) 6 (biased z) refl (omega arith) (λ q. omega arith) ∙ all-stay
-  out-word (oldWord k) = out-kind (mask f n) (7 + 16 * k) 7 k refl (omega arith) (λ q. omega arith) ∙ all-stay
-  out-word (newWord k) = out-new (mask f n) k ∙ clear-mask f n k
-  out-word addWord = out-kind (mask f n) 9 9 0 refl (omega arith) (λ q. omega arith) ∙ all-stay
-  out-word subWord = out-kind (mask f n) 10 10 0 refl (omega arith) (λ q. omega arith) ∙ all-stay
-  out-word mulWord = out-kind (mask f n) 11 11 0 refl (omega arith) (λ q. omega arith) ∙ all-stay
-  out-word ifWord = out-kind (mask f n) 12 12 0 refl (omega arith) (λ q. omega arith) ∙ all-stay
-  out-word stray = out-kind (mask f n) 15 15 0 refl (omega arith) (λ q. omega arith) ∙ all-stay
+  by-name : (x : Named) → elim x as (λ y. ℕ) [ nothing ↦ mask f n | theOld k ↦ mask f n | theNew k ↦ clear (mask f n) k ] ≡ mask (λ j. f j && not (isNewOf j x)) n
+  unfolding isNewOf
+  by-name nothing = all-stay
+  by-name (theOld k) = all-stay
+  by-name (theNew k) = clear-mask f n k
+
+  out-word : (w : Word) → inRange w ≡ true → leftOut (mask f n) (code w) ≡ mask (unnamed f w) n
+  unfolding leftOut
+  out-word w h = rw (word-back w h, leftOut) (by-name (named w))
 
 -- all words: what is left are the numbers that none of them names
 left-both : (a b c : Bool) → ((a && not b) && not c) ≡ (a && not (b || c))
@@ -166,20 +149,21 @@ left-both true true c = refl
 left-both true false c = refl
 left-both false b c = refl
 
-out-words : (n : ℕ) (ws : List Word) (f : ℕ → Bool) → restOf (mask f n) (map code ws) ≡ mask (λ j. f j && not (exists (λ w. isNewOf j (named w)) ws)) n
-unfolding restOf exists
-out-words n [] f = all-stay f n
-out-words n (w ∷ ws) f =
-    ap (λ s. restOf s (map code ws)) (out-word f n w) ∙ out-words n ws (unnamed f w) ∙
+out-words : (n : ℕ) (ws : List Word) (f : ℕ → Bool) → every inRange ws ≡ true → restOf (mask f n) (map code ws) ≡ mask (λ j. f j && not (exists (λ w. isNewOf j (named w)) ws)) n
+unfolding restOf exists every
+out-words n [] f h = all-stay f n
+out-words n (w ∷ ws) f h =
+    ap (λ s. restOf s (map code ws)) (out-word f n w (and-left (inRange w) (every inRange ws) h)) ∙
+    out-words n ws (unnamed f w) (and-right (inRange w) (every inRange ws) h) ∙
     mask-same (λ j. unnamed f w j && not (exists (λ v. isNewOf j (named v)) ws)) (λ j. f j && not (exists (λ v. isNewOf j (named v)) (w ∷ ws))) n
     (λ j l. left-both (f j) (isNewOf j (named w)) (exists (λ v. isNewOf j (named v)) ws))
 
 -- an edge's mask is what its update's words leave of all 48 variables
-pub rest-mask : (e : Edge) → restOf allVariables (map code (words (e .update))) ≡ restMask e
+pub rest-mask : (e : Edge) → every inRange (words (e .update)) ≡ true → restOf allVariables (map code (words (e .update))) ≡ restMask e
 unfolding restMask mentions
-rest-mask e =
+rest-mask e h =
     let all : allVariables ≡ mask (λ j. true) maxVariables = unfold mask in refl in
-    ap (λ s. restOf s (map code (words (e .update)))) all ∙ out-words maxVariables (words (e .update)) (λ j. true)
+    ap (λ s. restOf s (map code (words (e .update)))) all ∙ out-words maxVariables (words (e .update)) (λ j. true) h
 
 -- `changed` and `still`
 pub changed-mask : (m : Model) (s t : State) → length (s .values) ≡ length (m .variables) → length (m .variables) ≤ maxVariables

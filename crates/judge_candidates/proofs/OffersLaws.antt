@@ -58,13 +58,17 @@ module _ (w rest : List ℕ) (m : Model) (ok : Lawful m) (sheet : w ≡ sheetWor
   -- the words of an update of the sheet say what it means
   update-said : (k : ℕ) → k < length (m .automata) → (e : Edge) → List·Memᴰ e (automaton m k .edges) → Said w m s a t k e
   unfolding nodeCount
-  update-said k h e i place r d =
+  update-said k h e i =
       let ws = words (e .update) in
       let there = item-in (m .automata) k nobody h in
-      evaluate-lawful (m .variables) (s .values) (t .values) olds news (e .update) w place
-      (rw d (take-at (map code ws) r (length ws) (simp length-map)))
-      (ok .automata (automaton m k) there .edges e i .update)
-      (update-nodes m ok (automaton m k) there e i)
+      let lawful = ok .automata (automaton m k) there .edges e i .update in
+      record {
+        means = λ place r d.
+            evaluate-lawful (m .variables) (s .values) (t .values) olds news (e .update) w place
+            (rw d (take-at (map code ws) r (length ws) (simp length-map))) lawful
+            (update-nodes m ok (automaton m k) there e i);
+        ranged = lawful .ranged;
+      }
 
   -- the masks of automaton k, and of all automata before it
   abbrev found : ℕ → List ℕ

@@ -1,13 +1,14 @@
 -- Sets of variables and of automata as words, as the code makes them.
 use mathlib.Core.Bool.{Bool, true, false, not}
 use mathlib.Core.List.{List, [], _∷_}
-use Prim.Native.Nat.{ℕ, _+_, _-_, _%_, _/_, _^_}
+use Prim.Native.Nat.{ℕ, _+_, _-_, _^_}
 use lib.IntN.{ℤ, pos}
 use lib.ListN.{length, getD}
 use lib.Dec.{eqb, leb}
 use Rattle.model.specs.Basic.{eqZ}
 use Rattle.model.specs.Bounds.{maxVariables, maxAutomata}
-use Rattle.model.specs.Table.{bit}
+use Rattle.model.specs.Predicate.{named, nothing, theOld, theNew}
+use Rattle.model.specs.Table.{bit, wordOf}
 use Rattle.judge_search.specs.Masks.{mask}
 
 unfoldable pub cap : (n most : ℕ) → ℕ
@@ -24,9 +25,9 @@ withBit set k b = elim b [ true ↦ 2 ^ k + set | false ↦ set ]
 abbrev pub allVariables : ℕ
 allVariables = 281474976710655
 
--- what a set is after a node word, and after some: a word of kind 8 takes the variable of its argument out
+-- what a set is after a node word, and after some: one that names a new value takes the variable out
 unfoldable pub leftOut : (set word : ℕ) → ℕ
-leftOut set word = elim (eqb (word % 16) 8) [ true ↦ clear set (word / 16) | false ↦ set ]
+leftOut set word = elim (named (wordOf word)) [ nothing ↦ set | theOld k ↦ set | theNew k ↦ clear set k ]
 
 unfoldable pub restOf : (set : ℕ) → List ℕ → ℕ
 restOf set [] = set

@@ -1,4 +1,5 @@
 // Sets of variables and of automata: bit K of a word is set where K is in the set.
+use node_words::Node;
 ghost use mathlib.Core.Path.{_≡_};
 ghost use Prim.Native.Nat.{_^_, _<_};
 ghost use lib.ListN.{take, drop};
@@ -29,14 +30,15 @@ fn clear(mask: u64, k: u32) -> u64
     mask
 }
 
-// A node word of kind 8 names a new value, of the variable that its argument says.
+// `nK` names variable K's new value.
 fn left_out(mask: u64, word: u32) -> u64
     ensures { λ r. ⌜ r ≡ leftOut mask word ⌝ }
 {
-    if word % 16 == 8 {
-        return clear(mask, word / 16);
+    let node = node_words::node_of(word);
+    match node {
+        Node::New(k) => clear(mask, k),
+        _ => mask,
     }
-    mask
 }
 
 // The variables that the `count` node words from `at` on do not mention.

@@ -6,21 +6,24 @@ use Prim.Native.Nat.{ℕ, zero, suc, _+_, _-_, _*_, _≤_, _<_}
 use native.Mathlib.Omega.{arith}
 use native.Mathlib.Nat.{add-zero, zero-add}
 use native.Mathlib.Numerals.{add-one}
-use lib.IntN.{pos}
+use lib.IntN.{ℤ, pos}
 use lib.ListN.{length, getD, drop, length-append, length-map}
 use lib.Dec.{leb}
 use borrow.Author.Tests.{leb-true, leb-false}
 use Rattle.model.specs.Bounds.{bias, maxLocations}
-use Rattle.model.specs.Predicate.{Pred, all, imp, eq, num, old, preds, Word, words, wordsAll, wordsOf, operands, nodeCount}
+use Rattle.model.specs.Predicate.{Pred, all, imp, eq, num, old, preds, Word, allOf, impWord, eqWord, numWord, oldWord, words, wordsAll, wordsOf, operands, nodeCount}
 use Rattle.model.specs.Model.{Location, Automaton, Model}
 use Rattle.model.specs.Lawful.{Lawful}
 use Rattle.model.specs.Lines.{locationLines, automatonLines, composeLine}
-use Rattle.model.specs.Table.{biased, code, predWords, lineWords, sheetWords}
+use Rattle.model.specs.Table.{code, predWords, lineWords, sheetWords}
 use Rattle.model.specs.Linear.{pointer, atLocations, atAutomata, mergedInit, mergedInv}
 use Rattle.model.proofs.LinearLimits.{preds-count, locations-length, automata-length}
 use Rattle.table_places.specs.Outline.{reach, afterPredicate, afterAutomaton, automatonAt}
 use Rattle.table_places.proofs.OutlineLaws as O
 use Rattle.table_places.proofs.OutlineLaws.{read, locationWords, automatonWords, locations-count, first-location, after-automaton, after-predicate}
+use Rattle.node_words.specs.declared.Node.the-variants.{All, Number, Old}
+use Rattle.node_words.specs.Nodes.{wordFor}
+use Rattle.node_words.proofs.NodeLaws.{unbiased-up, all-held, old-held, number-held}
 use Rattle.merge_words.specs.Append.{narrow}
 use Rattle.merge_words.specs.Runs.{nodesAt}
 use Rattle.merge_words.specs.NodeWords.{upward, allNode, numberNode, oldNode, pointerOf, most, capped}
@@ -116,17 +119,20 @@ unfolding preds words wordsAll wordsOf
 codes-cons p ps = map-append code (words p) (wordsAll (preds ps))
 
 -- the nodes of small numbers
-pub number-code : (z : ℕ) → z < 4294967296 → numberNode z ≡ 6 + 16 * (bias + z)
+pub number-code : (z : ℕ) → z < 65536 → numberNode z ≡ code (numWord (pos z))
 unfolding numberNode
-number-code z h = ap (λ n. 6 + 16 * n) (upward-small z h)
+number-code z h =
+    ap (λ (n : ℕ). wordFor (Number (narrow n))) (upward-small z (omega arith)) ∙
+    ap (λ (n : ℕ). wordFor (Number n)) (narrow-is (bias + z) (omega arith)) ∙ number-held (bias + z) (omega arith) ∙
+    ap (λ (y : ℤ). code (numWord y)) (unbiased-up z)
 
-pub old-code : (k : ℕ) → k < 4294967296 → oldNode k ≡ 7 + 16 * k
+pub old-code : (k : ℕ) → k < 65536 → oldNode k ≡ code (oldWord k)
 unfolding oldNode
-old-code k h = ap (λ n. 7 + 16 * n) (narrow-is k h)
+old-code k h = ap (λ (n : ℕ). wordFor (Old n)) (narrow-is k (omega arith)) ∙ old-held k (omega arith)
 
-pub all-code : (k : ℕ) → k < 4294967296 → allNode k ≡ 0 + 16 * k
+pub all-code : (k : ℕ) → k < 65536 → allNode k ≡ code (allOf k)
 unfolding allNode
-all-code k h = ap (λ n. 16 * n) (narrow-is k h) ∙ sym (zero-add (16 * k))
+all-code k h = ap (λ (n : ℕ). wordFor (All n)) (narrow-is k (omega arith)) ∙ all-held k (omega arith)
 
 -- a past location
 pub past-location : (t : List ℕ) (at : ℕ) (l : Location) (rest : List ℕ) → drop at t ≡ predWords (l .init) ++ (predWords (l .inv) ++ rest) → drop (afterPredicate t (afterPredicate t at)) t ≡ rest
@@ -142,15 +148,15 @@ location-cons t at l ls rest e =
     e ∙ append-assoc i (v ++ locationWords ls) rest ∙ ap (λ (r : List ℕ). i ++ r) (append-assoc v (locationWords ls) rest)
 
 module _ (m : Model) (inv : Bool) (part : Location → Pred) (stands : Part inv part) (t : List ℕ) where
-  clause-is : (i k j at : ℕ) (l : Location) (others : List ℕ) → k ≡ pointer m i → k < 4294967296 → j < 4294967296
+  clause-is : (i k j at : ℕ) (l : Location) (others : List ℕ) → k ≡ pointer m i → k < 65536 → j < 65536
       → drop at t ≡ predWords (l .init) ++ (predWords (l .inv) ++ others)
       → clauseWords t k j (partAt t inv at) ≡ map code (words (imp (eq (old (pointer m i)) (num (pos j))) (part l)))
-  unfolding clauseWords words wordsAll wordsOf code biased
+  unfolding clauseWords words wordsAll wordsOf
   clause-is i k j at l others ek hk hj e =
       let s = stands t at l others e in
-      rw (old-code k hk, number-code j hj, ek) (ap (λ (ws : List ℕ). 3 ∷ 4 ∷ (7 + 16 * pointer m i) ∷ (6 + 16 * (bias + j)) ∷ ws) (nodes-stand t (partAt t inv at) (part l) (s .0) (s .1)))
+      rw (old-code k hk, number-code j hj, ek) (ap (λ (ws : List ℕ). code impWord ∷ code eqWord ∷ code (oldWord (pointer m i)) ∷ code (numWord (pos j)) ∷ ws) (nodes-stand t (partAt t inv at) (part l) (s .0) (s .1)))
 
-  pub locations-are : (ls : List Location) (i k j at : ℕ) (rest : List ℕ) → k ≡ pointer m i → k < 4294967296 → j + length ls < 4294967296
+  pub locations-are : (ls : List Location) (i k j at : ℕ) (rest : List ℕ) → k ≡ pointer m i → k < 65536 → j + length ls < 65536
       → drop at t ≡ locationWords ls ++ rest → locationClauses t inv k j (length ls) at ≡ codes (atLocations m part i j ls)
   unfolding locationClauses atLocations preds words wordsAll wordsOf
   locations-are [] i k j at rest ek hk h e = refl
@@ -161,7 +167,7 @@ module _ (m : Model) (inv : Bool) (part : Location → Pred) (stands : Part inv 
       let o = locations-are ls i k (suc j) (afterPredicate t (afterPredicate t at)) rest ek hk (omega arith) (past-location t at l (locationWords ls ++ rest) f) in
       rw (add-one j) (ap₂ (λ (a b : List ℕ). a ++ b) c o ∙ sym (codes-cons p (atLocations m part i (suc j) ls)))
 
-  pub automata-clauses-are : (xs : List Automaton) (v i at : ℕ) (rest : List ℕ) → v ≡ length (m .variables) → v < 2147483648 → i + length xs < 2147483648
+  pub automata-clauses-are : (xs : List Automaton) (v i at : ℕ) (rest : List ℕ) → v ≡ length (m .variables) → v < 32768 → i + length xs < 32768
       → ((x : Automaton) → List·Memᴰ x xs → length (x .locations) ≤ maxLocations)
       → drop at t ≡ automatonWords xs ++ rest → automataClauses t inv v i (length xs) at ≡ codes (atAutomata m part i xs)
   unfolding automataClauses automatonClauses atAutomata preds words wordsAll wordsOf
@@ -173,8 +179,8 @@ module _ (m : Model) (inv : Bool) (part : Location → Pred) (stands : Part inv 
       let s = few x (List·Memᴰ·head refl) in
       let k : pointerOf v i ≡ v + i = pointer-sum v i (omega arith) (omega arith) in
       let kp : pointerOf v i ≡ pointer m i = k ∙ point v i ev in
-      let kh : pointerOf v i < 4294967296 = omega arith in
-      let small : 0 + length (x .locations) < 4294967296 = omega arith in
+      let kh : pointerOf v i < 65536 = omega arith in
+      let small : 0 + length (x .locations) < 65536 = omega arith in
       let c : locationClauses t inv (pointerOf v i) 0 (getD t (reach t at 2) 0) (reach t at 3) ≡ codes (atLocations m part i 0 (x .locations)) =
       ap (λ c. locationClauses t inv (pointerOf v i) 0 c (reach t at 3)) n ∙ locations-are (x .locations) i (pointerOf v i) 0 (reach t at 3) _ kp kh small (first-location t others x at f) in
       let o = automata-clauses-are xs v (suc i) (afterAutomaton t at) rest ev hv (omega arith) (λ y q. few y (List·Memᴰ·tail q)) (after-automaton t others x at f) in
@@ -218,7 +224,7 @@ module _ (m : Model) (lawful : Lawful m) (t rest : List ℕ) (e : t ≡ sheetWor
         merged-nodes-are t inv ∙ ap (λ (l : List ℕ). capped (1 + length l)) clauses-are ∙ ap (λ n. capped (1 + n)) (length-map (wordsAll (preds clauses)) code) ∙ ap capped (omega arith)
 
     words-are : nodeCount (all (preds clauses)) ≤ most → mergedWords t inv ≡ predWords (all (preds clauses))
-    unfolding mergedWords predWords words wordsAll wordsOf code
+    unfolding mergedWords predWords words wordsAll wordsOf
     words-are few =
         let fn = lawful .few-automata in
         let count : length clauses ≤ maxLocations * length (m .automata) = automata-length m part 0 (m .automata) (few-locations m lawful t rest e) in
@@ -226,7 +232,7 @@ module _ (m : Model) (lawful : Lawful m) (t rest : List ℕ) (e : t ≡ sheetWor
         let total : locationTotal t (automataOf t) (automatonAt t 0) 0 ≡ operands (preds clauses) =
         ap (λ n. locationTotal t n (automatonAt t 0) 0) (automata-are m lawful t rest e) ∙ totals m part t (m .automata) 0 (automatonAt t 0) 0 _ (omega arith) (automata-stand m lawful t rest e) ∙
         ap capped (zero-add (length clauses)) ∙ sym (capped-is (length clauses) small) ∙ sym (preds-count clauses) in
-        let node : allNode (locationTotal t (automataOf t) (automatonAt t 0) 0) ≡ 0 + 16 * operands (preds clauses) =
+        let node : allNode (locationTotal t (automataOf t) (automatonAt t 0) 0) ≡ code (allOf (operands (preds clauses))) =
         ap allNode total ∙ all-code (operands (preds clauses)) (omega (arith, preds-count clauses)) in
         let nodes : mergedNodes t inv ≡ nodeCount (all (preds clauses)) = nodes-are ∙ sym (capped-is (nodeCount (all (preds clauses))) few) in
         rw (nodes, node, clauses-are)

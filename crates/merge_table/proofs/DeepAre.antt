@@ -8,7 +8,6 @@ use lib.IntN.{pos}
 use lib.ListN.{length, getD, drop}
 use lib.Dec.{ltb}
 use borrow.Author.Tests.{ltb-true, ltb-false, lt-ltb, le-ltb}
-use Rattle.model.specs.Bounds.{maxDepth}
 use Rattle.model.specs.Basic.{exists}
 use Rattle.model.specs.Predicate.{Pred, all, imp, eq, num, old, new, preds, depth, depthAll, depthOf}
 use Rattle.model.specs.Model.{Location, Automaton, Model}
@@ -28,7 +27,7 @@ use Rattle.merge_words.specs.Depths.{isDeeper, locationsDeeper, automataDeeper,
 use Rattle.merge_table.proofs.Standing.{automata-cons}
 use Rattle.merge_table.proofs.HeadIs.{automata-are, automata-stand}
 use Rattle.merge_table.proofs.ClausesAre.{Part, init-part, inv-part, location-cons, past-location}
-use Rattle.merge_table.proofs.DepthsAre.{deeper-stands}
+use Rattle.merge_table.proofs.DepthsAre.{Readable, readable, deeper-stands}
 use Rattle.merge_table.proofs.EdgesAre.{Valid, takersFrom, edge-deep}
 
 -- one test of numbers is another, where each number is above its limit if the other is
@@ -87,7 +86,7 @@ module _ (m : Model) (inv : Bool) (part : Location → Pred) (stands : Part inv 
       ap₂ (λ (a b : Bool). a || b) (clauses-deep i 0 (x .locations)) (automata-deep (suc i) xs)
 
   module _ (t : List ℕ) where
-    locations-read : (ls : List Location) (at : ℕ) (rest : List ℕ) → ((l : Location) → List·Memᴰ l ls → depth (part l) ≤ maxDepth) → drop at t ≡ locationWords ls ++ rest
+    locations-read : (ls : List Location) (at : ℕ) (rest : List ℕ) → ((l : Location) → List·Memᴰ l ls → Readable (part l)) → drop at t ≡ locationWords ls ++ rest
         → locationsDeeper t inv 22 (length ls) at ≡ exists deep-part ls
     unfolding locationsDeeper exists deep-part
     locations-read [] at rest shallow e = refl
@@ -97,7 +96,7 @@ module _ (m : Model) (inv : Bool) (part : Location → Pred) (stands : Part inv 
         ap₂ (λ (a b : Bool). a || b) (deeper-stands t (part l) 22 (partAt t inv at) (s .0) (shallow l (List·Memᴰ·head refl)) (s .1))
         (locations-read ls (afterPredicate t (afterPredicate t at)) rest (λ y q. shallow y (List·Memᴰ·tail q)) (past-location t at l (locationWords ls ++ rest) f))
 
-    automata-read : (xs : List Automaton) (at : ℕ) (rest : List ℕ) → ((x : Automaton) → List·Memᴰ x xs → (l : Location) → List·Memᴰ l (x .locations) → depth (part l) ≤ maxDepth)
+    automata-read : (xs : List Automaton) (at : ℕ) (rest : List ℕ) → ((x : Automaton) → List·Memᴰ x xs → (l : Location) → List·Memᴰ l (x .locations) → Readable (part l))
         → drop at t ≡ automatonWords xs ++ rest → automataDeeper t inv 22 (length xs) at ≡ exists deep-automaton xs
     unfolding automataDeeper exists deep-automaton
     automata-read [] at rest shallow e = refl
@@ -109,7 +108,7 @@ module _ (m : Model) (inv : Bool) (part : Location → Pred) (stands : Part inv 
         (ap (λ c. locationsDeeper t inv 22 c (reach t at 3)) n ∙ locations-read (x .locations) (reach t at 3) _ (shallow x (List·Memᴰ·head refl)) (first-location t others x at f))
         (automata-read xs (afterAutomaton t at) rest (λ y q. shallow y (List·Memᴰ·tail q)) (after-automaton t others x at f))
 
-  whole-deep : (lawful : Lawful m) (t rest : List ℕ) → t ≡ sheetWords m ++ rest → ((l : Location) → LawfulLocation (m .variables) l → depth (part l) ≤ maxDepth)
+  whole-deep : (lawful : Lawful m) (t rest : List ℕ) → t ≡ sheetWords m ++ rest → ((l : Location) → LawfulLocation (m .variables) l → Readable (part l))
       → mergedDeep t inv ≡ isTooDeep (all (preds (atAutomata m part 0 (m .automata))))
   unfolding mergedDeep
   whole-deep lawful t rest e shallow =
@@ -131,11 +130,11 @@ updates-deep (x ∷ xs) = ap (λ b. ltb 23 (depth (x .edge .update)) || b) (upda
 module _ (m : Model) (lawful : Lawful m) (t rest : List ℕ) (e : t ≡ sheetWords m ++ rest) where
   pub init-deep : mergedDeep t false ≡ isTooDeep (mergedInit m)
   unfolding mergedInit
-  init-deep = whole-deep m false (λ l. l .init) init-part lawful t rest e (λ l h. h .init .shallow)
+  init-deep = whole-deep m false (λ l. l .init) init-part lawful t rest e (λ l h. readable (l .init) (h .init))
 
   pub inv-deep : mergedDeep t true ≡ isTooDeep (mergedInv m)
   unfolding mergedInv
-  inv-deep = whole-deep m true (λ l. l .inv) inv-part lawful t rest e (λ l h. h .inv .shallow)
+  inv-deep = whole-deep m true (λ l. l .inv) inv-part lawful t rest e (λ l h. readable (l .inv) (h .inv))
 
   pub edge-too-deep : (action : ℕ) (picks : List ℕ) → Valid action picks 0 (m .automata) → updatesDeep t (takers t action picks) ≡ isTooDeep (mergedEdge m action (takersFrom action picks 0 (m .automata)) .update)
   unfolding mergedEdge

@@ -11,9 +11,9 @@ use lib.ListN.{length, getD, take, drop, replicate, length-append, length-map, l
 use lib.Seq.{sets, sets-eq, drop-cons}
 use lib.Dec.{eqb, leb, ltb}
 use borrow.Author.Tests.{leb-true, le-leb, eq-eqb, ne-eqb}
-use Rattle.model.specs.Bounds.{bias, maxAutomata, maxDepth}
+use Rattle.model.specs.Bounds.{bias, maxAutomata}
 use Rattle.model.specs.Basic.{exists, keep}
-use Rattle.model.specs.Predicate.{Pred, all, none, eq, num, old, new, preds, Word, words, wordsAll, wordsOf, operands, nodeCount, depth}
+use Rattle.model.specs.Predicate.{Pred, all, none, eq, num, old, new, preds, Word, allOf, newWord, words, wordsAll, wordsOf, operands, nodeCount, depth}
 use Rattle.model.specs.Model.{Edge, Automaton, Model}
 use Rattle.model.specs.Rules.{Taker}
 use Rattle.model.specs.Lawful.{Lawful, LawfulAutomaton}
@@ -27,6 +27,9 @@ use Rattle.model.proofs.LinearLimits.{preds-count, pointers-length}
 use Rattle.table_places.specs.Outline.{reach, afterPredicate, edgesAt, afterAutomaton, automatonAt}
 use Rattle.table_places.proofs.OutlineLaws.{read, reached, wordsOf as linesOf, edgeWords, automatonWords, after-predicate, sheet-parts, edges-at, first-edge, after-automaton}
 use Rattle.merge_words.specs.Runs.{nodesAt}
+use Rattle.node_words.specs.declared.Node.the-variants.{New}
+use Rattle.node_words.specs.Nodes.{wordFor}
+use Rattle.node_words.proofs.NodeLaws.{new-held}
 use Rattle.merge_words.specs.NodeWords.{allNode, numberNode, oldNode, newNode, pointerOf, most, capped}
 use Rattle.merge_words.specs.Head.{variablesOf, automataOf}
 use Rattle.merge_words.specs.Depths.{updateDeep, updatesDeep}
@@ -36,7 +39,7 @@ use Rattle.merge_words.proofs.EdgeLaws.{at-most-is}
 use Rattle.merge_table.proofs.Standing.{narrow-is, run-length, nodes-stand, automata-cons}
 use Rattle.merge_table.proofs.HeadIs.{pointer-sum, variables-are, automata-are, automata-stand}
 use Rattle.merge_table.proofs.ClausesAre.{capped-most, capped-add, codes, codes-append, codes-cons, number-code, old-code, all-code}
-use Rattle.merge_table.proofs.DepthsAre.{deeper-stands}
+use Rattle.merge_table.proofs.DepthsAre.{Readable, readable, deeper-stands}
 
 -- past the last edge under an action; no valid pick names it
 abbrev pub noEdge : Edge
@@ -163,9 +166,9 @@ adds-none : (m : Model) (t : List ℕ) (i : ℕ) → Adds m t i 0 []
 unfolding updateAt moveAt takerOperands updateDeep exists preds words wordsAll wordsOf pointerMoves
 adds-none m t i = record { updates = refl; moves = refl; operands-add = λ sum h. rw (add-zero sum) (capped-is sum h); deep = refl }
 
-new-code : (k : ℕ) → k < 4294967296 → newNode k ≡ 8 + 16 * k
+new-code : (k : ℕ) → k < 65536 → newNode k ≡ code (newWord k)
 unfolding newNode
-new-code k h = ap (λ n. 8 + 16 * n) (narrow-is k h)
+new-code k h = ap (λ (n : ℕ). wordFor (New n)) (narrow-is k (omega arith)) ∙ new-held k (omega arith)
 
 module _ (m : Model) (t : List ℕ) (i place : ℕ) (e : Edge) (rest : List ℕ) (at : drop place t ≡ lineWords (edgeLine e) ++ rest) (above : 1 ≤ place) where
   taker : List Taker
@@ -186,11 +189,11 @@ module _ (m : Model) (t : List ℕ) (i place : ℕ) (e : Edge) (rest : List ℕ)
   unfolding lineWords
   to-read = read t (reach t place 2) (e .to) _ (reached t place 2 (e .from ∷ e .action ∷ []) _ at refl)
 
-  adds-one : length (m .variables) < 2147483648 → i < 2147483648 → e .from < 4294967296 → e .to < 4294967296 → depth (e .update) ≤ maxDepth → Adds m t i place (alone i e)
-  unfolding updateAt moveAt takerOperands updateDeep exists preds words wordsAll wordsOf pointerMoves code biased
+  adds-one : length (m .variables) < 32768 → i < 32768 → e .from < 65536 → e .to < 65536 → Readable (e .update) → Adds m t i place (alone i e)
+  unfolding updateAt moveAt takerOperands updateDeep exists preds words wordsAll wordsOf pointerMoves
   adds-one hv hi hf ht hd =
       let k : pointerOf (length (m .variables)) i ≡ pointer m i = pointer-sum (length (m .variables)) i (omega arith) (omega arith) ∙ (unfold pointer in refl) in
-      let kh : pointer m i < 4294967296 = small hv hi in
+      let kh : pointer m i < 65536 = small hv hi in
       let u : nodesAt t (reach t place 3) ≡ map code (words (e .update)) = nodes-stand t (reach t place 3) (e .update) rest update-place in
       let one : codes (e .update ∷ []) ≡ map code (words (e .update)) = codes-cons (e .update) [] ∙ append-nil (map code (words (e .update))) in
       record {
@@ -200,7 +203,7 @@ module _ (m : Model) (t : List ℕ) (i place : ℕ) (e : Edge) (rest : List ℕ)
         deep = rw (isnt, updateDeep) (deeper-stands t (e .update) 23 (reach t place 3) rest hd update-place ∙ or-none (ltb 23 (depth (e .update))));
       }
     where
-      small : length (m .variables) < 2147483648 → i < 2147483648 → pointer m i < 4294967296
+      small : length (m .variables) < 32768 → i < 32768 → pointer m i < 65536
       small a b = unfold pointer in omega arith
 
       or-none : (b : Bool) → b ≡ (b || false)
@@ -208,7 +211,7 @@ module _ (m : Model) (t : List ℕ) (i place : ℕ) (e : Edge) (rest : List ℕ)
       or-none false = refl
 
 -- the edges that stand at a lawful automaton's place
-taker-adds : (m : Model) (t : List ℕ) (A action i pick at : ℕ) (x : Automaton) (rest : List ℕ) → LawfulAutomaton (m .variables) A x → length (m .variables) < 2147483648 → i < 2147483648
+taker-adds : (m : Model) (t : List ℕ) (A action i pick at : ℕ) (x : Automaton) (rest : List ℕ) → LawfulAutomaton (m .variables) A x → length (m .variables) < 32768 → i < 32768
     → 1 ≤ length t → drop at t ≡ linesOf (automatonLines x) ++ rest → pick ≤ length (under action (x .edges)) → Adds m t i (takenAt t action pick at) (takerBy action i x pick)
 unfolding takenAt takerBy keep under
 taker-adds m t A action i zero at x rest lawful hv hi some e few = adds-none m t i
@@ -224,7 +227,7 @@ taker-adds m t A action i (suc j) at x rest lawful hv hi some e few =
     let l = lawful .edges d (keep-out (λ y. eqb (y .action) action) (x .edges) (member-at (under action (x .edges)) j (omega arith)) .0) in
     let few-locations = lawful .few-locations in
     let it : takenAt t action (suc j) at ≡ place = rw (z, one, n, takenAt) in
-    rw it (adds-one m t i place d (s .0) (s .1) above hv hi (omega (arith, l .from)) (omega (arith, l .to)) (l .update .shallow))
+    rw it (adds-one m t i place d (s .0) (s .1) above hv hi (omega (arith, l .from)) (omega (arith, l .to)) (readable (d .update) (l .update)))
   where
     member-at : (l : List Edge) (k : ℕ) → k < length l → List·Memᴰ (getD l k noEdge) l
     member-at [] k h = absurd (omega arith)
@@ -265,7 +268,7 @@ adds-zeros m t i zero = record { updates = refl; moves = refl; operands-add = λ
 adds-zeros m t i (suc k) = adds-more m t i 0 (replicate k 0) [] [] (adds-none m t i) (adds-zeros m t (suc i) k)
 
 adds-all : (m : Model) (t : List ℕ) (A action : ℕ) (picks : List ℕ) (xs : List Automaton) (i at k : ℕ) (rest : List ℕ) → ((x : Automaton) → List·Memᴰ x xs → LawfulAutomaton (m .variables) A x)
-    → length (m .variables) < 2147483648 → i + length xs < 2147483648 → 1 ≤ length t → drop at t ≡ automatonWords xs ++ rest → Valid action picks i xs
+    → length (m .variables) < 32768 → i + length xs < 32768 → 1 ≤ length t → drop at t ≡ automatonWords xs ++ rest → Valid action picks i xs
     → AddsAll m t i (takenFrom t action picks i (length xs) at ++ replicate k 0) (takersFrom action picks i xs)
 unfolding takenFrom takersFrom Valid
 adds-all m t A action picks [] i at k rest lawful hv hi some e valid = adds-zeros m t i k
@@ -375,7 +378,7 @@ module _ (m : Model) (lawful : Lawful m) (t rest : List ℕ) (e : t ≡ sheetWor
   edge-nodes = nodes-read
 
   pub edge-words : nodeCount (mergedEdge m action named .update) ≤ most → edgeWordsAt t action picks ≡ lineWords (edgeLine (mergedEdge m action named))
-  unfolding edgeWordsAt edgeBy mergedEdge lineWords predWords words wordsAll wordsOf code
+  unfolding edgeWordsAt edgeBy mergedEdge lineWords predWords words wordsAll wordsOf
   edge-words few =
       let a = takers-add in
       let us = map (λ (y : Taker). y .edge .update) named in
@@ -384,7 +387,7 @@ module _ (m : Model) (lawful : Lawful m) (t rest : List ℕ) (e : t ≡ sheetWor
       let total : 3 * length named ≡ operands (preds parts) =
       omega (arith, preds-count parts, length-append us (pointerMoves m named), length-map named (λ (y : Taker). y .edge .update), pointers-length m named) in
       let small : 3 * length named ≤ most = omega arith in
-      let node : allNode (takersOperands 0 (takers t action picks)) ≡ 0 + 16 * operands (preds parts) =
+      let node : allNode (takersOperands 0 (takers t action picks)) ≡ code (allOf (operands (preds parts))) =
       ap allNode (a .operands-add 0 (omega arith) ∙ ap capped (omega arith) ∙ sym (capped-is (3 * length named) small) ∙ total) ∙ all-code (operands (preds parts)) (omega arith) in
       let nodes : takersNodes t 1 (takers t action picks) ≡ nodeCount (all (preds parts)) = nodes-read ∙ sym (capped-is (nodeCount (all (preds parts))) few) in
       let both : updatesAt t (takers t action picks) ++ movesAt t (variablesOf t) 0 (takers t action picks) ≡ codes parts =

@@ -17,6 +17,7 @@ use Rattle.model.specs.Model.{Model}
 use Rattle.model.specs.Lawful.{Lawful}
 use Rattle.model.specs.Lines.{Entry, formatLine, actionsLine, variablesLine, variableLine, automataLine, syncLine, locationsLine, initLine, invLine, edgesLine, edgeLine, composeLine, lines, Reading, atFirst, noted}
 use Rattle.model.specs.Limits.{inRange, treeInRange, numbersInRange, rises, treeRises, isTooDeep, exceedsSpan, passesNodes, variableCount, listsFilled, isDisordered, isTooLarge, predFault, locationFault, contentFault, faultOf, withinLimits, limits}
+use Rattle.node_words.proofs.NodeLaws.{code-small}
 use Rattle.model.specs.Table.{biased, lowBits, highBits, setWords, code, predWords, lineWords, sheetWords}
 use Rattle.model.proofs.Tests.{and-intro, and-left, and-right}
 use Rattle.model.proofs.LimitsLaws.{lawful-is}
@@ -43,23 +44,6 @@ biased-small : (z : ℤ) → between leastNumber greatestNumber z ≡ true → b
 unfolding biased between
 biased-small (pos n) h = let l = leb-true n 32767 h in omega arith
 biased-small (negsuc n) h = omega arith
-
-code-small : (w : Word) → inRange w ≡ true → code w < 4294967296
-unfolding code inRange
-code-small (allOf k) h = let l = leb-true k 512 h in omega arith
-code-small (anyOf k) h = let l = leb-true k 512 h in omega arith
-code-small notWord h = omega arith
-code-small impWord h = omega arith
-code-small eqWord h = omega arith
-code-small leWord h = omega arith
-code-small (numWord z) h = let l = biased-small z h in omega arith
-code-small (oldWord k) h = let l = leb-true k 47 h in omega arith
-code-small (newWord k) h = let l = leb-true k 47 h in omega arith
-code-small addWord h = omega arith
-code-small subWord h = omega arith
-code-small mulWord h = omega arith
-code-small ifWord h = omega arith
-code-small stray h = omega arith
 
 codes-fit : (ws : List Word) → every inRange ws ≡ true → Fit (map code ws)
 unfolding every

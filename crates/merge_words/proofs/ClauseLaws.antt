@@ -27,11 +27,11 @@ module _ (t : List ℕ) (inv : Bool) (at : ℕ) where
 pub ruleset part-laws = (part-inv, part-init)
 
 -- `clause`
-pub clause-is : (t : List ℕ) (k j part o z : ℕ) → o ≡ oldNode k → z ≡ numberNode j → (at a b c d r : ℕ) (old m1 m2 m3 m4 new : List ℕ)
-    → Appended (impNode ∷ []) at old m1 a → Appended (eqNode ∷ []) a m1 m2 b → Appended (o ∷ []) b m2 m3 c → Appended (z ∷ []) c m3 m4 d
+pub clause-is : (t : List ℕ) (k j part i q o z : ℕ) → i ≡ impNode → q ≡ eqNode → o ≡ oldNode k → z ≡ numberNode j → (at a b c d r : ℕ) (old m1 m2 m3 m4 new : List ℕ)
+    → Appended (i ∷ []) at old m1 a → Appended (q ∷ []) a m1 m2 b → Appended (o ∷ []) b m2 m3 c → Appended (z ∷ []) c m3 m4 d
     → Appended (nodesAt t part) d m4 new r → Appended (clauseWords t k j part) at old new r
 unfolding clauseWords
-clause-is t k j part o z e f at a b c d r old m1 m2 m3 m4 new p1 p2 p3 p4 p5 = rw (← e, ← f) (then p1 (then p2 (then p3 (then p4 p5))))
+clause-is t k j part i q o z g h e f at a b c d r old m1 m2 m3 m4 new p1 p2 p3 p4 p5 = rw (← g, ← h, ← e, ← f) (then p1 (then p2 (then p3 (then p4 p5))))
 
 -- past a location
 abbrev two : (t : List ℕ) (at : ℕ) → ℕ

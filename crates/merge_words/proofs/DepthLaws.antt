@@ -2,57 +2,74 @@
 use mathlib.Core.Path.{_≡_, refl, sym, ap, ap₂, _∙_}
 use mathlib.Core.Bool.{Bool, true, false, _||_}
 use mathlib.Core.List.{List, [], _∷_, _++_}
-use Prim.Native.Nat.{ℕ, zero, suc, _+_, _-_, _/_, _%_, _≤_, _<_}
+use Prim.Native.Nat.{ℕ, zero, suc, _+_, _-_, _≤_, _<_}
 use native.Mathlib.Omega.{arith}
 use native.Mathlib.Numerals.{sub-one, add-one}
-use lib.ListN.{length, getD, drop, drop-of-length-le}
+use lib.ListN.{length, getD, drop, drop-of-length-le, List·getD-eq-default}
 use lib.Dec.{eqb, leb, ltb}
 use borrow.Author.Tests.{eq-eqb, ne-eqb, le-leb, lt-leb, lt-ltb, le-ltb}
 use Rattle.model.specs.Bounds.{maxDepth}
+use Rattle.node_words.specs.declared.Node.{Node}
+use Rattle.node_words.specs.declared.Node.the-variants.{All, Any, Not, Imp, Eq, Le, Number, Old, New, Add, Sub, Mul, If, Stray}
+use Rattle.node_words.specs.Nodes.{meant, nodeOf}
+use Rattle.node_words.proofs.NodeLaws.{word-by, Other, by-others}
 use Rattle.table_places.specs.Outline.{reach, afterPredicate, afterAutomaton, countAt, automatonAt}
 use Rattle.merge_words.specs.declared.depth.Depth.{Depth}
 use Rattle.merge_words.specs.NodeWords.{capped}
 use Rattle.merge_words.specs.Head.{automataOf}
 use Rattle.merge_words.specs.Clauses.{partAt}
-use Rattle.merge_words.specs.Depths.{operandsBy, operandsOf, depthTo, greater, deepest, depthAt, isDeeper, locationsDeeper, automataDeeper, mergedDeep, updateDeep, updatesDeep}
+use Rattle.merge_words.specs.Depths.{arity, operandsOf, depthTo, greater, deepest, depthAt, isDeeper, locationsDeeper, automataDeeper, mergedDeep, updateDeep, updatesDeep}
 use Rattle.merge_words.proofs.EdgeLaws.{one-more, no-more}
 
 -- `operands_of`
-module _ (w : ℕ) where
-  pub kind-one : w % 16 ≤ 1 → w / 16 ≡ operandsOf w
-  unfolding operandsOf operandsBy
-  kind-one a = rw (le-leb (w % 16) 1 a, operandsBy)
+abbrev not-two : List Node
+not-two = All 0 ∷ Any 0 ∷ Not ∷ Number 0 ∷ Old 0 ∷ New 0 ∷ If ∷ Stray ∷ []
 
-  module _ (n1 : 1 < w % 16) where
-    pub kind-two : w % 16 ≡ 2 → 1 ≡ operandsOf w
-    unfolding operandsOf operandsBy
-    kind-two a = rw (lt-leb (w % 16) 1 n1, operandsBy, eq-eqb (w % 16) 2 a)
+abbrev with-operands : List Node
+with-operands = All 0 ∷ Any 0 ∷ Not ∷ Imp ∷ Eq ∷ Le ∷ Add ∷ Sub ∷ Mul ∷ If ∷ []
 
-    module _ (n2 : w % 16 ≡ 2 → ⊥) where
-      pub kind-five : w % 16 ≤ 5 → 2 ≡ operandsOf w
-      unfolding operandsOf operandsBy
-      kind-five a = rw (lt-leb (w % 16) 1 n1, operandsBy, ne-eqb (w % 16) 2 n2, le-leb (w % 16) 5 a)
+module _ (n : Node) where
+  pub arity-all : (k r : ℕ) → n ≡ All k → r ≡ k → r ≡ arity (meant n)
+  unfolding arity meant
+  arity-all k r h e = rw h e
 
-      module _ (n5 : 5 < w % 16) where
-        pub kind-eight : w % 16 ≤ 8 → 0 ≡ operandsOf w
-        unfolding operandsOf operandsBy
-        kind-eight a = rw (lt-leb (w % 16) 1 n1, operandsBy, ne-eqb (w % 16) 2 n2, lt-leb (w % 16) 5 n5, le-leb (w % 16) 8 a)
+  pub arity-any : (k r : ℕ) → n ≡ Any k → r ≡ k → r ≡ arity (meant n)
+  unfolding arity meant
+  arity-any k r h e = rw h e
 
-        module _ (n8 : 8 < w % 16) where
-          pub kind-eleven : w % 16 ≤ 11 → 2 ≡ operandsOf w
-          unfolding operandsOf operandsBy
-          kind-eleven a = rw (lt-leb (w % 16) 1 n1, operandsBy, ne-eqb (w % 16) 2 n2, lt-leb (w % 16) 5 n5, lt-leb (w % 16) 8 n8, le-leb (w % 16) 11 a)
+  pub arity-one : n ≡ Not → 1 ≡ arity (meant n)
+  unfolding arity meant
+  arity-one h = rw h
 
-          module _ (n11 : 11 < w % 16) where
-            pub kind-twelve : w % 16 ≡ 12 → 3 ≡ operandsOf w
-            unfolding operandsOf operandsBy
-            kind-twelve a = rw (lt-leb (w % 16) 1 n1, operandsBy, ne-eqb (w % 16) 2 n2, lt-leb (w % 16) 5 n5, lt-leb (w % 16) 8 n8, lt-leb (w % 16) 11 n11, eq-eqb (w % 16) 12 a)
+  pub arity-two : Other not-two n → 2 ≡ arity (meant n)
+  unfolding arity meant
+  arity-two o =
+      by-others (λ (m : Node). 2 ≡ arity (meant m)) not-two n o
+      (tt, tt, tt, refl, refl, refl, tt, tt, tt, refl, refl, refl, tt, tt)
 
-            pub kind-other : (w % 16 ≡ 12 → ⊥) → 0 ≡ operandsOf w
-            unfolding operandsOf operandsBy
-            kind-other a = rw (lt-leb (w % 16) 1 n1, operandsBy, ne-eqb (w % 16) 2 n2, lt-leb (w % 16) 5 n5, lt-leb (w % 16) 8 n8, lt-leb (w % 16) 11 n11, ne-eqb (w % 16) 12 a)
+  pub arity-three : n ≡ If → 3 ≡ arity (meant n)
+  unfolding arity meant
+  arity-three h = rw h
 
-pub ruleset kind-laws = (kind-one, kind-two, kind-five, kind-eight, kind-eleven, kind-twelve, kind-other)
+  pub arity-none : Other with-operands n → 0 ≡ arity (meant n)
+  unfolding arity meant
+  arity-none o =
+      let none : (k : ℕ) → _≡_ {A = ℕ} 0 0 = λ k. refl in
+      by-others (λ (m : Node). 0 ≡ arity (meant m)) with-operands n o
+      (tt, tt, tt, tt, tt, tt, none, none, none, tt, tt, tt, tt, refl)
+
+pub ruleset arity-laws = (arity-all, arity-any, arity-one, arity-two, arity-three, arity-none)
+
+-- `operands_at`
+module _ (t : List ℕ) (at w : ℕ) (n : Node) (r : ℕ) (is : n ≡ nodeOf w) (e : r ≡ arity (meant n)) where
+  pub operands-is : w ≡ getD t at 0 → r ≡ operandsOf (getD t at 0)
+  unfolding operandsOf
+  operands-is f = rw (← f, word-by w n n is refl) e
+
+  pub operands-past : w ≡ 0 → length t ≤ at → r ≡ operandsOf (getD t at 0)
+  operands-past f h = operands-is (f ∙ sym (List·getD-eq-default t 0 h))
+
+pub ruleset operands-laws = (operands-is, operands-past)
 
 -- `greater`
 module _ (a b : ℕ) where
@@ -75,8 +92,8 @@ module _ (t : List ℕ) where
   unfolding depthAt
   depth-none left at z = rw z
 
-  pub deepest-first : (left at w k s : ℕ) → w ≡ getD t at 0 → k ≡ operandsOf w → s ≡ reach t at 1 → deepest (D (left - 1)) k s 0 ≡ deepest (D (left - 1)) (operandsOf (getD t at 0)) (reach t at 1) 0
-  deepest-first left at w k s ew ek es = rw (es, ek, ew)
+  pub deepest-first : (left at k s : ℕ) → k ≡ operandsOf (getD t at 0) → s ≡ reach t at 1 → deepest (D (left - 1)) k s 0 ≡ deepest (D (left - 1)) (operandsOf (getD t at 0)) (reach t at 1) 0
+  deepest-first left at k s ek es = rw (es, ek)
 
   module _ (below rest next d : ℕ) (whole : Depth) (i : deepest (D below) rest next d ≡ whole) where
     pub deepest-turn : (rest ≡ 0 → ⊥) → (x : Depth) (g : ℕ) → x ≡ D below next → g ≡ greater d (x .depth) → deepest (D below) (rest - 1) (x .next) g ≡ whole

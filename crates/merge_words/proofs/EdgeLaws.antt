@@ -175,9 +175,9 @@ module _ (t : List ℕ) (place at : ℕ) (old : List ℕ) where
 pub ruleset update-laws = (update-none, update-is)
 
 -- `equal`
-pub equal-is : (p l z at a b r : ℕ) (old m1 m2 new : List ℕ) → z ≡ numberNode l → Appended (eqNode ∷ []) at old m1 a → Appended (p ∷ []) a m1 m2 b → Appended (z ∷ []) b m2 new r
+pub equal-is : (p l q z at a b r : ℕ) (old m1 m2 new : List ℕ) → q ≡ eqNode → z ≡ numberNode l → Appended (q ∷ []) at old m1 a → Appended (p ∷ []) a m1 m2 b → Appended (z ∷ []) b m2 new r
     → Appended (eqNode ∷ p ∷ numberNode l ∷ []) at old new r
-equal-is p l z at a b r old m1 m2 new e p1 p2 p3 = rw (← e) (then p1 (then p2 p3))
+equal-is p l q z at a b r old m1 m2 new f e p1 p2 p3 = rw (← f, ← e) (then p1 (then p2 p3))
 
 -- `pointer_move`
 module _ (t : List ℕ) (k place at : ℕ) (old : List ℕ) where

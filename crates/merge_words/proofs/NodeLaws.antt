@@ -1,4 +1,4 @@
--- Each way out of the code of src/node_words.rt, and the words of small numbers.
+-- Each way out of the code of src/words.rt, and the words of small numbers.
 use mathlib.Core.Path.{_≡_, refl, ap}
 use mathlib.Core.Bool.{Bool, true, false}
 use Prim.Native.Nat.{ℕ, _+_, _-_, _*_, _%_, _≤_, _<_}
@@ -6,34 +6,45 @@ use native.Mathlib.Omega.{arith}
 use native.Mathlib.Nat.{mod-eq-of-lt}
 use lib.Dec.{leb}
 use borrow.Author.Tests.{leb-true, leb-false, le-leb, lt-leb}
+use Rattle.node_words.specs.declared.Node.the-variants.{All, Imp, Eq, Number, Old, New}
+use Rattle.node_words.specs.Nodes.{meant, fitted, wordFor}
 use Rattle.merge_words.specs.Append.{narrow}
-use Rattle.merge_words.specs.NodeWords.{upward, allNode, numberNode, oldNode, newNode, pointerOf, most, capped}
+use Rattle.merge_words.specs.NodeWords.{upward, impNode, eqNode, allNode, numberNode, oldNode, newNode, pointerOf, most, capped}
 
 pub upward-is : (z : ℕ) → 32768 + z % 4294967296 ≡ upward z
 unfolding upward narrow
 upward-is z = refl
 
-pub all-is : (k : ℕ) → 16 * (k % 4294967296) ≡ allNode k
-unfolding allNode narrow
-all-is k = refl
+pub imp-is : (r : ℕ) → r ≡ wordFor Imp → r ≡ impNode
+unfolding wordFor fitted meant
+imp-is r e = e
 
-pub number-is : (z : ℕ) → 6 + 16 * (32768 + z % 4294967296) ≡ numberNode z
-unfolding numberNode upward narrow
-number-is z = refl
+pub eq-is : (r : ℕ) → r ≡ wordFor Eq → r ≡ eqNode
+unfolding wordFor fitted meant
+eq-is r e = e
 
-pub old-is : (k : ℕ) → 7 + 16 * (k % 4294967296) ≡ oldNode k
-unfolding oldNode narrow
-old-is k = refl
+module _ (k j r : ℕ) (e : j ≡ narrow k) where
+  pub all-is : r ≡ wordFor (All j) → r ≡ allNode k
+  unfolding allNode
+  all-is h = rw (← e) h
 
-pub new-is : (k : ℕ) → 8 + 16 * (k % 4294967296) ≡ newNode k
-unfolding newNode narrow
-new-is k = refl
+  pub old-is : r ≡ wordFor (Old j) → r ≡ oldNode k
+  unfolding oldNode
+  old-is h = rw (← e) h
+
+  pub new-is : r ≡ wordFor (New j) → r ≡ newNode k
+  unfolding newNode
+  new-is h = rw (← e) h
+
+pub number-is : (z u j r : ℕ) → u ≡ upward z → j ≡ narrow u → r ≡ wordFor (Number j) → r ≡ numberNode z
+unfolding numberNode
+number-is z u j r e f h = rw (← e, ← f) h
 
 pub pointer-is : (v i : ℕ) → v % 4294967296 + i % 4294967296 ≡ pointerOf v i
 unfolding pointerOf narrow
 pointer-is v i = refl
 
-pub ruleset node-laws = (upward-is, all-is, number-is, old-is, new-is, pointer-is)
+pub ruleset node-laws = (upward-is, imp-is, eq-is, all-is, number-is, old-is, new-is, pointer-is)
 
 -- `add`
 pub capped-over : (n : ℕ) → most < n → most ≡ capped n

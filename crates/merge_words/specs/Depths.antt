@@ -1,44 +1,37 @@
 -- How deep the nodes nest that stand from a place on. On the words of a predicate it is the predicate's depth: the law depth-of.
 use mathlib.Core.Bool.{Bool, true, false, _||_}
 use mathlib.Core.List.{List, [], _∷_}
-use Prim.Native.Nat.{ℕ, zero, suc, _+_, _/_, _%_, max}
+use Prim.Native.Nat.{ℕ, zero, suc, _+_, max}
 use lib.ListN.{getD}
 use lib.Dec.{eqb, leb, ltb}
 use Rattle.model.specs.Bounds.{maxDepth}
+use Rattle.model.specs.Predicate.{Word, allOf, anyOf, notWord, impWord, eqWord, leWord, numWord, oldWord, newWord, addWord, subWord, mulWord, ifWord, stray}
+use Rattle.model.specs.Table.{wordOf}
 use Rattle.table_places.specs.Outline.{reach, afterPredicate, afterAutomaton, automatonAt}
 use Rattle.merge_words.specs.declared.depth.Depth.{Depth}
 use Rattle.merge_words.specs.Head.{automataOf}
 use Rattle.merge_words.specs.Clauses.{partAt}
 use Rattle.merge_words.specs.NodeWords.{capped}
 
--- the operands of a node, by its kind: K of `all` and `any`; one of `not`; two of `imp`, `eq`, `le`; none of a number or a
--- variable; two of `add`, `sub`, `mul`; three of `if`
-unfoldable pub operandsBy : (kind argument : ℕ) → ℕ
-operandsBy kind k =
-    elim (leb kind 1) [
-      | true ↦ k
-      | false ↦
-          elim (eqb kind 2) [
-            | true ↦ 1
-            | false ↦
-                elim (leb kind 5) [
-                  | true ↦ 2
-                  | false ↦
-                      elim (leb kind 8) [
-                        | true ↦ 0
-                        | false ↦
-                            elim (leb kind 11) [
-                              | true ↦ 2
-                              | false ↦
-                                  elim (eqb kind 12) [ true ↦ 3 | false ↦ 0 ]
-                            ]
-                      ]
-                ]
-          ]
-    ]
+-- the operands of a node
+unfoldable pub arity : Word → ℕ
+arity (allOf k) = k
+arity (anyOf k) = k
+arity notWord = 1
+arity impWord = 2
+arity eqWord = 2
+arity leWord = 2
+arity (numWord z) = 0
+arity (oldWord k) = 0
+arity (newWord k) = 0
+arity addWord = 2
+arity subWord = 2
+arity mulWord = 2
+arity ifWord = 3
+arity stray = 0
 
 unfoldable pub operandsOf : (word : ℕ) → ℕ
-operandsOf w = operandsBy (w % 16) (w / 16)
+operandsOf w = arity (wordOf w)
 
 abbrev pub depthTo : (depth next : ℕ) → Depth
 depthTo d next = record { depth = d; next = next }

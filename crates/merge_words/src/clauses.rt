@@ -1,6 +1,6 @@
 // The merged init, and the merged inv: `all K` of `imp eq vI J` with that init (or inv), for each automaton's pointer and location.
-use crate::node_words::{self};
 use crate::put::{self};
+use crate::words::{self};
 use model::Model;
 ghost use mathlib.Core.Path.{_≡_};
 ghost use lib.ListN.{length};
@@ -30,10 +30,10 @@ fn clause(
     requires { ⌜ length (now out) ≡ tableWords ⌝ }
     ensures { λ r. ⌜ Appended (clauseWords (now (t .entry)) k j part) at (now (out .entry)) (now (out .exit)) r ⌝ }
 {
-    let a = put::put(node_words::IMP, out, at);
-    let b = put::put(node_words::EQ, out, a);
-    let c = put::put(node_words::old_node(k), out, b);
-    let d = put::put(node_words::number_node(j), out, c);
+    let a = put::put(words::imp_node(), out, at);
+    let b = put::put(words::eq_node(), out, a);
+    let c = put::put(words::old_node(k), out, b);
+    let d = put::put(words::number_node(j), out, c);
     put::nodes(t, part, out, d)
 }
 
@@ -105,7 +105,7 @@ fn at_automata(
     let mut place = first;
     let mut next = at;
     while left != 0 {
-        next = at_automaton(t, inv, node_words::pointer(variables, i), place, out, next);
+        next = at_automaton(t, inv, words::pointer(variables, i), place, out, next);
         place = table_places::after_automaton(t, place);
         i += 1;
         left -= 1;
@@ -122,7 +122,7 @@ fn location_nodes(t: &[u32], inv: bool, count: usize, first: usize, sum: usize) 
     let mut total = sum;
     while left != 0 {
         let nodes = table_places::word(t, part(t, inv, place));
-        total = node_words::add(node_words::add(total, 4), nodes);
+        total = words::add(words::add(total, 4), nodes);
         place = table_places::after_predicate(t, table_places::after_predicate(t, place));
         left -= 1;
     }
@@ -154,7 +154,7 @@ fn location_total(t: &[u32], count: usize, first: usize) -> usize
     let mut total = 0;
     while left != 0 {
         let locations = table_places::word(t, table_places::step(t, place, 2));
-        total = node_words::add(total, locations);
+        total = words::add(total, locations);
         place = table_places::after_automaton(t, place);
         left -= 1;
     }
@@ -178,6 +178,6 @@ pub fn merged(t: &[u32], inv: bool, out: &mut [u32; Model::WORDS], at: usize) ->
     let first = table_places::automaton_at(t, 0);
     let a = put::put(merged_nodes(t, inv), out, at);
     let operands = location_total(t, automata, first);
-    let b = put::put(node_words::all_node(operands), out, a);
+    let b = put::put(words::all_node(operands), out, a);
     at_automata(t, inv, table_places::word(t, 2), automata, first, out, b)
 }

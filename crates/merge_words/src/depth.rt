@@ -1,10 +1,12 @@
 // How deep the predicates nest that the merged ones take in (row 33).
 use crate::clauses::{self};
-use crate::node_words::{self};
+use crate::words::{self};
+use node_words::Node;
 ghost use mathlib.Core.Path.{_≡_};
-ghost use lib.ListN.{length};
+ghost use lib.ListN.{length, getD};
 ghost use Rattle.model.specs.Bounds.{maxAutomata};
-ghost use Rattle.merge_words.specs.Depths.{operandsOf, greater, depthAt, isDeeper, locationsDeeper, automataDeeper, mergedDeep, updateDeep, updatesDeep};
+ghost use Rattle.node_words.specs.Nodes.{meant};
+ghost use Rattle.merge_words.specs.Depths.{arity, operandsOf, greater, depthAt, isDeeper, locationsDeeper, automataDeeper, mergedDeep, updateDeep, updatesDeep};
 
 // How deep a node and its operands nest, and where the words after them begin.
 pub struct Depth {
@@ -12,26 +14,28 @@ pub struct Depth {
     pub next: usize,
 }
 
-// The operands of a node, by its kind.
-fn operands_of(word: usize) -> usize
-    ensures { λ r. ⌜ r ≡ operandsOf word ⌝ }
+// How many operands a node has.
+fn operands_of(node: Node) -> usize
+    ensures { λ r. ⌜ r ≡ arity (meant node) ⌝ }
 {
-    let kind = word % 16;
-    if kind <= 1 {
-        word / 16
-    } else if kind == 2 {
-        1
-    } else if kind <= 5 {
-        2
-    } else if kind <= 8 {
-        0
-    } else if kind <= 11 {
-        2
-    } else if kind == 12 {
-        3
-    } else {
-        0
+    match node {
+        Node::All(k) => arithmetic::index(k),
+        Node::Any(k) => arithmetic::index(k),
+        Node::Not => 1,
+        Node::Imp | Node::Eq | Node::Le | Node::Add | Node::Sub | Node::Mul => 2,
+        Node::If => 3,
+        _ => 0,
     }
+}
+
+// The operands of the node at a place; past the end the words are 0.
+fn operands_at(t: &[u32], at: usize) -> usize
+    ensures { λ r. ⌜ r ≡ operandsOf (getD (now (t .entry)) at 0) ⌝ }
+{
+    if t.len() <= at {
+        return operands_of(node_words::node_of(0));
+    }
+    operands_of(node_words::node_of(t[at]))
 }
 
 fn greater(a: usize, b: usize) -> usize
@@ -48,7 +52,7 @@ fn depth_at(t: &[u32], left: usize, at: usize) -> Depth
         return Depth { depth: 0, next: at };
     }
     let below = left - 1;
-    let mut rest = operands_of(table_places::word(t, at));
+    let mut rest = operands_at(t, at);
     let mut next = table_places::step(t, at, 1);
     let mut deepest = 0;
     while rest != 0 {
@@ -58,7 +62,7 @@ fn depth_at(t: &[u32], left: usize, at: usize) -> Depth
         rest -= 1;
     }
     Depth {
-        depth: node_words::add(1, deepest),
+        depth: words::add(1, deepest),
         next,
     }
 }

@@ -2,8 +2,8 @@
 use crate::layout::Layout;
 use crate::layout::{self};
 use crate::merged_edge::{self};
-use crate::node_words::{self};
 use crate::put::{self};
+use crate::words::{self};
 use model::Model;
 ghost use mathlib.Core.Path.{_≡_};
 ghost use Prim.Native.Nat.{_+_, _≤_};
@@ -22,7 +22,7 @@ pub struct Counts {
 fn one_more(here: bool, sum: usize) -> usize
     ensures { λ r. ⌜ r ≡ oneMore here sum ⌝ }
 {
-    if here { node_words::add(sum, 1) } else { sum }
+    if here { words::add(sum, 1) } else { sum }
 }
 
 // Of `count` edges, how many are under the action.
@@ -185,7 +185,7 @@ pub fn all_moves(t: &[u32], own: &[u64; 16], last: u32) -> usize
     let mut action = 0;
     let mut sum = 0;
     while action <= last {
-        sum = node_words::add(sum, arithmetic::index(action_moves(t, x, own, action)));
+        sum = words::add(sum, arithmetic::index(action_moves(t, x, own, action)));
         action += 1;
     }
     sum

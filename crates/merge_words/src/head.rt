@@ -1,6 +1,6 @@
 // The merged sheet's words before its automaton.
-use crate::node_words::{self};
 use crate::put::{self};
+use crate::words::{self};
 use model::Model;
 ghost use mathlib.Core.Path.{_≡_};
 ghost use mathlib.Core.List.{[], _∷_};
@@ -44,7 +44,7 @@ fn pointers(
     let mut place = first;
     let mut next = at;
     while left != 0 {
-        next = range(node_words::upward(last_location(t, place)), out, next);
+        next = range(words::upward(last_location(t, place)), out, next);
         place = table_places::after_automaton(t, place);
         left -= 1;
     }
@@ -68,11 +68,11 @@ pub fn head(t: &[u32], out: &mut [u32; Model::WORDS], at: usize) -> usize
 {
     let variables = table_places::word(t, 2);
     let automata = table_places::word(t, table_places::count_at(t));
-    let a = numbers(t, node_words::pointer(variables, automata), out, at);
+    let a = numbers(t, words::pointer(variables, automata), out, at);
     let b = put::copy(
         t,
         table_places::step(t, 0, 3),
-        node_words::pointer(variables, variables),
+        words::pointer(variables, variables),
         out,
         a,
     );

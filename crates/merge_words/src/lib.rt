@@ -6,12 +6,12 @@ mod edges;
 mod head;
 mod layout;
 mod merged_edge;
-mod node_words;
 mod put;
 mod rows;
 mod sheet;
 mod survey;
 mod sync;
+mod words;
 
 use model::Model;
 ghost use mathlib.Core.Path.{_≡_};

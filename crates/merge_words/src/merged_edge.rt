@@ -1,6 +1,6 @@
 // One merged edge, from what each automaton takes: none by 0, and edge j among its edges under the action by 1 + j.
-use crate::node_words::{self};
 use crate::put::{self};
+use crate::words::{self};
 use model::Model;
 ghost use mathlib.Core.Path.{_≡_};
 ghost use mathlib.Core.List.{[], _∷_};
@@ -99,9 +99,9 @@ fn equal(pointer: usize, location: usize, out: &mut [u32; Model::WORDS], at: usi
     requires { ⌜ length (now out) ≡ tableWords ⌝ }
     ensures { λ r. ⌜ Appended (eqNode ∷ pointer ∷ numberNode location ∷ []) at (now (out .entry)) (now (out .exit)) r ⌝ }
 {
-    let a = put::put(node_words::EQ, out, at);
+    let a = put::put(words::eq_node(), out, at);
     let b = put::put(pointer, out, a);
-    put::put(node_words::number_node(location), out, b)
+    put::put(words::number_node(location), out, b)
 }
 
 // A taker's pointer was FROM and becomes TO.
@@ -120,8 +120,8 @@ fn pointer_move(
     }
     let from = table_places::word(t, place);
     let to = table_places::word(t, table_places::step(t, place, 2));
-    let a = equal(node_words::old_node(k), from, out, at);
-    equal(node_words::new_node(k), to, out, a)
+    let a = equal(words::old_node(k), from, out, at);
+    equal(words::new_node(k), to, out, a)
 }
 
 fn updates(t: &[u32], places: &[usize; 16], out: &mut [u32; Model::WORDS], at: usize) -> usize
@@ -150,7 +150,7 @@ fn pointer_moves(
     let mut next = at;
     let mut i = 0;
     while i < 16 {
-        next = pointer_move(t, node_words::pointer(variables, i), places[i], out, next);
+        next = pointer_move(t, words::pointer(variables, i), places[i], out, next);
         i += 1;
     }
     next
@@ -164,7 +164,7 @@ fn taker_nodes(t: &[u32], sum: usize, place: usize) -> usize
         return sum;
     }
     let nodes = table_places::word(t, table_places::step(t, place, 3));
-    node_words::add(node_words::add(sum, 6), nodes)
+    words::add(words::add(sum, 6), nodes)
 }
 
 // The nodes of a merged edge's update.
@@ -187,7 +187,7 @@ fn taker_operands(sum: usize, place: usize) -> usize
     if place == 0 {
         return sum;
     }
-    node_words::add(sum, 3)
+    words::add(sum, 3)
 }
 
 // The operands of a merged edge's `all`: three for a taker.
@@ -219,7 +219,7 @@ pub fn edge(
     let b = put::put(action, out, a);
     let c = put::put(0, out, b);
     let d = put::put(takers_nodes(t, places), out, c);
-    let e = put::put(node_words::all_node(takers_operands(places)), out, d);
+    let e = put::put(words::all_node(takers_operands(places)), out, d);
     let f = updates(t, places, out, e);
     pointer_moves(t, table_places::word(t, 2), places, out, f)
 }

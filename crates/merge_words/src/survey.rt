@@ -5,7 +5,7 @@ use crate::edges::{self};
 use crate::layout::Layout;
 use crate::layout::{self};
 use crate::merged_edge::{self};
-use crate::node_words::{self};
+use crate::words::{self};
 ghost use mathlib.Core.Path.{_≡_};
 ghost use Prim.Native.Nat.{_+_, _≤_};
 ghost use Rattle.merge_words.specs.Layout.{layoutOf};
@@ -27,7 +27,7 @@ fn with_edge(t: &[u32], x: Layout, action: usize, cells: &[u32; 192], k: u32, s:
     let nodes = merged_edge::takers_nodes(t, &places);
     Survey {
         deep: s.deep | deep,
-        nodes: node_words::add(s.nodes, nodes),
+        nodes: words::add(s.nodes, nodes),
     }
 }
 
@@ -87,7 +87,7 @@ fn start(t: &[u32]) -> Survey
     let inv = clauses::merged_nodes(t, true);
     Survey {
         deep: init_deep | inv_deep,
-        nodes: node_words::add(init, inv),
+        nodes: words::add(init, inv),
     }
 }
 

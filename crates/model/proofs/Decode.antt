@@ -17,7 +17,7 @@ use Rattle.model.specs.Composition.{Tree, Node, nodes, treeSize, par, sy
 use Rattle.model.specs.Model.{Model}
 use Rattle.model.specs.Lines.{Key, Entry, formatLine, actionsLine, variablesLine, variableLine, automataLine, syncLine, locationsLine, initLine, invLine, edgesLine, edgeLine, composeLine, keyOf, thenDue, Reading, noted}
 use Rattle.model.specs.Limits.{inRange, treeInRange, numbersInRange, rises, treeRises, broken, contentFault, faultOf, withinLimits}
-use Rattle.model.specs.Table.{biased, unbiased, code, kinds, wordOf, setWords, predWords, nodeWords, lineWords, split, splitNumber, splitPair, splitPred, edgeTo, splitEdge, andNode, splitNodes, splitTree, splitEntry, decode}
+use Rattle.model.specs.Table.{biased, unbiased, nodeWord, kindOf, argumentOf, code, kinds, wordOf, setWords, predWords, nodeWords, lineWords, split, splitNumber, splitPair, splitPred, edgeTo, splitEdge, andNode, splitNodes, splitTree, splitEntry, decode}
 use Rattle.model.proofs.Tests.{and-intro, and-left, and-right, every-append}
 use Rattle.model.proofs.Parsing.{none-some, read-words-of, read-nodes-of}
 use Rattle.model.proofs.LinesLaws.{Follows}
@@ -37,29 +37,34 @@ number-back (negsuc n) h =
     rw (e, unbiased) (ap negsuc back)
 
 -- words of predicates
-word-parts : (a k : ℕ) → a < 16 → wordOf (a + 16 * k) ≡ getD (kinds k) a stray
+pub kind-of : (kind k : ℕ) → kind < 16 → kindOf (nodeWord kind k) ≡ kind
+unfolding kindOf nodeWord
+kind-of kind k h = omega arith
+
+pub argument-of : (kind k : ℕ) → kind < 16 → argumentOf (nodeWord kind k) ≡ k
+unfolding argumentOf nodeWord
+argument-of kind k h = omega arith
+
+word-parts : (kind k : ℕ) → kind < 16 → wordOf (nodeWord kind k) ≡ getD (kinds k) kind stray
 unfolding wordOf
-word-parts a k l =
-    let q : (a + 16 * k) / 16 ≡ k = omega arith in
-    let r : (a + 16 * k) % 16 ≡ a = omega arith in
-    rw (q, r)
+word-parts kind k l = rw (argument-of kind k l, kind-of kind k l)
 
 pub word-back : (w : Word) → inRange w ≡ true → wordOf (code w) ≡ w
-unfolding code wordOf kinds inRange
+unfolding code kinds inRange
 word-back (allOf k) h = word-parts 0 k (omega arith)
 word-back (anyOf k) h = word-parts 1 k (omega arith)
-word-back notWord h = refl
-word-back impWord h = refl
-word-back eqWord h = refl
-word-back leWord h = refl
+word-back notWord h = word-parts 2 0 (omega arith)
+word-back impWord h = word-parts 3 0 (omega arith)
+word-back eqWord h = word-parts 4 0 (omega arith)
+word-back leWord h = word-parts 5 0 (omega arith)
 word-back (numWord z) h = word-parts 6 (biased z) (omega arith) ∙ ap numWord (number-back z h)
 word-back (oldWord k) h = word-parts 7 k (omega arith)
 word-back (newWord k) h = word-parts 8 k (omega arith)
-word-back addWord h = refl
-word-back subWord h = refl
-word-back mulWord h = refl
-word-back ifWord h = refl
-word-back stray h = refl
+word-back addWord h = word-parts 9 0 (omega arith)
+word-back subWord h = word-parts 10 0 (omega arith)
+word-back mulWord h = word-parts 11 0 (omega arith)
+word-back ifWord h = word-parts 12 0 (omega arith)
+word-back stray h = word-parts 15 0 (omega arith)
 
 pub words-back : (ws : List Word) → every inRange ws ≡ true → map wordOf (map code ws) ≡ ws
 unfolding every

@@ -33,22 +33,32 @@ highBits (k ∷ ks) = elim (leb k 31) [ true ↦ highBits ks | false ↦ 2 ^ (k 
 unfoldable pub setWords : List ℕ → List ℕ
 setWords list = lowBits list ∷ highBits list ∷ []
 
--- a node of a predicate as one word: kind + 16 * argument
+-- A node of a predicate is one word, which holds a kind and an argument. Code that reads or makes such words calls the
+-- crate node_words, and proofs cite its laws: nobody else looks into a node's word.
+unfoldable pub nodeWord : (kind argument : ℕ) → ℕ
+nodeWord kind k = kind + 16 * k
+
+unfoldable pub kindOf : (word : ℕ) → ℕ
+kindOf w = w % 16
+
+unfoldable pub argumentOf : (word : ℕ) → ℕ
+argumentOf w = w / 16
+
 unfoldable pub code : Word → ℕ
-code (allOf k) = 0 + 16 * k
-code (anyOf k) = 1 + 16 * k
-code notWord = 2
-code impWord = 3
-code eqWord = 4
-code leWord = 5
-code (numWord z) = 6 + 16 * biased z
-code (oldWord k) = 7 + 16 * k
-code (newWord k) = 8 + 16 * k
-code addWord = 9
-code subWord = 10
-code mulWord = 11
-code ifWord = 12
-code stray = 15
+code (allOf k) = nodeWord 0 k
+code (anyOf k) = nodeWord 1 k
+code notWord = nodeWord 2 0
+code impWord = nodeWord 3 0
+code eqWord = nodeWord 4 0
+code leWord = nodeWord 5 0
+code (numWord z) = nodeWord 6 (biased z)
+code (oldWord k) = nodeWord 7 k
+code (newWord k) = nodeWord 8 k
+code addWord = nodeWord 9 0
+code subWord = nodeWord 10 0
+code mulWord = nodeWord 11 0
+code ifWord = nodeWord 12 0
+code stray = nodeWord 15 0
 
 unfoldable pub predWords : Pred → List ℕ
 predWords p = nodeCount p ∷ map code (words p)
@@ -97,7 +107,7 @@ kinds k =
     addWord ∷ subWord ∷ mulWord ∷ ifWord ∷ []
 
 unfoldable pub wordOf : ℕ → Word
-wordOf w = getD (kinds (w / 16)) (w % 16) stray
+wordOf w = getD (kinds (argumentOf w)) (kindOf w) stray
 
 -- what was taken, and the words that are left
 pub record Split (A : Type 0) : Type 0 where

@@ -1,5 +1,5 @@
 -- Where row 3 is not broken, the codes are those of the words that `readWords` gives, up to the first stray one.
-use Prim.Native.Nat.{ℕ, _+_, _*_}
+use Prim.Native.Nat.{ℕ}
 use mathlib.Core.Path.{_≡_, refl, sym, _∙_, ap, subst}
 use mathlib.Core.Bool.{Bool, true, false}
 use mathlib.Core.List.{List, [], _∷_}
@@ -17,7 +17,10 @@ use Rattle.format.specs.Tokens.{Numeral, unjudged, bare, lettered, numeral, tok
 use Rattle.format.proofs.BytesLaws.{same-is}
 use Rattle.format.proofs.TokenLaws.{Plain, plain-by, read-one, read-all, read-any, sound-bare, sound-lettered, judged-plain, word-bare, word-lettered, word-unjudged, counted-bare}
 use Rattle.format.proofs.ReadLaws.{bare-is, sounds-inv}
-use Rattle.read_predicate.specs.Codes.{strayCode, numberCode, argumentCode, variableCode, wordCode, countCode}
+use Rattle.node_words.proofs.NodeLaws.{stray-only}
+use Rattle.read_predicate.specs.declared.codes.Numbered.{Numbered}
+use Rattle.read_predicate.specs.declared.codes.Numbered.the-variants as N
+use Rattle.read_predicate.specs.Codes.{strayCode, wordWith, numberCode, argumentCode, variableCode, wordCode, countCode}
 use Rattle.read_predicate.specs.Read.{isWord, dueAfter, codeAs, codes}
 use Rattle.read_predicate.specs.declared.reading.Due.{Due}
 use Rattle.read_predicate.specs.declared.reading.Due.the-variants as Due
@@ -29,29 +32,11 @@ pub data Agree : List ℕ → List Word → Type 0 where
   halt : (c : ℕ) (w : Word) (cs : List ℕ) (ws : List Word) → c ≡ strayCode → w ≡ stray → Agree (c ∷ cs) (w ∷ ws)
   next : (c : ℕ) (w : Word) (cs : List ℕ) (ws : List Word) → c ≡ code w → (c ≡ strayCode → ⊥) → Agree cs ws → Agree (c ∷ cs) (w ∷ ws)
 
--- no word but the stray one has its code
-stray-coded : (w : Word) → code w ≡ strayCode → w ≡ stray
-unfolding code
-stray-coded (allOf k) h = absurd (omega arith)
-stray-coded (anyOf k) h = absurd (omega arith)
-stray-coded notWord h = absurd (omega arith)
-stray-coded impWord h = absurd (omega arith)
-stray-coded eqWord h = absurd (omega arith)
-stray-coded leWord h = absurd (omega arith)
-stray-coded (numWord z) h = absurd (omega arith)
-stray-coded (oldWord k) h = absurd (omega arith)
-stray-coded (newWord k) h = absurd (omega arith)
-stray-coded addWord h = absurd (omega arith)
-stray-coded subWord h = absurd (omega arith)
-stray-coded mulWord h = absurd (omega arith)
-stray-coded ifWord h = absurd (omega arith)
-stray-coded stray h = refl
-
 agree-on : (c : ℕ) (w : Word) (cs : List ℕ) (ws : List Word) → c ≡ code w → Agree cs ws → Agree (c ∷ cs) (w ∷ ws)
 agree-on c w cs ws e a = go (eqb c strayCode) refl
   where
     go : (v : Bool) → eqb c strayCode ≡ v → Agree (c ∷ cs) (w ∷ ws)
-    go true h = let z : c ≡ strayCode = eqb-true c strayCode h in halt c w cs ws z (stray-coded w (sym e ∙ z))
+    go true h = let z : c ≡ strayCode = eqb-true c strayCode h in halt c w cs ws z (stray-only w (sym e ∙ z))
     go false h = next c w cs ws e (eqb-false c strayCode h) a
 
 -- the codes by the first tokens
@@ -59,11 +44,11 @@ codes-one : (t : Bytes) (ts : List Bytes) → same t (bytes "all") ≡ false →
 unfolding isWord codeAs
 codes-one t ts a b = codes-word Due.Word Due.Word t ts (first-word t (same t (bytes "all")) refl a (same t (bytes "any")) refl b) refl
 
-codes-all : (k : Bytes) (ts : List Bytes) → codes Due.Word (bytes "all" ∷ k ∷ ts) ≡ countCode 0 k ∷ codes Due.Word ts
+codes-all : (k : Bytes) (ts : List Bytes) → codes Due.Word (bytes "all" ∷ k ∷ ts) ≡ countCode N.All k ∷ codes Due.Word ts
 unfolding codes dueAfter isWord codeAs same
 codes-all k ts = refl
 
-codes-any : (k : Bytes) (ts : List Bytes) → codes Due.Word (bytes "any" ∷ k ∷ ts) ≡ countCode 1 k ∷ codes Due.Word ts
+codes-any : (k : Bytes) (ts : List Bytes) → codes Due.Word (bytes "any" ∷ k ∷ ts) ≡ countCode N.Any k ∷ codes Due.Word ts
 unfolding codes dueAfter isWord codeAs same
 codes-any k ts = refl
 
@@ -80,42 +65,42 @@ number-coded : (s : Bytes) → within leastNumber greatestNumber s ≡ true → 
 unfolding numberCode
 number-coded s h = rw (h, numberCode)
 
-argument-coded : (kind high : ℕ) (s : Bytes) → within (pos 0) (pos high) s ≡ true → argumentCode kind high s ≡ kind + 16 * naturalOf s
+argument-coded : (which : Numbered) (high : ℕ) (s : Bytes) → within (pos 0) (pos high) s ≡ true → argumentCode which high s ≡ code (wordWith which (naturalOf s))
 unfolding argumentCode
-argument-coded kind high s h = rw (h, argumentCode)
+argument-coded which high s h = rw (h, argumentCode)
 
 -- the K after `all` or `any`
-module _ (make : ℕ → Word) (kind : ℕ) (coded : (n : ℕ) → code (make n) ≡ kind + 16 * n) (b : Bytes)
+module _ (which : Numbered) (b : Bytes)
     (judged : (s : Bytes) (low high : ℤ) → numberSound b s low high ≡ within (pos 0) (pos maxOperands) s) where
-  counted-agree : (k : Bytes) (cs : List ℕ) (ws : List Word) → sound b k ≡ true → (Plain k → Agree cs ws) → Agree (countCode kind k ∷ cs) (counted make k ∷ ws)
+  counted-agree : (k : Bytes) (cs : List ℕ) (ws : List Word) → sound b k ≡ true → (Plain k → Agree cs ws) → Agree (countCode which k ∷ cs) (counted (wordWith which) k ∷ ws)
   unfolding countCode counted
   counted-agree k cs ws h rest = go (numeral k) refl
     where
-      go : (m : Numeral) → numeral k ≡ m → Agree (countCode kind k ∷ cs) (counted make k ∷ ws)
-      go unjudged e = halt (countCode kind k) (counted make k) cs ws (rw (e, countCode)) (rw (e, counted))
-      go (lettered c s) e = halt (countCode kind k) (counted make k) cs ws (rw (e, countCode)) (rw (e, counted))
+      go : (m : Numeral) → numeral k ≡ m → Agree (countCode which k ∷ cs) (counted (wordWith which) k ∷ ws)
+      go unjudged e = halt (countCode which k) (counted (wordWith which) k) cs ws (rw (e, countCode)) (rw (e, counted))
+      go (lettered c s) e = halt (countCode which k) (counted (wordWith which) k) cs ws (rw (e, countCode)) (rw (e, counted))
       go (bare s) e =
           let i : within (pos 0) (pos maxOperands) s ≡ true = sym (judged s leastNumber greatestNumber) ∙ sym (sound-bare b k s e) ∙ h in
-          let c : countCode kind k ≡ kind + 16 * naturalOf s = rw (e, countCode) (argument-coded kind maxOperands s i) in
-          agree-on (countCode kind k) (counted make k) cs ws (c ∙ sym (ap code (counted-bare make k s e) ∙ coded (naturalOf s))) (rest (bare-is k s e .1))
+          let c : countCode which k ≡ code (wordWith which (naturalOf s)) = rw (e, countCode) (argument-coded which maxOperands s i) in
+          agree-on (countCode which k) (counted (wordWith which) k) cs ws (c ∙ sym (ap code (counted-bare (wordWith which) k s e))) (rest (bare-is k s e .1))
 
 -- a word that is one token
 variable-code : (b : ℕ) (s : Bytes) → within (pos 0) (lastAfter b) s ≡ true → variableCode b s ≡ code (variableWord b (naturalOf s))
-unfolding variableCode variableWord lastAfter code
+unfolding variableCode variableWord lastAfter wordWith
 variable-code b s h = go (eqb b 'v) refl
   where
     in-range : (letter : ℕ) → b ≡ letter → within (pos 0) (lastAfter letter) s ≡ true
     in-range letter e = subst (λ (x : ℕ). within (pos 0) (lastAfter x) s ≡ true) e h
 
     new : (v : Bool) → eqb b 'n ≡ v
-        → elim v as (λ x. ℕ) [ true ↦ argumentCode 8 lastVariable s | false ↦ strayCode ] ≡ code (elim v as (λ x. Word) [ true ↦ newWord (naturalOf s) | false ↦ stray ])
-    new true e = let i : within (pos 0) (pos lastVariable) s ≡ true = in-range 'n (eqb-true b 'n e) in argument-coded 8 lastVariable s i
+        → elim v as (λ x. ℕ) [ true ↦ argumentCode N.New lastVariable s | false ↦ strayCode ] ≡ code (elim v as (λ x. Word) [ true ↦ newWord (naturalOf s) | false ↦ stray ])
+    new true e = let i : within (pos 0) (pos lastVariable) s ≡ true = in-range 'n (eqb-true b 'n e) in argument-coded N.New lastVariable s i
     new false e = refl
 
     go : (v : Bool) → eqb b 'v ≡ v
-        → elim v as (λ x. ℕ) [ true ↦ argumentCode 7 lastVariable s | false ↦ elim (eqb b 'n) as (λ x. ℕ) [ true ↦ argumentCode 8 lastVariable s | false ↦ strayCode ] ]
+        → elim v as (λ x. ℕ) [ true ↦ argumentCode N.Old lastVariable s | false ↦ elim (eqb b 'n) as (λ x. ℕ) [ true ↦ argumentCode N.New lastVariable s | false ↦ strayCode ] ]
         ≡ code (elim v as (λ x. Word) [ true ↦ oldWord (naturalOf s) | false ↦ elim (eqb b 'n) as (λ x. Word) [ true ↦ newWord (naturalOf s) | false ↦ stray ] ])
-    go true e = let i : within (pos 0) (pos lastVariable) s ≡ true = in-range 'v (eqb-true b 'v e) in argument-coded 7 lastVariable s i
+    go true e = let i : within (pos 0) (pos lastVariable) s ≡ true = in-range 'v (eqb-true b 'v e) in argument-coded N.Old lastVariable s i
     go false e = new (eqb b 'n) refl
 
 word-code : (b t : Bytes) → Plain b → sound b t ≡ true → wordCode t ≡ code (word t)
@@ -133,7 +118,7 @@ word-code b t p h = go (numeral t) refl
 
 -- `syn` spells no word
 syn-code : wordCode (bytes "syn") ≡ strayCode
-unfolding wordCode numeral digit find same code
+unfolding wordCode numeral digit find same
 syn-code = refl
 
 syn-word : word (bytes "syn") ≡ stray
@@ -160,18 +145,18 @@ told-one b t ts p x y rest h =
     rw (codes-one t ts x y, read-one t ts x y) (word-agree b t (codes Due.Word ts) (readWords ts) p (i .0) x y (λ q. rest q (i .1)))
 
 told-all : (b k : Bytes) (ts : List Bytes) → (Plain k → Told k ts) → Told b (bytes "all" ∷ k ∷ ts)
-unfolding Told
+unfolding Told wordWith
 told-all b k ts rest h =
     let i = sounds-inv (bytes "all") k ts (sounds-inv b (bytes "all") (k ∷ ts) h .1) in
     rw (codes-all k ts, read-all k ts)
-    (counted-agree allOf 0 (λ n. unfold code in refl) (bytes "all") (λ s low high. unfold numberSound same in refl) k (codes Due.Word ts) (readWords ts) (i .0) (λ q. rest q (i .1)))
+    (counted-agree N.All (bytes "all") (λ s low high. unfold numberSound same in refl) k (codes Due.Word ts) (readWords ts) (i .0) (λ q. rest q (i .1)))
 
 told-any : (b k : Bytes) (ts : List Bytes) → (Plain k → Told k ts) → Told b (bytes "any" ∷ k ∷ ts)
-unfolding Told
+unfolding Told wordWith
 told-any b k ts rest h =
     let i = sounds-inv (bytes "any") k ts (sounds-inv b (bytes "any") (k ∷ ts) h .1) in
     rw (codes-any k ts, read-any k ts)
-    (counted-agree anyOf 1 (λ n. unfold code in refl) (bytes "any") (λ s low high. unfold numberSound same in refl) k (codes Due.Word ts) (readWords ts) (i .0) (λ q. rest q (i .1)))
+    (counted-agree N.Any (bytes "any") (λ s low high. unfold numberSound same in refl) k (codes Due.Word ts) (readWords ts) (i .0) (λ q. rest q (i .1)))
 
 -- by the first token: `all`, `any`, or another
 by-first : (b t : Bytes) (ts : List Bytes) → Plain b → Told b (bytes "all" ∷ ts) → Told b (bytes "any" ∷ ts) → (Plain t → Told t ts) → Told b (t ∷ ts)

@@ -32,7 +32,6 @@ use Rattle.read_predicate.proofs.ReadLaws.{gap-stop, gap-on, gap-nil}
 
 -- no code is stray: the codes are those of the words
 agree-all : (cs : List ℕ) (ws : List Word) → Agree cs ws → Free strayCode cs → (cs ≡ map code ws) × Free stray ws
-unfolding code
 agree-all cs ws done f = (refl, tt)
 agree-all cs ws (halt c w _ _ e h) f = absurd (f .0 e)
 agree-all cs ws (next c w ds vs e n a) f =
@@ -148,7 +147,7 @@ spread-parts c (b ∷ t) = go (eqb b c) (spread-parts c t)
     go false ih = spread-onto b (parts c t) (length t) ih
 
 empty-code : (due : Due) → codeAs due [] ≡ strayCode
-unfolding codeAs wordCode countCode numeral find same code
+unfolding codeAs wordCode countCode numeral find same
 empty-code Due.Word = refl
 empty-code Due.AllCount = refl
 empty-code Due.AnyCount = refl

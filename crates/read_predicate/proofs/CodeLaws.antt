@@ -9,15 +9,15 @@ use borrow.Author.Tests.{eq-eqb, ne-eqb, ltb-true, ltb-false, leb-true, le-ltb}
 use lib.ListN.{length, take, drop}
 use lib.IntN.{ℤ, pos, negsuc, natAbs, _+ℤ_}
 use lib.Signed.{ltZ, leZ, nonNeg}
-use lib.Dec.{T, leb}
+use lib.Dec.{T, eqb, leb}
 use mir.Syntax.{w32, w64}
 use mir.Val.{SFits, Fits, toZ, ofZ}
 use mir.ValLaws.{toZ-ofZ}
 use Rattle.model.specs.Basic.{between, same}
 use Rattle.model.specs.Bounds.{leastNumber, greatestNumber}
-use Rattle.model.specs.Predicate.{Word, stray}
+use Rattle.model.specs.Predicate.{Word, numWord, stray}
+use Rattle.model.specs.Limits.{inRange}
 use Rattle.model.specs.Table.{code, biased}
-use Rattle.model.proofs.Tests.{and-right}
 use Rattle.format.specs.Bytes.{Bytes, 'n, 'v}
 use Rattle.format.specs.Number.{within, isBetween, natural}
 use Rattle.format.specs.Tokens.{numeral, find, spellings}
@@ -29,8 +29,14 @@ use Rattle.text_bytes.specs.declared.answer.Natural.{Natural}
 use Rattle.text_bytes.specs.declared.answer.Natural.the-variants as N
 use Rattle.text_bytes.proofs.NumberLaws.{natural-in, integer-said, integer-denied, natural-said, natural-denied, widened}
 use Rattle.text_bytes.proofs.Places.{take-rest}
+use Rattle.node_words.specs.declared.Node.{Node}
+use Rattle.node_words.specs.declared.Node.the-variants.{All, Any, Number, Old, New, Stray}
+use Rattle.node_words.specs.Nodes.{meant, nodeFor, fitted, wordFor}
+use Rattle.node_words.proofs.NodeLaws.{all-held, any-held, old-held, new-held, word-for}
+use Rattle.read_predicate.specs.declared.codes.Numbered.{Numbered}
+use Rattle.read_predicate.specs.declared.codes.Numbered.the-variants as C
 use Rattle.read_predicate.specs.Shape.{shapeOf}
-use Rattle.read_predicate.specs.Codes.{numberCode, argumentCode, variableCode, wordCode, countCode}
+use Rattle.read_predicate.specs.Codes.{wordWith, numberCode, argumentCode, variableCode, wordCode, countCode}
 use Rattle.read_predicate.specs.declared.tokens.Shape.{Shape}
 use Rattle.read_predicate.specs.declared.tokens.Shape.the-variants.{Bare, Lettered, Plain}
 use Rattle.read_predicate.proofs.ShapeLaws.{fromShape, numeral-is}
@@ -45,9 +51,9 @@ module _ (t : Bytes) (n : ℕ) (k : Bytes) (w : Word) (ws : List (Bytes × Word)
   unfolding find
   keyword-on h g = rw (← e, h, find) g
 
-pub keyword-none : (t : Bytes) → 15 ≡ code (find stray [] t)
-unfolding find code
-keyword-none t = refl
+pub keyword-none : (t : Bytes) (n : ℕ) → n ≡ code stray → n ≡ code (find stray [] t)
+unfolding find
+keyword-none t n e = e
 
 pub ruleset keyword-laws = (keyword-here, keyword-on, keyword-none)
 
@@ -92,30 +98,19 @@ module _ (z : ℤ) (f : SFits w32 z) where
     moved-is = ap natAbs moved-read
 
 -- `number_code`
-biased-small : (z : ℤ) → between leastNumber greatestNumber z ≡ true → biased z ≤ 65535
-unfolding between biased
-biased-small (pos n) h = omega (arith, leb-true n 32767 (and-right (leZ leastNumber (pos n)) (leZ (pos n) greatestNumber) h))
-biased-small (negsuc n) h = omega arith
-
 module _ (s : Bytes) (m : Integer) (e : m ≡ integerIn s leastNumber greatestNumber) where
-  module _ (z : ℤ) (h : m ≡ I.In z) (r : ℕ) (b : r ≡ biased z) where
-    pub number-small : r ≤ 65535
-    unfolding within isBetween
-    number-small =
-        let i = integer-said s leastNumber greatestNumber z (sym e ∙ h) in
-        rw b (biased-small z (rw (i .2) at (i .0)))
+  pub number-in : (z : ℤ) → m ≡ I.In z → (b : ℕ) → b ≡ biased z → (r : ℕ) → r ≡ wordFor (Number b) → r ≡ numberCode s
+  unfolding numberCode within isBetween nodeFor inRange
+  number-in z h b f r g =
+      let i = integer-said s leastNumber greatestNumber z (sym e ∙ h) in
+      let j : between leastNumber greatestNumber z ≡ true = rw (i .2) at (i .0) in
+      rw (i .0, numberCode, i .1) (g ∙ ap (λ (n : ℕ). wordFor (Number n)) f ∙ word-for (numWord z) j)
 
-    pub number-in : 6 + 16 * r ≡ numberCode s
-    unfolding numberCode code
-    number-in =
-        let i = integer-said s leastNumber greatestNumber z (sym e ∙ h) in
-        rw (i .0, numberCode, i .1, b)
-
-  pub number-out : m ≡ I.Out → 15 ≡ numberCode s
+  pub number-out : m ≡ I.Out → (r : ℕ) → r ≡ code stray → r ≡ numberCode s
   unfolding numberCode
-  number-out h = rw (integer-denied s leastNumber greatestNumber (sym e ∙ h), numberCode)
+  number-out h r g = rw (integer-denied s leastNumber greatestNumber (sym e ∙ h), numberCode) g
 
-pub ruleset number-laws = (number-small, number-in, number-out)
+pub ruleset number-laws = (number-in, number-out)
 
 -- `argument_code`
 up-small : (o : Option ℕ) (high k : ℕ) → upTo high o ≡ N.In k → k ≤ high
@@ -127,35 +122,70 @@ up-small (some n) high k e = go (leb n high) refl e
     go true h g = let z : n ≡ k = cc in omega (arith, leb-true n high h)
     go false h g = absurd (let z : _≡_ {A = ℕ} 0 1 = cc in omega arith)
 
-module _ (kind high : ℕ) (s : Bytes) (m : Natural) (e : m ≡ naturalIn s high) where
-  module _ (k : ℕ) (h : m ≡ N.In k) where
-    pub argument-small : k ≤ high
-    argument-small = up-small (natural s) high k (sym (natural-in s high) ∙ sym e ∙ h)
+-- the word of a node with a small number is the code
+with-code : (which : Numbered) (k : ℕ) → k ≤ 512 → wordFor (nodeFor (wordWith which k)) ≡ code (wordWith which k)
+unfolding wordWith nodeFor
+with-code C.All k h = all-held k (omega arith)
+with-code C.Any k h = any-held k (omega arith)
+with-code C.Old k h = old-held k (omega arith)
+with-code C.New k h = new-held k (omega arith)
 
-    pub argument-in : kind + 16 * k ≡ argumentCode kind high s
-    unfolding argumentCode
-    argument-in = let i = natural-said s high k (sym e ∙ h) in rw (i .0, argumentCode, i .1)
-
-  pub argument-out : m ≡ N.Out → 15 ≡ argumentCode kind high s
+module _ (which : Numbered) (high : ℕ) (s : Bytes) (m : Natural) (e : m ≡ naturalIn s high) where
+  pub argument-in : high ≤ 512 → (k : ℕ) → m ≡ N.In k → (n : Node) → n ≡ nodeFor (wordWith which k) → (r : ℕ) → r ≡ wordFor n → r ≡ argumentCode which high s
   unfolding argumentCode
-  argument-out h = rw (natural-denied s high (sym e ∙ h), argumentCode)
+  argument-in l k h n f r g =
+      let i = natural-said s high k (sym e ∙ h) in
+      let u = up-small (natural s) high k (sym (natural-in s high) ∙ sym e ∙ h) in
+      rw (i .0, argumentCode, i .1) (g ∙ ap wordFor f ∙ with-code which k (omega arith))
 
-pub ruleset argument-laws = (argument-small, argument-in, argument-out)
+  pub argument-out : m ≡ N.Out → (r : ℕ) → r ≡ code stray → r ≡ argumentCode which high s
+  unfolding argumentCode
+  argument-out h r g = rw (natural-denied s high (sym e ∙ h), argumentCode) g
+
+pub ruleset argument-laws = (argument-in, argument-out)
+
+-- `node_with`
+module _ (which : Numbered) (k : ℕ) where
+  pub with-all : which ≡ C.All → All k ≡ nodeFor (wordWith which k)
+  unfolding wordWith nodeFor
+  with-all h = rw h
+
+  pub with-any : which ≡ C.Any → Any k ≡ nodeFor (wordWith which k)
+  unfolding wordWith nodeFor
+  with-any h = rw h
+
+  pub with-old : which ≡ C.Old → Old k ≡ nodeFor (wordWith which k)
+  unfolding wordWith nodeFor
+  with-old h = rw h
+
+  pub with-new : which ≡ C.New → New k ≡ nodeFor (wordWith which k)
+  unfolding wordWith nodeFor
+  with-new h = rw h
+
+pub ruleset with-laws = (with-all, with-any, with-old, with-new)
+
+-- `stray_code` and `is_stray`
+pub stray-is : (r : ℕ) → r ≡ wordFor Stray → r ≡ code stray
+unfolding wordFor fitted meant
+stray-is r e = e
+
+pub stray-test : (c r : ℕ) → r ≡ code stray → eqb c r ≡ eqb c (code stray)
+stray-test c r e = rw e
 
 -- `variable_code`
 module _ (letter : ℕ) (s : Bytes) where
-  pub variable-old : (r : ℕ) → letter ≡ 118 → r ≡ argumentCode 7 47 s → r ≡ variableCode letter s
+  pub variable-old : (r : ℕ) → letter ≡ 118 → r ≡ argumentCode C.Old 47 s → r ≡ variableCode letter s
   unfolding variableCode
   variable-old r h e = rw (eq-eqb letter 'v h, variableCode) e
 
   module _ (h : letter ≡ 118 → ⊥) where
-    pub variable-new : (r : ℕ) → letter ≡ 110 → r ≡ argumentCode 8 47 s → r ≡ variableCode letter s
+    pub variable-new : (r : ℕ) → letter ≡ 110 → r ≡ argumentCode C.New 47 s → r ≡ variableCode letter s
     unfolding variableCode
     variable-new r k e = rw (ne-eqb letter 'v h, variableCode, eq-eqb letter 'n k, variableCode) e
 
-    pub variable-none : (letter ≡ 110 → ⊥) → 15 ≡ variableCode letter s
+    pub variable-none : (letter ≡ 110 → ⊥) → (r : ℕ) → r ≡ code stray → r ≡ variableCode letter s
     unfolding variableCode
-    variable-none k = rw (ne-eqb letter 'v h, variableCode, ne-eqb letter 'n k, variableCode)
+    variable-none k r e = rw (ne-eqb letter 'v h, variableCode, ne-eqb letter 'n k, variableCode) e
 
 pub ruleset variable-laws = (variable-old, variable-new, variable-none)
 
@@ -176,18 +206,18 @@ module _ (t : Bytes) (x : Shape) (e : x ≡ shapeOf t) where
   unfolding wordCode fromShape
   word-plain r h g = rw (by-shape Plain h, wordCode) g
 
-  module _ (kind : ℕ) where
-    pub count-bare : (r : ℕ) → x ≡ Bare → r ≡ argumentCode kind 512 t → r ≡ countCode kind t
+  module _ (which : Numbered) where
+    pub count-bare : (r : ℕ) → x ≡ Bare → r ≡ argumentCode which 512 t → r ≡ countCode which t
     unfolding countCode fromShape
     count-bare r h g = rw (by-shape Bare h, countCode) g
 
-    pub count-lettered : (b : ℕ) → x ≡ Lettered b → 15 ≡ countCode kind t
+    pub count-lettered : (b : ℕ) → x ≡ Lettered b → (r : ℕ) → r ≡ code stray → r ≡ countCode which t
     unfolding countCode fromShape
-    count-lettered b h = rw (by-shape (Lettered b) h, countCode)
+    count-lettered b h r g = rw (by-shape (Lettered b) h, countCode) g
 
-    pub count-plain : x ≡ Plain → 15 ≡ countCode kind t
+    pub count-plain : x ≡ Plain → (r : ℕ) → r ≡ code stray → r ≡ countCode which t
     unfolding countCode fromShape
-    count-plain h = rw (by-shape Plain h, countCode)
+    count-plain h r g = rw (by-shape Plain h, countCode) g
 
 pub ruleset word-laws = (word-bare, word-lettered, word-plain)
 

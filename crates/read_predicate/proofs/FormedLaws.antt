@@ -1,8 +1,8 @@
 -- Sorts: each way out of the code of src/formed.rt.
-use Prim.Native.Nat.{ℕ, zero, suc, _+_, _-_, _%_, _/_, _≤_, _<_}
+use Prim.Native.Nat.{ℕ, zero, suc, _+_, _-_, _≤_, _<_}
 use mathlib.Core.Path.{_≡_, refl, sym, _∙_, ap, subst}
 use mathlib.Core.Bool.{Bool, true, false, not, Bool·beq, _&&_}
-use mathlib.Core.List.{List, _∷_, map}
+use mathlib.Core.List.{List, [], _∷_, map}
 use mathlib.Core.Option.{Option, none, some}
 use native.Mathlib.Omega.{arith}
 use native.Mathlib.Numerals.{add-one}
@@ -13,10 +13,14 @@ use lib.Dec.{leb, eqb}
 use mir.Syntax.{w64}
 use mir.Val.{Fits}
 use Rattle.model.specs.Basic.{onSome, lacks}
-use Rattle.model.specs.Predicate.{Word, stray}
+use Rattle.model.specs.Predicate.{Word}
 use Rattle.model.specs.Parse.{readPred}
-use Rattle.model.specs.Table.{kinds, wordOf}
-use Rattle.model.proofs.WordKinds.{kind-from}
+use Rattle.model.specs.Table.{wordOf}
+use Rattle.node_words.specs.declared.Node.{Node}
+use Rattle.node_words.specs.declared.Node.the-variants as N
+use Rattle.node_words.specs.declared.Node.the-variants.{All, Any, Not, Imp, Eq, Le, Number, Old, New, Add, Sub, Mul, If}
+use Rattle.node_words.specs.Nodes.{meant, nodeOf}
+use Rattle.node_words.proofs.NodeLaws.{word-by, Other, by-others}
 use Rattle.read_predicate.specs.Formed.{arityOf, takeOff, pushSort, sortStack, sole, stacked, stackAt, takenFrom, Below, Pushed}
 use Rattle.read_predicate.specs.Scratch.{Scratch}
 use Rattle.read_predicate.specs.declared.formed.Arity.{Arity}
@@ -26,91 +30,64 @@ use Rattle.read_predicate.specs.declared.formed.Height.the-variants.{Of,
 use Rattle.read_predicate.proofs.ScratchLaws.{scratch-same}
 use Rattle.read_predicate.proofs.SortLaws.{formed-by-sorts, sorts-none}
 
--- `arity_of`: the kinds by their ranges
-reach : (P : ℕ → Type 0) (a n j : ℕ) → ((i : ℕ) → i ≤ n → P (a + i)) → a ≤ j → j ≤ a + n → P j
-reach P a n j f l h =
-    let e : a + (j - a) ≡ j = omega arith in
-    subst P e (f (j - a) (omega arith))
+-- `arity_of`: all nodes but `eq` and `le`, but numbers and variables, but sums
+abbrev uncompared : List Node
+uncompared = All 0 ∷ Any 0 ∷ Not ∷ Imp ∷ Number 0 ∷ Old 0 ∷ New 0 ∷ Add ∷ Sub ∷ Mul ∷ If ∷ N.Stray ∷ []
 
-module _ (k : ℕ) where
-  abbrev At : Arity → ℕ → Type 0
-  At a j = a ≡ arityOf (getD (kinds k) j stray)
+abbrev unvalued : List Node
+unvalued = All 0 ∷ Any 0 ∷ Not ∷ Imp ∷ Eq ∷ Le ∷ Add ∷ Sub ∷ Mul ∷ If ∷ N.Stray ∷ []
 
-  at-lists : (i : ℕ) → i ≤ 1 → At (Takes k 0 true) (0 + i)
-  unfolding arityOf kinds
-  at-lists zero h = refl
-  at-lists (suc zero) h = refl
-  at-lists (suc (suc i)) h = absurd (omega arith)
+abbrev unsummed : List Node
+unsummed = All 0 ∷ Any 0 ∷ Not ∷ Imp ∷ Eq ∷ Le ∷ Number 0 ∷ Old 0 ∷ New 0 ∷ If ∷ N.Stray ∷ []
 
-  at-not : (i : ℕ) → i ≤ 0 → At (Takes 1 0 true) (2 + i)
-  unfolding arityOf kinds
-  at-not zero h = refl
-  at-not (suc i) h = absurd (omega arith)
+module _ (w : ℕ) (n : Node) (is : n ≡ nodeOf w) where
+  pub arity-all : (k i : ℕ) → n ≡ All k → i ≡ k → Takes i 0 true ≡ arityOf (wordOf w)
+  unfolding arityOf meant
+  arity-all k i h e = rw (word-by w n (All k) is h, e)
 
-  at-imp : (i : ℕ) → i ≤ 0 → At (Takes 2 0 true) (3 + i)
-  unfolding arityOf kinds
-  at-imp zero h = refl
-  at-imp (suc i) h = absurd (omega arith)
+  pub arity-any : (k i : ℕ) → n ≡ Any k → i ≡ k → Takes i 0 true ≡ arityOf (wordOf w)
+  unfolding arityOf meant
+  arity-any k i h e = rw (word-by w n (Any k) is h, e)
 
-  at-comparisons : (i : ℕ) → i ≤ 1 → At (Takes 0 2 true) (4 + i)
-  unfolding arityOf kinds
-  at-comparisons zero h = refl
-  at-comparisons (suc zero) h = refl
-  at-comparisons (suc (suc i)) h = absurd (omega arith)
+  pub arity-not : n ≡ Not → Takes 1 0 true ≡ arityOf (wordOf w)
+  unfolding arityOf meant
+  arity-not h = rw (word-by w n Not is h)
 
-  at-values : (i : ℕ) → i ≤ 2 → At (Takes 0 0 false) (6 + i)
-  unfolding arityOf kinds
-  at-values zero h = refl
-  at-values (suc zero) h = refl
-  at-values (suc (suc zero)) h = refl
-  at-values (suc (suc (suc i))) h = absurd (omega arith)
+  pub arity-imp : n ≡ Imp → Takes 2 0 true ≡ arityOf (wordOf w)
+  unfolding arityOf meant
+  arity-imp h = rw (word-by w n Imp is h)
 
-  at-sums : (i : ℕ) → i ≤ 2 → At (Takes 0 2 false) (9 + i)
-  unfolding arityOf kinds
-  at-sums zero h = refl
-  at-sums (suc zero) h = refl
-  at-sums (suc (suc zero)) h = refl
-  at-sums (suc (suc (suc i))) h = absurd (omega arith)
+  pub arity-comparisons : Other uncompared n → Takes 0 2 true ≡ arityOf (wordOf w)
+  unfolding arityOf meant
+  arity-comparisons o =
+      rw (word-by w n n is refl)
+      (by-others (λ (m : Node). Takes 0 2 true ≡ arityOf (meant m)) uncompared n o
+      (tt, tt, tt, tt, refl, refl, tt, tt, tt, tt, tt, tt, tt, tt))
 
-  at-if : (i : ℕ) → i ≤ 0 → At (Takes 1 2 false) (12 + i)
-  unfolding arityOf kinds
-  at-if zero h = refl
-  at-if (suc i) h = absurd (omega arith)
+  pub arity-values : Other unvalued n → Takes 0 0 false ≡ arityOf (wordOf w)
+  unfolding arityOf meant
+  arity-values o =
+      let leaf : (k : ℕ) → Takes 0 0 false ≡ Takes 0 0 false = λ k. refl in
+      rw (word-by w n n is refl)
+      (by-others (λ (m : Node). Takes 0 0 false ≡ arityOf (meant m)) unvalued n o
+      (tt, tt, tt, tt, tt, tt, leaf, leaf, leaf, tt, tt, tt, tt, tt))
 
-module _ (w : ℕ) where
-  pub arity-lists : (k : ℕ) → k ≡ w / 16 → w % 16 ≤ 1 → Takes k 0 true ≡ arityOf (wordOf w)
-  unfolding wordOf
-  arity-lists k e h = rw e (reach (At (w / 16) (Takes (w / 16) 0 true)) 0 1 (w % 16) (at-lists (w / 16)) (omega arith) h)
+  pub arity-sums : Other unsummed n → Takes 0 2 false ≡ arityOf (wordOf w)
+  unfolding arityOf meant
+  arity-sums o =
+      rw (word-by w n n is refl)
+      (by-others (λ (m : Node). Takes 0 2 false ≡ arityOf (meant m)) unsummed n o
+      (tt, tt, tt, tt, tt, tt, tt, tt, tt, refl, refl, refl, tt, tt))
 
-  pub arity-not : 1 < w % 16 → w % 16 ≤ 2 → Takes 1 0 true ≡ arityOf (wordOf w)
-  unfolding wordOf
-  arity-not l h = reach (At (w / 16) (Takes 1 0 true)) 2 0 (w % 16) (at-not (w / 16)) l (omega arith)
+  pub arity-if : n ≡ If → Takes 1 2 false ≡ arityOf (wordOf w)
+  unfolding arityOf meant
+  arity-if h = rw (word-by w n If is h)
 
-  pub arity-imp : 2 < w % 16 → w % 16 ≤ 3 → Takes 2 0 true ≡ arityOf (wordOf w)
-  unfolding wordOf
-  arity-imp l h = reach (At (w / 16) (Takes 2 0 true)) 3 0 (w % 16) (at-imp (w / 16)) l (omega arith)
+  pub arity-stray : n ≡ N.Stray → Stray ≡ arityOf (wordOf w)
+  unfolding arityOf meant
+  arity-stray h = rw (word-by w n N.Stray is h)
 
-  pub arity-comparisons : 3 < w % 16 → w % 16 ≤ 5 → Takes 0 2 true ≡ arityOf (wordOf w)
-  unfolding wordOf
-  arity-comparisons l h = reach (At (w / 16) (Takes 0 2 true)) 4 1 (w % 16) (at-comparisons (w / 16)) l (omega arith)
-
-  pub arity-values : 5 < w % 16 → w % 16 ≤ 8 → Takes 0 0 false ≡ arityOf (wordOf w)
-  unfolding wordOf
-  arity-values l h = reach (At (w / 16) (Takes 0 0 false)) 6 2 (w % 16) (at-values (w / 16)) l (omega arith)
-
-  pub arity-sums : 8 < w % 16 → w % 16 ≤ 11 → Takes 0 2 false ≡ arityOf (wordOf w)
-  unfolding wordOf
-  arity-sums l h = reach (At (w / 16) (Takes 0 2 false)) 9 2 (w % 16) (at-sums (w / 16)) l (omega arith)
-
-  pub arity-if : 11 < w % 16 → w % 16 ≤ 12 → Takes 1 2 false ≡ arityOf (wordOf w)
-  unfolding wordOf
-  arity-if l h = reach (At (w / 16) (Takes 1 2 false)) 12 0 (w % 16) (at-if (w / 16)) l (omega arith)
-
-  pub arity-stray : 12 < w % 16 → Stray ≡ arityOf (wordOf w)
-  unfolding arityOf kinds
-  arity-stray l = kind-from (λ (x : Word). Stray ≡ arityOf x) w 13 refl l
-
-pub ruleset arity-laws = (arity-lists, arity-not, arity-imp, arity-comparisons, arity-values, arity-sums, arity-if, arity-stray)
+pub ruleset arity-laws = (arity-all, arity-any, arity-not, arity-imp, arity-comparisons, arity-values, arity-sums, arity-if, arity-stray)
 
 -- `taken`
 taken-top : (sorts : List Bool) (sort : Bool) (k h : ℕ) (v : Bool) → Bool·beq (getD sorts h false) sort ≡ v

@@ -5,16 +5,17 @@ use mathlib.Core.Bool.{Bool, true, false}
 use mathlib.Core.List.{List, [], _∷_, _++_, append-nil, append-assoc}
 use native.Mathlib.Omega.{arith}
 use native.Mathlib.Numerals.{add-one}
-use borrow.Author.Tests.{eq-eqb, ne-eqb, le-leb, lt-leb, lt-ltb, le-ltb, not-true, not-false}
+use borrow.Author.Tests.{eq-eqb, ne-eqb, eqb-true, eqb-false, le-leb, lt-leb, lt-ltb, le-ltb, not-true, not-false}
 use lib.ListN.{length, take, drop, set, length-set, length-append, drop-of-length-le, take-append-drop}
 use lib.Seq.{take-all, take-at, take-take, length-take-le, take-suc-set, drop-set-lt, drop-drop}
-use lib.Dec.{leb, ltb}
+use lib.Dec.{eqb, leb, ltb}
 use Rattle.model.specs.Basic.{same}
 use Rattle.format.specs.Bytes.{Bytes, bytes, space}
 use Rattle.format.specs.Tokens.{tokens}
 use Rattle.format.proofs.BytesLaws.{Free, free-append}
 use Rattle.text_bytes.specs.Find.{gap, firstFrom}
-use Rattle.read_predicate.specs.Codes.{wordCode, countCode}
+use Rattle.read_predicate.specs.declared.codes.Numbered.the-variants as N
+use Rattle.read_predicate.specs.Codes.{strayCode, wordCode, countCode}
 use Rattle.read_predicate.specs.Read.{isWord, dueAfter, codeAs, codes, count, answer, written, Reads}
 use Rattle.read_predicate.specs.declared.reading.Due.{Due}
 use Rattle.read_predicate.specs.declared.reading.Due.the-variants.{Word, AllCount, AnyCount}
@@ -53,11 +54,11 @@ module _ (d : Due) where
       unfolding codeAs
       as-word h e = rw h e
 
-      pub as-all : d ≡ AllCount → r ≡ countCode 0 t → r ≡ codeAs d t
+      pub as-all : d ≡ AllCount → r ≡ countCode N.All t → r ≡ codeAs d t
       unfolding codeAs
       as-all h e = rw h e
 
-      pub as-any : d ≡ AnyCount → r ≡ countCode 1 t → r ≡ codeAs d t
+      pub as-any : d ≡ AnyCount → r ≡ countCode N.Any t → r ≡ codeAs d t
       unfolding codeAs
       as-any h e = rw h e
 
@@ -96,7 +97,7 @@ codes-end : (due : Due) → isWord due ≡ true → codes due [] ≡ []
 unfolding codes
 codes-end due h = rw (codes, h)
 
-codes-lack : (due : Due) → isWord due ≡ false → codes due [] ≡ 15 ∷ []
+codes-lack : (due : Due) → isWord due ≡ false → codes due [] ≡ strayCode ∷ []
 unfolding codes
 codes-lack due h = rw (codes, h)
 
@@ -124,13 +125,13 @@ pub record Front (old cs more : List ℕ) (n : ℕ) (out : List ℕ) : Type 0 wh
   pub inside : n ≤ length out
   pub long : length out ≡ length old
   pub rest : drop n out ≡ drop n old
-  pub words : Free 15 (take n out)
+  pub words : Free strayCode (take n out)
 
 module _ (old cs more out : List ℕ) (n : ℕ) (k : Front old cs more n out) where
-  counted : gap 15 cs ≡ n + gap 15 more
+  counted : gap strayCode cs ≡ n + gap strayCode more
   counted =
       let l : length (take n out) ≡ n = length-take-le n out (k .inside) in
-      rw (k .text, gap-append 15 (take n out) more (k .words), l)
+      rw (k .text, gap-append strayCode (take n out) more (k .words), l)
 
   sized : length cs ≡ n + length more
   sized =
@@ -141,41 +142,41 @@ module _ (old cs more out : List ℕ) (n : ℕ) (k : Front old cs more n out) wh
   front = rw (k .text) (take-at (take n out) more n (length-take-le n out (k .inside)))
 
   -- no more words come: what was read stands, and all of it is the answer if nothing at all comes
-  kept : gap 15 more ≡ 0 → out ≡ written cs old
+  kept : gap strayCode more ≡ 0 → out ≡ written cs old
   unfolding written count
   kept z =
-      let g : gap 15 cs ≡ n = omega (arith, counted) in
+      let g : gap strayCode cs ≡ n = omega (arith, counted) in
       let a : length (take n out) ≤ length old = omega (arith, length-take-le n out (k .inside), k .long, k .inside) in
       rw (g, front, take-all (length old) (take n out) a, ← k .rest, take-append-drop)
 
-  answered : gap 15 more ≡ 0 → (v : Bool) → ltb n (length cs) ≡ v → answer cs (length old) ≡ elim v as (λ x. Words) [ true ↦ Stray | false ↦ Read n ]
+  answered : gap strayCode more ≡ 0 → (v : Bool) → ltb n (length cs) ≡ v → answer cs (length old) ≡ elim v as (λ x. Words) [ true ↦ Stray | false ↦ Read n ]
   unfolding answer count
   answered z v h =
-      let g : gap 15 cs ≡ n = omega (arith, counted) in
+      let g : gap strayCode cs ≡ n = omega (arith, counted) in
       let l : leb n (length old) ≡ true = le-leb n (length old) (omega (arith, k .long, k .inside)) in
       ap (λ (x : ℕ). elim (leb x (length old)) as (λ y. Words) [ true ↦ elim (ltb x (length cs)) as (λ y. Words) [ true ↦ Stray | false ↦ Read x ] | false ↦ Full ]) g ∙
       ap (λ (u : Bool). elim u as (λ y. Words) [ true ↦ elim (ltb n (length cs)) as (λ y. Words) [ true ↦ Stray | false ↦ Read n ] | false ↦ Full ]) l ∙
       ap (λ (u : Bool). elim u as (λ y. Words) [ true ↦ Stray | false ↦ Read n ]) h
 
-  stopped : gap 15 more ≡ 0 → 0 < length more → answer cs (length old) ≡ Stray
+  stopped : gap strayCode more ≡ 0 → 0 < length more → answer cs (length old) ≡ Stray
   stopped z m = answered z true (lt-ltb n (length cs) (omega (arith, sized)))
 
-  ended : gap 15 more ≡ 0 → length more ≡ 0 → answer cs (length old) ≡ Read n
+  ended : gap strayCode more ≡ 0 → length more ≡ 0 → answer cs (length old) ≡ Read n
   ended z m = answered z false (le-ltb n (length cs) (omega (arith, sized)))
 
   -- a word comes, and there is no room for it
-  module _ (f : length out ≤ n) (g : 0 < gap 15 more) where
+  module _ (f : length out ≤ n) (g : 0 < gap strayCode more) where
     filled : out ≡ written cs old
     unfolding written count
     filled =
         let o : length old ≡ n = omega (arith, k .long, k .inside) in
-        let a : n ≤ gap 15 cs = omega (arith, counted) in
-        let b : length old ≤ gap 15 cs = omega arith in
-        rw (o, take-take n (gap 15 cs) cs a, front, take-all n out f, drop-of-length-le old b, append-nil)
+        let a : n ≤ gap strayCode cs = omega (arith, counted) in
+        let b : length old ≤ gap strayCode cs = omega arith in
+        rw (o, take-take n (gap strayCode cs) cs a, front, take-all n out f, drop-of-length-le old b, append-nil)
 
     full : answer cs (length old) ≡ Full
     unfolding answer count
-    full = rw (lt-leb (gap 15 cs) (length old) (omega (arith, counted, k .long, k .inside)), answer)
+    full = rw (lt-leb (gap strayCode cs) (length old) (omega (arith, counted, k .long, k .inside)), answer)
 
 -- what the loop keeps
 pub record Reading (s old : List ℕ) (due : Due) (n at : ℕ) (out : List ℕ) : Type 0 where
@@ -191,7 +192,7 @@ module _ (s old out : List ℕ) (due : Due) (n at : ℕ) (inv : Reading s old du
     known : Front old (codes Word (tokens s)) more n out
     known = rw e at (inv .stands)
 
-    stop : gap 15 more ≡ 0 → 0 < length more → Reads s old out Stray
+    stop : gap strayCode more ≡ 0 → 0 < length more → Reads s old out Stray
     stop z l = record { answered = sym (stopped _ _ more out n known z l); memory = kept _ _ more out n known z; long = inv .stands .long }
 
   module _ (h : at ≤ length s) (r : ℕ) (e : r ≡ firstFrom s at 32) (d : Due) (g : d ≡ dueAfter due (take (r - at) (drop at s))) (p : Bool) (f : p ≡ isWord d) where
@@ -202,16 +203,20 @@ module _ (s old out : List ℕ) (due : Due) (n at : ℕ) (inv : Reading s old du
       coming : codes due (partsFrom space s at) ≡ c ∷ codes d (partsFrom space s (r + 1))
       coming = rw (from-step space s at r h e, k) (codes-word due d _ (partsFrom space s (r + 1)) g (sym f ∙ y))
 
-      pub read-stray : c ≡ 15 → Reads s old out Stray
-      read-stray z =
+      pub read-stray : (b : Bool) → b ≡ eqb c strayCode → b ≡ true → Reads s old out Stray
+      read-stray b eb hb =
+          let z = eqb-true c strayCode (sym eb ∙ hb) in
           let m = codes d (partsFrom space s (r + 1)) in
-          stop (15 ∷ m) (rw z at coming) (gap-stop 15 m) (omega arith)
+          stop (strayCode ∷ m) (rw z at coming) (gap-stop strayCode m) (omega arith)
 
-      module _ (z : c ≡ 15 → ⊥) where
+      module _ (b : Bool) (eb : b ≡ eqb c strayCode) (hb : b ≡ false) where
+        z : c ≡ strayCode → ⊥
+        z = eqb-false c strayCode (sym eb ∙ hb)
+
         pub read-full : length out ≤ n → Reads s old out Full
         read-full l =
             let m = codes d (partsFrom space s (r + 1)) in
-            let u : 0 < gap 15 (c ∷ m) = omega (arith, gap-on 15 c m z) in
+            let u : 0 < gap strayCode (c ∷ m) = omega (arith, gap-on strayCode c m z) in
             let q = known (c ∷ m) coming in
             record { answered = sym (full _ _ (c ∷ m) out n q l u); memory = filled _ _ (c ∷ m) out n q l u; long = inv .stands .long }
 
@@ -225,7 +230,7 @@ module _ (s old out : List ℕ) (due : Due) (n at : ℕ) (inv : Reading s old du
                 inside = rw (length-set out n c) (omega arith);
                 long = length-set out n c ∙ q .long;
                 rest = drop-set-lt (n + 1) out n c (omega arith) ∙ sym (drop-drop 1 n out) ∙ ap (drop 1) (q .rest) ∙ drop-drop 1 n old;
-                words = rw (add-one n, take-suc-set out n c l) (free-append 15 (take n out) (c ∷ []) (q .words) (z, tt));
+                words = rw (add-one n, take-suc-set out n c l) (free-append strayCode (take n out) (c ∷ []) (q .words) (z, tt));
               };
             }
 
@@ -233,9 +238,9 @@ module _ (s old out : List ℕ) (due : Due) (n at : ℕ) (inv : Reading s old du
     pub read-done : p ≡ true → Reads s old out (Read n)
     read-done y =
         let q = known [] (rw (from-past space s at h) (codes-end due (sym f ∙ y))) in
-        record { answered = sym (ended _ _ [] out n q (gap-nil 15) refl); memory = kept _ _ [] out n q (gap-nil 15); long = q .long }
+        record { answered = sym (ended _ _ [] out n q (gap-nil strayCode) refl); memory = kept _ _ [] out n q (gap-nil strayCode); long = q .long }
 
     pub read-lacking : p ≡ false → Reads s old out Stray
-    read-lacking y = stop (15 ∷ []) (rw (from-past space s at h) (codes-lack due (sym f ∙ y))) (gap-stop 15 []) (omega arith)
+    read-lacking y = stop (strayCode ∷ []) (rw (from-past space s at h) (codes-lack due (sym f ∙ y))) (gap-stop strayCode []) (omega arith)
 
 pub ruleset read-laws = (read-start, read-skip, read-stray, read-full, read-word, read-done, read-lacking, not-true, not-false)

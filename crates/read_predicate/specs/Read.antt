@@ -14,6 +14,7 @@ use Rattle.read_predicate.specs.declared.reading.Due.{Due}
 use Rattle.read_predicate.specs.declared.reading.Due.the-variants.{Word, AllCount, AnyCount}
 use Rattle.read_predicate.specs.declared.reading.Words.{Words}
 use Rattle.read_predicate.specs.declared.reading.Words.the-variants.{Read, Stray, Full}
+use Rattle.read_predicate.specs.declared.codes.Numbered.the-variants as N
 use Rattle.read_predicate.specs.Codes.{strayCode, wordCode, countCode}
 
 unfoldable pub isWord : Due → Bool
@@ -30,8 +31,8 @@ dueAfter AnyCount t = Word
 
 unfoldable pub codeAs : Due → Bytes → ℕ
 codeAs Word t = wordCode t
-codeAs AllCount t = countCode 0 t
-codeAs AnyCount t = countCode 1 t
+codeAs AllCount t = countCode N.All t
+codeAs AnyCount t = countCode N.Any t
 
 -- the codes of the words; an `all` or `any` that ends the tokens spells none
 unfoldable pub codes : Due → List Bytes → List ℕ

@@ -1,48 +1,71 @@
-// The code of the word that a token spells: kind + 16 * argument. 15 is no word's code, and says that it spells none.
+// The code of the word that a token spells: the word of its node, or that of a stray one if it spells none.
 use crate::tokens::Shape;
 use crate::tokens::{self};
 use model::Model;
+use node_words::Node;
 ghost use mathlib.Core.Path.{_≡_};
 ghost use Prim.Native.Nat.{_≤_};
 ghost use lib.ListN.{drop};
+ghost use lib.Dec.{eqb};
 ghost use Rattle.model.specs.Predicate.{stray};
 ghost use Rattle.model.specs.Table as Table;
+ghost use Rattle.node_words.specs.Nodes.{nodeFor};
 ghost use Rattle.format.specs.Tokens as T;
-ghost use Rattle.read_predicate.specs.Codes.{argumentCode, numberCode, variableCode, wordCode, countCode};
+ghost use Rattle.read_predicate.specs.Codes.{strayCode, wordWith, argumentCode, numberCode, variableCode, wordCode, countCode};
+
+// The words that have a number of their own: K of `all`, `any`, `vK` and `nK`.
+pub enum Numbered {
+    All,
+    Any,
+    Old,
+    New,
+}
+
+fn stray_code() -> u32
+    ensures { λ r. ⌜ r ≡ strayCode ⌝ }
+{
+    node_words::word_of(Node::Stray)
+}
+
+pub fn is_stray(code: u32) -> bool
+    ensures { λ r. ⌜ r ≡ eqb code strayCode ⌝ }
+{
+    code == stray_code()
+}
 
 // The last four of the words that are one token, and no number: those of expressions.
 fn operator_code(token: &[u8]) -> u32
     ensures { λ r. ⌜ r ≡ Table.code (T.find stray (drop 4 T.spellings) (now (token .entry))) ⌝ }
 {
     if text_bytes::same(b"add", token) {
-        return 9;
+        return node_words::word_of(Node::Add);
     }
     if text_bytes::same(b"sub", token) {
-        return 10;
+        return node_words::word_of(Node::Sub);
     }
     if text_bytes::same(b"mul", token) {
-        return 11;
+        return node_words::word_of(Node::Mul);
     }
     if text_bytes::same(b"if", token) {
-        return 12;
+        return node_words::word_of(Node::If);
     }
-    15
+    stray_code()
 }
 
 fn keyword_code(token: &[u8]) -> u32
     ensures { λ r. ⌜ r ≡ Table.code (T.find stray T.spellings (now (token .entry))) ⌝ }
 {
     if text_bytes::same(b"not", token) {
-        return 2;
+        return node_words::word_of(Node::Not);
     }
     if text_bytes::same(b"imp", token) {
-        return 3;
+        return node_words::word_of(Node::Imp);
     }
     if text_bytes::same(b"eq", token) {
-        return 4;
+        return node_words::word_of(Node::Eq);
     }
     if text_bytes::same(b"le", token) {
-        return 5;
+        return node_words::word_of(Node::Le);
     }
     operator_code(token)
 }
@@ -62,20 +85,31 @@ fn number_code(s: &[u8]) -> u32
 {
     let m = text_bytes::integer(s, -32768, 32767);
     match m {
-        text_bytes::Integer::In(z) => 6 + 16 * biased(z),
-        text_bytes::Integer::Out => 15,
+        text_bytes::Integer::In(z) => node_words::word_of(Node::Number(biased(z))),
+        text_bytes::Integer::Out => stray_code(),
+    }
+}
+
+fn node_with(which: Numbered, k: u32) -> Node
+    ensures { λ r. ⌜ r ≡ nodeFor (wordWith which k) ⌝ }
+{
+    match which {
+        Numbered::All => Node::All(k),
+        Numbered::Any => Node::Any(k),
+        Numbered::Old => Node::Old(k),
+        Numbered::New => Node::New(k),
     }
 }
 
 // A word with an argument from 0 to `high`.
-fn argument_code(kind: u32, high: u32, s: &[u8]) -> u32
-    requires { ⌜ (kind ≤ 15) × (high ≤ 512) ⌝ }
-    ensures { λ r. ⌜ r ≡ argumentCode kind high (now (s .entry)) ⌝ }
+fn argument_code(which: Numbered, high: u32, s: &[u8]) -> u32
+    requires { ⌜ high ≤ 512 ⌝ }
+    ensures { λ r. ⌜ r ≡ argumentCode which high (now (s .entry)) ⌝ }
 {
     let m = text_bytes::natural(s, high);
     match m {
-        text_bytes::Natural::In(k) => kind + 16 * k,
-        text_bytes::Natural::Out => 15,
+        text_bytes::Natural::In(k) => node_words::word_of(node_with(which, k)),
+        text_bytes::Natural::Out => stray_code(),
     }
 }
 
@@ -83,12 +117,12 @@ fn variable_code(letter: u8, s: &[u8]) -> u32
     ensures { λ r. ⌜ r ≡ variableCode letter (now (s .entry)) ⌝ }
 {
     if letter == 118 {
-        return argument_code(7, Model::LAST_VARIABLE, s);
+        return argument_code(Numbered::Old, Model::LAST_VARIABLE, s);
     }
     if letter == 110 {
-        return argument_code(8, Model::LAST_VARIABLE, s);
+        return argument_code(Numbered::New, Model::LAST_VARIABLE, s);
     }
-    15
+    stray_code()
 }
 
 // A word that is one token.
@@ -103,15 +137,14 @@ pub fn word_code(token: &[u8]) -> u32
     }
 }
 
-// The K after `all` (kind 0) or `any` (kind 1), with it.
-pub fn count_code(kind: u32, token: &[u8]) -> u32
-    requires { ⌜ kind ≤ 15 ⌝ }
-    ensures { λ r. ⌜ r ≡ countCode kind (now (token .entry)) ⌝ }
+// The K after `all` or `any`, with it.
+pub fn count_code(which: Numbered, token: &[u8]) -> u32
+    ensures { λ r. ⌜ r ≡ countCode which (now (token .entry)) ⌝ }
 {
     let shape = tokens::numeral(token);
     match shape {
-        Shape::Bare => argument_code(kind, Model::OPERANDS, token),
-        Shape::Lettered(_) => 15,
-        Shape::Plain => 15,
+        Shape::Bare => argument_code(which, Model::OPERANDS, token),
+        Shape::Lettered(_) => stray_code(),
+        Shape::Plain => stray_code(),
     }
 }

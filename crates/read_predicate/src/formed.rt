@@ -1,5 +1,6 @@
 // Row 6: do the words make one predicate? They are read from the right, with a stack of sorts in place of trees: each word takes
 // its operands' sorts off and puts its own on. What is taken off was put on once, so the work is linear in the words.
+use node_words::Node;
 ghost use mathlib.Core.Path.{_≡_};
 ghost use mathlib.Core.Bool.{not, _&&_};
 ghost use mathlib.Core.List.{map};
@@ -27,29 +28,18 @@ pub enum Height {
 fn arity_of(word: u32) -> Arity
     ensures { λ r. ⌜ r ≡ arityOf (wordOf word) ⌝ }
 {
-    let kind = word % 16;
-    if kind <= 1 {
-        return Arity::Takes(arithmetic::index(word / 16), 0, true);
+    let node = node_words::node_of(word);
+    match node {
+        Node::All(k) => Arity::Takes(arithmetic::index(k), 0, true),
+        Node::Any(k) => Arity::Takes(arithmetic::index(k), 0, true),
+        Node::Not => Arity::Takes(1, 0, true),
+        Node::Imp => Arity::Takes(2, 0, true),
+        Node::Eq | Node::Le => Arity::Takes(0, 2, true),
+        Node::Number(_) | Node::Old(_) | Node::New(_) => Arity::Takes(0, 0, false),
+        Node::Add | Node::Sub | Node::Mul => Arity::Takes(0, 2, false),
+        Node::If => Arity::Takes(1, 2, false),
+        Node::Stray => Arity::Stray,
     }
-    if kind <= 2 {
-        return Arity::Takes(1, 0, true);
-    }
-    if kind <= 3 {
-        return Arity::Takes(2, 0, true);
-    }
-    if kind <= 5 {
-        return Arity::Takes(0, 2, true);
-    }
-    if kind <= 8 {
-        return Arity::Takes(0, 0, false);
-    }
-    if kind <= 11 {
-        return Arity::Takes(0, 2, false);
-    }
-    if kind <= 12 {
-        return Arity::Takes(1, 2, false);
-    }
-    Arity::Stray
 }
 
 // The height after `count` operands of a sort are taken off.

@@ -1,4 +1,5 @@
 // The words that the tokens of P spell, as codes.
+use crate::codes::Numbered;
 use crate::codes::{self};
 ghost use mathlib.Core.Path.{_≡_};
 ghost use Rattle.read_predicate.specs.Read.{isWord, dueAfter, codeAs, Reads};
@@ -55,8 +56,8 @@ fn code_as(due: Due, token: &[u8]) -> u32
 {
     match due {
         Due::Word => codes::word_code(token),
-        Due::AllCount => codes::count_code(0, token),
-        Due::AnyCount => codes::count_code(1, token),
+        Due::AllCount => codes::count_code(Numbered::All, token),
+        Due::AnyCount => codes::count_code(Numbered::Any, token),
     }
 }
 
@@ -78,7 +79,7 @@ pub fn read(part: &[u8], out: &mut [u32]) -> Words
             continue;
         }
         let code = code_as(read_as, token);
-        if code == 15 {
+        if codes::is_stray(code) {
             return Words::Stray;
         }
         if out.len() <= n {

@@ -14,11 +14,11 @@ use lib.Seq.{drop-cons}
 use lib.Dec.{eqb, leb, ltb}
 use Rattle.model.specs.Basic.{between, every, lacks}
 use Rattle.model.specs.Bounds.{maxActions, maxEdges, leastNumber, greatestNumber, bias}
-use Rattle.model.specs.Predicate.{Range, range, numWord}
+use Rattle.model.specs.Predicate.{Range, range}
 use Rattle.model.specs.Lines.{Entry, actionsLine, variableLine, syncLine, edgesLine, keyOf, Reading, noted, withModel}
 use Rattle.model.specs.Limits.{inRange, rises, broken, numbersInRange, contentFault, faultOf}
 use Rattle.model.specs.Lawful.{LawfulRange}
-use Rattle.model.specs.Table.{biased, unbiased, code, kinds, wordOf, lowBits, highBits, setWords, setOf, lineWords}
+use Rattle.model.specs.Table.{biased, unbiased, lowBits, highBits, setWords, setOf, lineWords}
 use Rattle.model.proofs.Tests.{and-intro, and-left, and-right, every-at}
 use Rattle.model.proofs.Bits.{rises-cons, set-back}
 use Rattle.model.proofs.Decode.{unbroken, none-lacks}
@@ -26,9 +26,7 @@ use Rattle.model.proofs.LimitLines.{variable-line, sync-line, edges-line}
 use Rattle.line_order.specs.declared.Counts.{Counts}
 use Rattle.line_order.specs.Due.{numberOf}
 use Rattle.line_order.specs.Counts.{nodesOf, Counted}
-use Rattle.table_predicate.specs.Scan.{isCoded}
-use Rattle.model.proofs.WordKinds.{word-of}
-use Rattle.table_predicate.proofs.ScanLaws.{coded-number}
+use Rattle.node_words.proofs.NodeLaws.{biased-unbiased, number-span}
 use Rattle.table_tree.proofs.SetLaws.{words-back}
 use Rattle.table_tree.proofs.NodeLaws.{later}
 use Rattle.table_check.specs.declared.Line.{Line}
@@ -119,17 +117,7 @@ module _ (t : List ℕ) where
 
 -- A word up to 65535 is a number's, put back by the bias.
 number-word : (n : ℕ) → n ≤ 65535 → (biased (unbiased n) ≡ n) × (between leastNumber greatestNumber (unbiased n) ≡ true)
-unfolding isCoded code inRange kinds
-number-word n l =
-    let w = 6 + 16 * n in
-    let kind : (6 + 16 * n) % 16 ≡ 6 = omega arith in
-    let argument : (6 + 16 * n) / 16 ≡ n = omega arith in
-    let said : wordOf w ≡ numWord (unbiased n) = word-of w 6 kind ∙ ap (λ (k : ℕ). numWord (unbiased k)) argument in
-    let coded : isCoded w ≡ true = sym (coded-number w kind) ∙ rw argument (le-leb n 65535 l) in
-    let both : (eqb w (6 + 16 * biased (unbiased n)) && between leastNumber greatestNumber (unbiased n)) ≡ true = rw said at coded in
-    let test = eqb w (6 + 16 * biased (unbiased n)) in
-    let same = eqb-true w (6 + 16 * biased (unbiased n)) (and-left test _ both) in
-    (omega arith, and-right test _ both)
+number-word n l = (biased-unbiased n, sym (number-span n) ∙ le-leb n 65535 l)
 
 -- words and numbers have one order
 unbiased-le : (a b : ℕ) → a ≤ b → leZ (unbiased a) (unbiased b) ≡ true

@@ -9,7 +9,8 @@ use lib.Dec.{ltb}
 use lib.ListN.{length, getD}
 use Rattle.model.specs.Predicate.{Pred, Preds, Expr, all, any, negate, imp, eq, le, none, more, num, old, new, add, sub, mul, choose, operands, Word, allOf, anyOf, notWord, impWord, eqWord, leWord, numWord, oldWord, newWord, addWord, subWord, mulWord, ifWord, stray, words, wordsAll, wordsOf, depth, depthAll, depthOf, Range}
 use Rattle.model.specs.Lawful.{LawfulRange}
-use Rattle.model.specs.Table.{wordOf, kinds}
+use Rattle.model.specs.Table.{wordOf}
+use Rattle.node_words.specs.Nodes.{meant}
 use Rattle.table_predicate.specs.declared.Walked.{Walked}
 use Rattle.table_predicate.specs.declared.Reach.{Reach}
 use Rattle.table_predicate.specs.Walk.{sound, unsound, deeper, unreached, reached, couple, gather, declaredOf, predicateBy, expressionBy, predicateAt, expressionAt}
@@ -109,7 +110,7 @@ module _ (ws ranges : List ℕ) (lawful : (x : Range) → List·Memᴰ x (declar
 
   -- the place of a node is one of the words
   below-p : (n : ℕ) (deep leaves : Bool) (at : ℕ) → P (suc n) (sound deep leaves at) .sound ≡ true → at < length ws
-  unfolding predicateAt expressionAt wordOf kinds predicateBy unsound
+  unfolding predicateAt expressionAt meant predicateBy unsound
   below-p n deep leaves at h = go (ltb at (length ws)) refl
     where
       go : (t : Bool) → ltb at (length ws) ≡ t → at < length ws
@@ -117,7 +118,7 @@ module _ (ws ranges : List ℕ) (lawful : (x : Range) → List·Memᴰ x (declar
       go false e = never (rw (← enter-none ws (sound deep leaves at) (ltb-false at (length ws) e)) at h)
 
   below-e : (n : ℕ) (deep leaves : Bool) (at : ℕ) → E (suc n) (sound deep leaves at) .walk .sound ≡ true → at < length ws
-  unfolding predicateAt expressionAt wordOf kinds expressionBy unsound unreached
+  unfolding predicateAt expressionAt meant expressionBy unsound unreached
   below-e n deep leaves at h = go (ltb at (length ws)) refl
     where
       go : (t : Bool) → ltb at (length ws) ≡ t → at < length ws

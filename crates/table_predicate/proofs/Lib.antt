@@ -1,4 +1,3 @@
-pub mod Words
 pub mod Steps
 pub mod Standing
 pub mod Forward

@@ -1,9 +1,8 @@
 -- What the scans' tests say of a word by its kind, and what the scans say of a predicate's words.
 use mathlib.Core.Path.{_≡_, refl, sym, ap, ap₂, _∙_}
-use mathlib.Core.Bool.{Bool, true, false, not, _&&_, _||_, and-false}
-use mathlib.Core.Logic.{⊎-elim}
+use mathlib.Core.Bool.{Bool, true, false, not, _&&_, _||_}
 use mathlib.Core.List.{List, [], _∷_, map}
-use Prim.Native.Nat.{ℕ, zero, suc, _+_, _-_, _*_, _%_, _/_, _<_, _≤_}
+use Prim.Native.Nat.{ℕ, zero, suc, _+_, _-_, _<_, _≤_}
 use native.Mathlib.Omega.{arith}
 use native.Mathlib.Numerals.{add-one, sub-one}
 use borrow.Author.Tests.{leb-true, leb-false, le-leb, eqb-true, eqb-false, eq-eqb, ne-eqb}
@@ -12,16 +11,18 @@ use lib.IntN.{pos, negsuc}
 use lib.ListN.{length, getD, take, drop, drop-of-length-le}
 use lib.Seq.{drop-cons, take-nil}
 use Rattle.model.specs.Basic.{between, every, exists}
-use Rattle.model.specs.Bounds.{bias, leastNumber, greatestNumber, maxOperands, lastVariable}
-use Rattle.model.specs.Predicate.{Word, stray, named, isOutside, isNew, namesOutside, namesNew}
+use Rattle.model.specs.Bounds.{bias, leastNumber, greatestNumber}
+use Rattle.model.specs.Predicate.{Word, named, isOutside, isNew, namesOutside, namesNew}
 use Rattle.model.specs.Limits.{inRange}
-use Rattle.model.specs.Table.{biased, unbiased, code, kinds, wordOf}
+use Rattle.model.specs.Table.{unbiased, code, wordOf}
+use Rattle.node_words.specs.declared.Node.{Node}
+use Rattle.node_words.specs.declared.Node.the-variants.{All, Any, Number, Old, New, Stray}
+use Rattle.node_words.specs.Nodes.{meant, nodeOf, wordFor}
+use Rattle.node_words.proofs.NodeLaws.{number-span, meant-of, word-by, word-again, Other, by-others}
 use Rattle.model.proofs.Tests.{and-left, and-right, and-intro, eq-of, of-eq, exists-map}
 use Rattle.model.proofs.Decode.{word-back}
 use Rattle.table_predicate.specs.Scan.{isCoded, fails}
 use Rattle.table_predicate.specs.declared.scan.Test.{Test}
-use Rattle.model.proofs.WordKinds.{word-of, kind-from, kind-below}
-use Rattle.table_predicate.proofs.Words.{either-of, four-of}
 
 -- one word more, and none
 module _ (f : ℕ → Bool) (ws : List ℕ) where
@@ -34,123 +35,82 @@ module _ (f : ℕ → Bool) (ws : List ℕ) where
   unfolding exists
   exists-none at count h = rw (drop-of-length-le ws h, take-nil {A = ℕ} count)
 
--- the bias, put back
-biased-unbiased : (n : ℕ) → biased (unbiased n) ≡ n
-unfolding biased unbiased
-biased-unbiased n = go (leb bias n) refl
-  where
-    go : (t : Bool) → leb bias n ≡ t → biased (elim t [ true ↦ pos (n - bias) | false ↦ negsuc (bias - suc n) ]) ≡ n
-    go true e = let l = leb-true bias n e in omega arith
-    go false e = let l = leb-false bias n e in omega arith
+-- the nodes that are not in range as they are
+abbrev with-bounds : List Node
+with-bounds = All 0 ∷ Any 0 ∷ Number 0 ∷ Old 0 ∷ New 0 ∷ Stray ∷ []
 
--- the numbers are those whose argument is at most 65535
-leb-same : (k l m n : ℕ) → (k ≤ l → m ≤ n) → (m ≤ n → k ≤ l) → leb k l ≡ leb m n
-leb-same k l m n to from = go (leb k l) refl (leb m n) refl
-  where
-    go : (t : Bool) → leb k l ≡ t → (u : Bool) → leb m n ≡ u → leb k l ≡ leb m n
-    go true e u f = e ∙ sym (le-leb m n (to (leb-true k l e)))
-    go false e true f = let g = leb-false k l e in let h = from (leb-true m n f) in absurd (omega arith)
-    go false e false f = e ∙ sym f
+-- names, by the node
+module _ (w : ℕ) (n : Node) (is : n ≡ nodeOf w) where
+  pub outside-old : (count k i : ℕ) → n ≡ Old k → i ≡ k → leb count i ≡ isOutside count (named (wordOf w))
+  unfolding isOutside named meant
+  outside-old count k i h e = rw (word-by w n (Old k) is h, e)
 
-number-span : (n : ℕ) → leb n 65535 ≡ between leastNumber greatestNumber (unbiased n)
-unfolding between unbiased
-number-span n = go (leb bias n) refl
-  where
-    go : (t : Bool) → leb bias n ≡ t → leb n 65535 ≡ between leastNumber greatestNumber (elim t [ true ↦ pos (n - bias) | false ↦ negsuc (bias - suc n) ])
-    go true e = let l = leb-true bias n e in leb-same n 65535 (n - bias) 32767 (λ h. omega arith) (λ h. omega arith)
-    go false e =
-        let l = leb-false bias n e in
-        le-leb n 65535 (omega arith) ∙ sym (rw (le-leb (bias - suc n) 32767 (omega arith)))
+  pub outside-new : (count k i : ℕ) → n ≡ New k → i ≡ k → leb count i ≡ isOutside count (named (wordOf w))
+  unfolding isOutside named meant
+  outside-new count k i h e = rw (word-by w n (New k) is h, e)
 
--- names, by kind
-module _ (w : ℕ) where
-  abbrev kind : ℕ
-  kind = w % 16
+  pub outside-none : (count : ℕ) → Other (Old 0 ∷ New 0 ∷ []) n → false ≡ isOutside count (named (wordOf w))
+  unfolding isOutside named meant
+  outside-none count o =
+      let no : (k : ℕ) → false ≡ false = λ k. refl in
+      rw (word-by w n n is refl)
+      (by-others (λ (m : Node). false ≡ isOutside count (named (meant m))) (Old 0 ∷ New 0 ∷ []) n o
+      (no, no, refl, refl, refl, refl, no, tt, tt, refl, refl, refl, refl, refl))
 
-  abbrev a : ℕ
-  a = w / 16
+  pub new-yes : (k : ℕ) → n ≡ New k → true ≡ isNew (named (wordOf w))
+  unfolding isNew named meant
+  new-yes k h = rw (word-by w n (New k) is h)
 
-  pub outside-old : (n : ℕ) → kind ≡ 7 → leb n a ≡ isOutside n (named (wordOf w))
-  unfolding isOutside named kinds
-  outside-old n e = rw (word-of w _ e)
+  pub new-no : Other (New 0 ∷ []) n → false ≡ isNew (named (wordOf w))
+  unfolding isNew named meant
+  new-no o =
+      let no : (k : ℕ) → false ≡ false = λ k. refl in
+      rw (word-by w n n is refl)
+      (by-others (λ (m : Node). false ≡ isNew (named (meant m))) (New 0 ∷ []) n o
+      (no, no, refl, refl, refl, refl, no, no, tt, refl, refl, refl, refl, refl))
 
-  pub outside-new : (n : ℕ) → kind ≡ 8 → leb n a ≡ isOutside n (named (wordOf w))
-  unfolding isOutside named kinds
-  outside-new n e = rw (word-of w _ e)
-
-  pub outside-none : (n : ℕ) → (kind ≡ 7 → ⊥) → (kind ≡ 8 → ⊥) → false ≡ isOutside n (named (wordOf w))
-  unfolding isOutside named kinds
-  outside-none n p q = go (leb kind 6) refl
-    where
-      go : (t : Bool) → leb kind 6 ≡ t → false ≡ isOutside n (named (wordOf w))
-      go true e =
-          let l = leb-true kind 6 e in
-          kind-below (λ x. false ≡ isOutside n (named x)) w 7 (refl, (refl, (refl, (refl, (refl, (refl, (refl, refl))))))) (omega arith)
-      go false e =
-          let l = leb-false kind 6 e in
-          kind-from (λ x. false ≡ isOutside n (named x)) w 9 (refl, (refl, (refl, (refl, refl)))) (omega arith)
-
-  pub new-test : eqb kind 8 ≡ isNew (named (wordOf w))
-  unfolding isNew named kinds
-  new-test = go (eqb kind 8) refl
-    where
-      less : (t : Bool) → leb kind 7 ≡ t → (kind ≡ 8 → ⊥) → false ≡ isNew (named (wordOf w))
-      less true e n =
-          let l = leb-true kind 7 e in
-          kind-below (λ x. false ≡ isNew (named x)) w 8 (refl, (refl, (refl, (refl, (refl, (refl, (refl, (refl, refl)))))))) (omega arith)
-      less false e n =
-          let l = leb-false kind 7 e in
-          kind-from (λ x. false ≡ isNew (named x)) w 9 (refl, (refl, (refl, (refl, refl)))) (omega arith)
-
-      go : (t : Bool) → eqb kind 8 ≡ t → eqb kind 8 ≡ isNew (named (wordOf w))
-      go true e = e ∙ rw (word-of w _ (eqb-true kind 8 e))
-      go false e = e ∙ less (leb kind 7) refl (eqb-false kind 8 e)
-
-  -- a word with an argument, and one with none
-  full : {k : ℕ} (b : Bool) → kind ≡ k → b ≡ (eqb w (k + 16 * a) && b)
-  full {k} b e = let h : w ≡ k + 16 * a = omega arith in rw (eq-eqb w (k + 16 * a) h)
-
-  bare : {k : ℕ} → kind ≡ k → eqb a 0 ≡ (eqb w k && true)
-  bare {k} e = go (eqb a 0) refl
-    where
-      go : (t : Bool) → eqb a 0 ≡ t → eqb a 0 ≡ (eqb w k && true)
-      go true h = let z = eqb-true a 0 h in h ∙ sym (rw (eq-eqb w k (omega arith)))
-      go false h = let z = eqb-false a 0 h in h ∙ sym (rw (ne-eqb w k (omega arith)))
-
-  -- is it the code of a word in range, by kind
-  coded-by : {k : ℕ} → kind ≡ k → (eqb w (code (getD (kinds a) k stray)) && inRange (getD (kinds a) k stray)) ≡ isCoded w
+  -- `coded`
+  pub coded-is : w < 4294967296 → (v : ℕ) → v ≡ wordFor n → (b : Bool) → b ≡ inRange (meant n) → (eqb w v && b) ≡ isCoded w
   unfolding isCoded
-  coded-by e = sym (rw (word-of w _ e))
+  coded-is h v e b f = rw (e, f, is, word-again w h, meant-of w)
 
-  pub coded-row : kind < 2 → leb a maxOperands ≡ isCoded w
-  unfolding code inRange kinds
-  coded-row h = ⊎-elim (λ e. full (leb a maxOperands) e ∙ coded-by e) (λ e. full (leb a maxOperands) e ∙ coded-by e) (either-of 0 kind (omega arith) h)
+pub ruleset outside-laws = (outside-old, outside-new, outside-none)
 
-  pub coded-bare : 2 ≤ kind → kind < 6 → eqb a 0 ≡ isCoded w
-  unfolding code inRange kinds
-  coded-bare l h =
-      ⊎-elim (⊎-elim (λ e. bare e ∙ coded-by e) (λ e. bare e ∙ coded-by e))
-      (⊎-elim (λ e. bare e ∙ coded-by e) (λ e. bare e ∙ coded-by e)) (four-of 2 kind l h)
+pub ruleset new-laws = (new-yes, new-no)
 
-  pub coded-number : kind ≡ 6 → leb a 65535 ≡ isCoded w
-  unfolding code inRange kinds
-  coded-number e =
-      let n : (eqb w (6 + 16 * a) && leb a 65535) ≡ (eqb w (6 + 16 * biased (unbiased a)) && between leastNumber greatestNumber (unbiased a)) = rw (biased-unbiased a, number-span a) in
-      full (leb a 65535) e ∙ n ∙ coded-by e
+-- `in_range`
+module _ (n : Node) where
+  pub range-all : (k : ℕ) → n ≡ All k → leb k 512 ≡ inRange (meant n)
+  unfolding meant inRange
+  range-all k h = rw h
 
-  pub coded-named : 6 ≤ kind → (kind ≡ 6 → ⊥) → kind < 9 → leb a lastVariable ≡ isCoded w
-  unfolding code inRange kinds
-  coded-named l n h = ⊎-elim (λ e. full (leb a lastVariable) e ∙ coded-by e) (λ e. full (leb a lastVariable) e ∙ coded-by e) (either-of 7 kind (omega arith) h)
+  pub range-any : (k : ℕ) → n ≡ Any k → leb k 512 ≡ inRange (meant n)
+  unfolding meant inRange
+  range-any k h = rw h
 
-  pub coded-step : 9 ≤ kind → kind < 13 → eqb a 0 ≡ isCoded w
-  unfolding code inRange kinds
-  coded-step l h =
-      ⊎-elim (⊎-elim (λ e. bare e ∙ coded-by e) (λ e. bare e ∙ coded-by e))
-      (⊎-elim (λ e. bare e ∙ coded-by e) (λ e. bare e ∙ coded-by e)) (four-of 9 kind l h)
+  pub range-number : (k : ℕ) → n ≡ Number k → leb k 65535 ≡ inRange (meant n)
+  unfolding meant inRange
+  range-number k h = rw h (number-span k)
 
-  pub coded-stray : 13 ≤ kind → false ≡ isCoded w
-  unfolding isCoded code inRange kinds
-  coded-stray l = sym (kind-from (λ x. (eqb w (code x) && inRange x) ≡ false) w 13 (and-false (eqb w 15)) l)
+  pub range-old : (k : ℕ) → n ≡ Old k → leb k 47 ≡ inRange (meant n)
+  unfolding meant inRange
+  range-old k h = rw h
+
+  pub range-new : (k : ℕ) → n ≡ New k → leb k 47 ≡ inRange (meant n)
+  unfolding meant inRange
+  range-new k h = rw h
+
+  pub range-stray : n ≡ Stray → false ≡ inRange (meant n)
+  unfolding meant inRange
+  range-stray h = rw h
+
+  pub range-bare : Other with-bounds n → true ≡ inRange (meant n)
+  unfolding meant inRange
+  range-bare o =
+      by-others (λ (m : Node). true ≡ inRange (meant m)) with-bounds n o
+      (tt, tt, refl, refl, refl, refl, tt, tt, tt, refl, refl, refl, refl, tt)
+
+pub ruleset range-laws = (range-all, range-any, range-number, range-old, range-new, range-stray, range-bare)
 
 -- what the scans say of a row of words
 pub some-outside : (n : ℕ) (l : List ℕ) → exists (fails (Test.Outside n)) l ≡ namesOutside n (map wordOf l)

@@ -12,6 +12,7 @@ use lib.ListN.{length, getD, take, drop, take-append-drop, drop-of-length-le}
 use lib.Seq.{drop-cons, drop-drop}
 use Rattle.model.specs.Predicate.{Word}
 use Rattle.model.specs.Table.{wordOf}
+use Rattle.node_words.proofs.NodeLaws.{meant-of}
 use Rattle.table_predicate.specs.Walk.{sound, declaredOf, predicateBy, expressionBy, predicateAt, expressionAt}
 use Rattle.table_predicate.proofs.Steps.{enter-next}
 
@@ -70,8 +71,8 @@ module _ (ws : List ℕ) where
   module _ (ranges : List ℕ) (n : ℕ) {at : ℕ} {x : Word} {l : List Word} (deep leaves : Bool) (f : First ws at x l) where
     pub next-p : predicateAt ws ranges (suc n) (sound deep leaves at) ≡ predicateBy (predicateAt ws ranges n) (expressionAt ws ranges n) x (sound deep leaves (at + 1))
     unfolding predicateAt expressionAt
-    next-p = rw (← enter-next ws (sound deep leaves at) refl (f .below), f .word)
+    next-p = rw (← enter-next ws (sound deep leaves at) refl (f .below), meant-of (getD ws at 0), f .word)
 
     pub next-e : expressionAt ws ranges (suc n) (sound deep leaves at) ≡ expressionBy (predicateAt ws ranges n) (expressionAt ws ranges n) (declaredOf ranges) x (sound deep leaves (at + 1))
     unfolding predicateAt expressionAt
-    next-e = rw (← enter-next ws (sound deep leaves at) refl (f .below), f .word)
+    next-e = rw (← enter-next ws (sound deep leaves at) refl (f .below), meant-of (getD ws at 0), f .word)

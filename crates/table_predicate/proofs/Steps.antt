@@ -2,22 +2,22 @@
 use mathlib.Core.Path.{_≡_, refl, sym, _∙_}
 use mathlib.Core.Bool.{Bool, true, false, true≢false}
 use mathlib.Core.List.{List, [], _∷_}
-use Prim.Native.Nat.{ℕ, zero, suc, _+_, _-_, _*_, _%_, _/_, _<_, _≤_}
+use Prim.Native.Nat.{ℕ, zero, suc, _+_, _-_, _*_, _/_, _<_, _≤_}
 use native.Mathlib.Numerals.{sub-one}
 use native.Mathlib.Omega.{arith}
-use borrow.Author.Tests.{lt-ltb, le-ltb, ltb-true, ltb-false}
+use borrow.Author.Tests.{lt-ltb, le-ltb}
 use lib.IntN.{pos}
 use lib.ListN.{length, getD}
-use lib.Dec.{ltb}
-use mathlib.Core.Logic.{⊎-elim}
-use Rattle.model.specs.Predicate.{Range, range, hull, times, stray}
-use Rattle.model.specs.Table.{kinds, wordOf, unbiased}
+use Rattle.model.specs.Predicate.{Range, range, hull, times}
+use Rattle.model.specs.Table.{unbiased}
+use Rattle.node_words.specs.declared.Node.{Node}
+use Rattle.node_words.specs.declared.Node.the-variants.{All, Any, Not, Imp, Eq, Le, Number, Old, New, Add, Sub, Mul, If, Stray}
+use Rattle.node_words.specs.Nodes.{meant, nodeOf}
+use Rattle.node_words.proofs.NodeLaws.{Other, by-others, begin-predicates, begin-expressions}
 use Rattle.table_predicate.specs.declared.Walked.{Walked}
-use Rattle.table_predicate.specs.declared.Node.{Node}
+use Rattle.table_predicate.specs.declared.Entered.{Entered}
 use Rattle.table_predicate.specs.declared.Reach.{Reach}
-use Rattle.table_predicate.specs.Walk.{declaredOf, deeper, unsound, entered, unreached, reached, plus, minus, couple, joined, gather, predicateBy, expressionBy, predicateAt, expressionAt}
-use Rattle.model.proofs.WordKinds.{word-of, kind-from, kind-below}
-use Rattle.table_predicate.proofs.Words.{either-of}
+use Rattle.table_predicate.specs.Walk.{declaredOf, deeper, unsound, entered, unreached, reached, ends, plus, minus, couple, joined, gather, predicateBy, expressionBy, predicateAt, expressionAt}
 
 abbrev with-sound : Bool → Walked → Walked
 with-sound s w = record { sound = s; deep = w .deep; leaves = w .leaves; next = w .next }
@@ -38,27 +38,27 @@ module _ (w : Walked) where
 
 -- the next node
 module _ (words : List ℕ) (w : Walked) where
-  pub enter-ended : w .sound ≡ false → record { walk = w; word = 15 } ≡ entered words w
+  pub enter-ended : w .sound ≡ false → record { walk = w; node = Stray } ≡ entered words w
   unfolding entered
   enter-ended h = go (w .sound) h
     where
-      go : (s : Bool) → s ≡ false → record { walk = with-sound s w; word = 15 } ≡ entered words (with-sound s w)
+      go : (s : Bool) → s ≡ false → record { walk = with-sound s w; node = Stray } ≡ entered words (with-sound s w)
       go true e = absurd (true≢false e)
       go false e = refl
 
-  pub enter-none : length words ≤ w .next → record { walk = w; word = 15 } ≡ entered words w
+  pub enter-none : length words ≤ w .next → record { walk = w; node = Stray } ≡ entered words w
   unfolding entered
   enter-none l = go (w .sound)
     where
-      go : (s : Bool) → record { walk = with-sound s w; word = 15 } ≡ entered words (with-sound s w)
+      go : (s : Bool) → record { walk = with-sound s w; node = Stray } ≡ entered words (with-sound s w)
       go true = rw (le-ltb (w .next) (length words) l, entered)
       go false = refl
 
-  pub enter-next : w .sound ≡ true → w .next < length words → record { walk = record { sound = w .sound; deep = w .deep; leaves = w .leaves; next = w .next + 1 }; word = getD words (w .next) 0 } ≡ entered words w
+  pub enter-next : w .sound ≡ true → w .next < length words → record { walk = record { sound = w .sound; deep = w .deep; leaves = w .leaves; next = w .next + 1 }; node = nodeOf (getD words (w .next) 0) } ≡ entered words w
   unfolding entered
   enter-next h l = go (w .sound) h
     where
-      go : (s : Bool) → s ≡ true → record { walk = record { sound = s; deep = w .deep; leaves = w .leaves; next = w .next + 1 }; word = getD words (w .next) 0 } ≡ entered words (with-sound s w)
+      go : (s : Bool) → s ≡ true → record { walk = record { sound = s; deep = w .deep; leaves = w .leaves; next = w .next + 1 }; node = nodeOf (getD words (w .next) 0) } ≡ entered words (with-sound s w)
       go true e = rw (lt-ltb (w .next) (length words) l, entered)
       go false e = absurd (true≢false (sym e))
 
@@ -80,9 +80,9 @@ range-none (a ∷ []) k d h = refl
 range-none (a ∷ b ∷ ws) zero d h = absurd (omega arith)
 range-none (a ∷ b ∷ ws) (suc k) d h = range-none ws k d (omega arith)
 
--- not the least, so past it
-past : {k : ℕ} (n : ℕ) → n ≤ k → (k ≡ n → ⊥) → n + 1 ≤ k
-past n h ne = omega arith
+-- all nodes but `eq` and `le`
+abbrev uncompared : List Node
+uncompared = All 0 ∷ Any 0 ∷ Not ∷ Imp ∷ Number 0 ∷ Old 0 ∷ New 0 ∷ Add ∷ Sub ∷ Mul ∷ If ∷ Stray ∷ []
 
 -- one operand more
 pub gather-more : (P : Walked → Walked) (n : ℕ) (w : Walked) → (n ≡ 0 → ⊥) → gather P n w ≡ gather P (n - 1) (P w)
@@ -98,13 +98,13 @@ module _ (words ranges : List ℕ) where
   E = expressionAt words ranges
 
   -- no depth is left
-  pub limit-p : (left : ℕ) (w : Walked) → left ≡ 0 → deeper w ≡ P left w
+  pub limit-p : (left : ℕ) (w r : Walked) → left ≡ 0 → r ≡ deeper w → r ≡ P left w
   unfolding predicateAt expressionAt
-  limit-p left w z = rw z
+  limit-p left w r z e = rw z e
 
-  pub limit-e : (left : ℕ) (w : Walked) → left ≡ 0 → unreached (deeper w) ≡ E left w
+  pub limit-e : (left : ℕ) (w v : Walked) (r : Reach) → left ≡ 0 → v ≡ deeper w → r ≡ unreached v → r ≡ E left w
   unfolding predicateAt expressionAt
-  limit-e left w z = rw z
+  limit-e left w v r z f e = rw (z, ← f) e
 
   -- a walk that has ended stays as it is
   ended : (w : Walked) → w .sound ≡ false → unsound w ≡ w
@@ -116,12 +116,12 @@ module _ (words ranges : List ℕ) where
       go false e = refl
 
   pub ended-p : (n : ℕ) (w : Walked) → w .sound ≡ false → P n w ≡ w
-  unfolding predicateAt expressionAt wordOf kinds predicateBy
+  unfolding predicateAt expressionAt meant predicateBy
   ended-p zero w h = sym (deeper-ended w h)
   ended-p (suc n) w h = rw (← enter-ended words w h) (ended w h)
 
   pub ended-e : (n : ℕ) (w : Walked) → w .sound ≡ false → E n w .walk ≡ w
-  unfolding predicateAt expressionAt wordOf kinds expressionBy unreached
+  unfolding predicateAt expressionAt meant expressionBy unreached
   ended-e zero w h = sym (deeper-ended w h)
   ended-e (suc n) w h = rw (← enter-ended words w h) (ended w h)
 
@@ -131,15 +131,9 @@ module _ (words ranges : List ℕ) where
   gather-ended left (suc n) w h = rw (ended-p left w h) (gather-ended left n w h)
 
   -- the next node
-  module _ {left : ℕ} (w : Walked) {node : Node} (z : left ≡ 0 → ⊥) (here : node ≡ entered words w) where
+  module _ (left : ℕ) (w : Walked) (z : left ≡ 0 → ⊥) (e : Entered) (here : e ≡ entered words w) where
     abbrev inner : Walked
-    inner = node .walk
-
-    abbrev word : ℕ
-    word = node .word
-
-    abbrev argument : ℕ
-    argument = word / 16
+    inner = e .walk
 
     abbrev P₁ : Walked → Walked
     P₁ = P (left - 1)
@@ -147,85 +141,100 @@ module _ (words ranges : List ℕ) where
     abbrev E₁ : Walked → Reach
     E₁ = E (left - 1)
 
-    -- by its word
-    by-word-p : P left w ≡ predicateBy P₁ E₁ (wordOf word) inner
+    -- by the node, one of a predicate's or of an expression's
+    by-node-p : (m : Node) → e .node ≡ m → P left w ≡ predicateBy P₁ E₁ (meant m) inner
     unfolding predicateAt expressionAt
-    by-word-p = rw here (go left z)
+    by-node-p m f = rw (← f, here) (go left z)
       where
-        go : (n : ℕ) → (n ≡ 0 → ⊥) → P n w ≡ predicateBy (P (n - 1)) (E (n - 1)) (wordOf (entered words w .word)) (entered words w .walk)
+        go : (n : ℕ) → (n ≡ 0 → ⊥) → P n w ≡ predicateBy (P (n - 1)) (E (n - 1)) (meant (entered words w .node)) (entered words w .walk)
         go zero y = absurd (y refl)
         go (suc n) y = rw (sub-one (suc n))
 
-    by-word-e : E left w ≡ expressionBy P₁ E₁ (declaredOf ranges) (wordOf word) inner
+    by-node-e : (m : Node) → e .node ≡ m → E left w ≡ expressionBy P₁ E₁ (declaredOf ranges) (meant m) inner
     unfolding predicateAt expressionAt
-    by-word-e = rw here (go left z)
+    by-node-e m f = rw (← f, here) (go left z)
       where
-        go : (n : ℕ) → (n ≡ 0 → ⊥) → E n w ≡ expressionBy (P (n - 1)) (E (n - 1)) (declaredOf ranges) (wordOf (entered words w .word)) (entered words w .walk)
+        go : (n : ℕ) → (n ≡ 0 → ⊥) → E n w ≡ expressionBy (P (n - 1)) (E (n - 1)) (declaredOf ranges) (meant (entered words w .node)) (entered words w .walk)
         go zero y = absurd (y refl)
         go (suc n) y = rw (sub-one (suc n))
 
-    -- by its kind, one of a predicate's or of an expression's
-    by-kind-p : {kind : ℕ} → word % 16 ≡ kind → P left w ≡ predicateBy P₁ E₁ (getD (kinds argument) kind stray) inner
-    by-kind-p e = by-word-p ∙ rw (word-of word _ e)
+    module _ (r : Walked) where
+      pub all-p : (k : ℕ) → e .node ≡ All k → (i : ℕ) → i ≡ k → r ≡ gather P₁ i inner → r ≡ P left w
+      unfolding predicateBy meant
+      all-p k h i hi hr = rw (by-node-p (All k) h, ← hi) hr
 
-    by-kind-e : {kind : ℕ} → word % 16 ≡ kind → E left w ≡ expressionBy P₁ E₁ (declaredOf ranges) (getD (kinds argument) kind stray) inner
-    by-kind-e e = by-word-e ∙ rw (word-of word _ e)
+      pub any-p : (k : ℕ) → e .node ≡ Any k → (i : ℕ) → i ≡ k → r ≡ gather P₁ i inner → r ≡ P left w
+      unfolding predicateBy meant
+      any-p k h i hi hr = rw (by-node-p (Any k) h, ← hi) hr
 
-    pub row-p : word % 16 < 2 → P left w ≡ gather P₁ argument inner
-    unfolding predicateBy kinds
-    row-p h = ⊎-elim (λ e. by-kind-p e) (λ e. by-kind-p e) (either-of 0 (word % 16) (omega arith) h)
+      pub not-p : e .node ≡ Not → r ≡ P₁ inner → r ≡ P left w
+      unfolding predicateBy meant
+      not-p h hr = rw (by-node-p Not h) hr
 
-    pub not-p : word % 16 ≡ 2 → P left w ≡ P₁ inner
-    unfolding predicateBy kinds
-    not-p e = by-kind-p e
+      pub imp-p : e .node ≡ Imp → (p : Walked) → p ≡ P₁ inner → r ≡ P₁ p → r ≡ P left w
+      unfolding predicateBy meant
+      imp-p h p hp hr = rw (by-node-p Imp h, ← hp) hr
 
-    pub imp-p : word % 16 ≡ 3 → P left w ≡ P₁ (P₁ inner)
-    unfolding predicateBy kinds
-    imp-p e = by-kind-p e
+      pub other-p : Other begin-predicates (e .node) → r ≡ unsound inner → r ≡ P left w
+      unfolding predicateBy meant
+      other-p o hr =
+          let same : (k : ℕ) → unsound inner ≡ unsound inner = λ k. refl in
+          rw (by-node-p (e .node) refl)
+          (hr ∙ by-others (λ (m : Node). unsound inner ≡ predicateBy P₁ E₁ (meant m) inner) begin-predicates (e .node) o
+          (tt, tt, tt, tt, tt, tt, same, same, same, refl, refl, refl, refl, refl))
 
-    pub pair-p : 2 ≤ word % 16 → (word % 16 ≡ 2 → ⊥) → (word % 16 ≡ 3 → ⊥) → word % 16 < 6 → P left w ≡ couple E₁ inner
-    unfolding predicateBy kinds
-    pair-p l a b h = ⊎-elim (λ e. by-kind-p e) (λ e. by-kind-p e) (either-of 4 (word % 16) (omega arith) h)
+    pub pair-p : Other uncompared (e .node) → (x y : Reach) → x ≡ E₁ inner → y ≡ E₁ (x .walk) → y .walk ≡ P left w
+    unfolding predicateBy meant
+    pair-p o x y hx hy =
+        let two : couple E₁ inner ≡ P left w =
+        rw (by-node-p (e .node) refl)
+        (by-others (λ (m : Node). couple E₁ inner ≡ predicateBy P₁ E₁ (meant m) inner) uncompared (e .node) o
+        (tt, tt, tt, tt, refl, refl, tt, tt, tt, tt, tt, tt, tt, tt)) in
+        rw (hy, hx) two
 
-    pub other-p : 6 ≤ word % 16 → P left w ≡ unsound inner
-    unfolding predicateBy kinds
-    other-p l =
-        by-word-p ∙ kind-from (λ x. predicateBy P₁ E₁ x inner ≡ unsound inner) word 6 (refl, (refl, (refl, (refl, (refl, (refl, (refl, refl))))))) l
+    module _ (r : Reach) where
+      pub number-e : (k : ℕ) → e .node ≡ Number k → r ≡ reached inner (range (unbiased k) (unbiased k)) → r ≡ E left w
+      unfolding expressionBy meant
+      number-e k h hr = rw (by-node-e (Number k) h) hr
 
-    pub number-e : word % 16 ≡ 6 → E left w ≡ reached inner (range (unbiased argument) (unbiased argument))
-    unfolding expressionBy kinds
-    number-e e = by-kind-e e
+      pub old-e : (k : ℕ) → e .node ≡ Old k → (i : ℕ) → i ≡ k → r ≡ reached inner (getD (declaredOf ranges) i (range (pos 0) (pos 0))) → r ≡ E left w
+      unfolding expressionBy meant
+      old-e k h i hi hr = rw (by-node-e (Old k) h, ← hi) hr
 
-    pub old-e : word % 16 ≡ 7 → E left w ≡ reached inner (getD (declaredOf ranges) argument (range (pos 0) (pos 0)))
-    unfolding expressionBy kinds
-    old-e e = by-kind-e e
+      pub new-e : (k : ℕ) → e .node ≡ New k → (i : ℕ) → i ≡ k → r ≡ reached inner (getD (declaredOf ranges) i (range (pos 0) (pos 0))) → r ≡ E left w
+      unfolding expressionBy meant
+      new-e k h i hi hr = rw (by-node-e (New k) h, ← hi) hr
 
-    pub new-e : word % 16 ≡ 8 → E left w ≡ reached inner (getD (declaredOf ranges) argument (range (pos 0) (pos 0)))
-    unfolding expressionBy kinds
-    new-e e = by-kind-e e
+      module _ (x y : Reach) where
+        joined-by : (f : Range → Range → Range) (v : Walked) → x ≡ E₁ v → y ≡ E₁ (x .walk) → r ≡ reached (y .walk) (f (ends x) (ends y)) → r ≡ joined E₁ f v
+        joined-by f v hx hy hr = rw (hy, hx) at hr
 
-    pub sum-e : word % 16 ≡ 9 → E left w ≡ joined E₁ plus inner
-    unfolding expressionBy kinds
-    sum-e e = by-kind-e e
+        pub sum-e : e .node ≡ Add → x ≡ E₁ inner → y ≡ E₁ (x .walk) → r ≡ reached (y .walk) (plus (ends x) (ends y)) → r ≡ E left w
+        unfolding expressionBy meant
+        sum-e h hx hy hr = rw (by-node-e Add h) (joined-by plus inner hx hy hr)
 
-    pub difference-e : word % 16 ≡ 10 → E left w ≡ joined E₁ minus inner
-    unfolding expressionBy kinds
-    difference-e e = by-kind-e e
+        pub difference-e : e .node ≡ Sub → x ≡ E₁ inner → y ≡ E₁ (x .walk) → r ≡ reached (y .walk) (minus (ends x) (ends y)) → r ≡ E left w
+        unfolding expressionBy meant
+        difference-e h hx hy hr = rw (by-node-e Sub h) (joined-by minus inner hx hy hr)
 
-    pub product-e : word % 16 ≡ 11 → E left w ≡ joined E₁ times inner
-    unfolding expressionBy kinds
-    product-e e = by-kind-e e
+        pub product-e : e .node ≡ Mul → x ≡ E₁ inner → y ≡ E₁ (x .walk) → r ≡ reached (y .walk) (times (ends x) (ends y)) → r ≡ E left w
+        unfolding expressionBy meant
+        product-e h hx hy hr = rw (by-node-e Mul h) (joined-by times inner hx hy hr)
 
-    pub either-e : word % 16 ≡ 12 → E left w ≡ joined E₁ hull (P₁ inner)
-    unfolding expressionBy kinds
-    either-e e = by-kind-e e
+        pub either-e : e .node ≡ If → (p : Walked) → p ≡ P₁ inner → x ≡ E₁ p → y ≡ E₁ (x .walk) → r ≡ reached (y .walk) (hull (ends x) (ends y)) → r ≡ E left w
+        unfolding expressionBy meant
+        either-e h p hp hx hy hr = rw (by-node-e If h, ← hp) (joined-by hull p hx hy hr)
 
-    pub other-e : (word % 16 ≡ 6 → ⊥) → (word % 16 ≡ 7 → ⊥) → (word % 16 ≡ 8 → ⊥) → (word % 16 ≡ 9 → ⊥) → (word % 16 ≡ 10 → ⊥) → (word % 16 ≡ 11 → ⊥) → (word % 16 ≡ 12 → ⊥) → E left w ≡ unreached (unsound inner)
-    unfolding expressionBy kinds
-    other-e a b c d e f g = by-word-e ∙ go (ltb (word % 16) 6) refl
-      where
-        go : (t : Bool) → ltb (word % 16) 6 ≡ t → expressionBy P₁ E₁ (declaredOf ranges) (wordOf word) inner ≡ unreached (unsound inner)
-        go true h = kind-below (λ x. expressionBy P₁ E₁ (declaredOf ranges) x inner ≡ unreached (unsound inner)) word 6 (refl, (refl, (refl, (refl, (refl, (refl, refl)))))) (ltb-true (word % 16) 6 h)
-        go false h =
-            kind-from (λ x. expressionBy P₁ E₁ (declaredOf ranges) x inner ≡ unreached (unsound inner)) word 13 refl
-            (past 12 (past 11 (past 10 (past 9 (past 8 (past 7 (past 6 (ltb-false (word % 16) 6 h) a) b) c) d) e) f) g)
+      pub other-e : Other begin-expressions (e .node) → (v : Walked) → v ≡ unsound inner → r ≡ unreached v → r ≡ E left w
+      unfolding expressionBy meant
+      other-e o v hv hr =
+          let said : Reach = unreached (unsound inner) in
+          let same : (k : ℕ) → said ≡ said = λ k. refl in
+          let none : r ≡ said = rw (← hv) hr in
+          rw (by-node-e (e .node) refl)
+          (none ∙ by-others (λ (m : Node). said ≡ expressionBy P₁ E₁ (declaredOf ranges) (meant m) inner) begin-expressions (e .node) o
+          (same, same, refl, refl, refl, refl, tt, tt, tt, tt, tt, tt, tt, refl))
+
+pub ruleset predicate-laws = (limit-p, all-p, any-p, not-p, imp-p, pair-p, other-p)
+
+pub ruleset expression-laws = (limit-e, number-e, old-e, new-e, sum-e, difference-e, product-e, either-e, other-e)

@@ -8,10 +8,12 @@ use lib.ListN.{length, getD}
 use lib.Dec.{ltb}
 use Rattle.model.specs.Bounds.{leastValue, greatestValue, maxDepth}
 use Rattle.model.specs.Predicate.{Word, Range, range, hull, times, allOf, anyOf, notWord, impWord, eqWord, leWord, numWord, oldWord, newWord, addWord, subWord, mulWord, ifWord, stray}
-use Rattle.model.specs.Table.{unbiased, wordOf}
+use Rattle.model.specs.Table.{unbiased}
+use Rattle.node_words.specs.declared.Node.the-variants.{Stray}
+use Rattle.node_words.specs.Nodes.{meant, nodeOf}
 use Rattle.arithmetic.specs.Cut.{cut}
 use Rattle.table_predicate.specs.declared.Walked.{Walked}
-use Rattle.table_predicate.specs.declared.Node.{Node}
+use Rattle.table_predicate.specs.declared.Entered.{Entered}
 use Rattle.table_predicate.specs.declared.Reach.{Reach}
 
 -- the ranges that table words say, two words each
@@ -31,14 +33,14 @@ deeper w = elim (w .sound) [ true ↦ record { sound = false; deep = true; leave
 unfoldable pub unsound : Walked → Walked
 unsound w = record { sound = false; deep = w .deep; leaves = w .leaves; next = w .next }
 
--- on to the next node; 15 is the code of `stray`
-unfoldable pub entered : List ℕ → Walked → Node
+-- on to the next node
+unfoldable pub entered : List ℕ → Walked → Entered
 entered words w =
     elim (w .sound) [
-      | false ↦ record { walk = w; word = 15 }
+      | false ↦ record { walk = w; node = Stray }
       | true ↦ elim (ltb (w .next) (length words)) [
-        | false ↦ record { walk = w; word = 15 }
-        | true ↦ record { walk = record { sound = w .sound; deep = w .deep; leaves = w .leaves; next = w .next + 1 }; word = getD words (w .next) 0 }
+        | false ↦ record { walk = w; node = Stray }
+        | true ↦ record { walk = record { sound = w .sound; deep = w .deep; leaves = w .leaves; next = w .next + 1 }; node = nodeOf (getD words (w .next) 0) }
       ]
     ]
 
@@ -119,12 +121,12 @@ module _ (words ranges : List ℕ) where
     pub predicateAt : (left : ℕ) → Walked → Walked
     predicateAt zero w = deeper w
     predicateAt (suc n) w =
-        predicateBy (λ v. predicateAt n v) (λ v. expressionAt n v) (wordOf (entered words w .word)) (entered words w .walk)
+        predicateBy (λ v. predicateAt n v) (λ v. expressionAt n v) (meant (entered words w .node)) (entered words w .walk)
 
     pub expressionAt : (left : ℕ) → Walked → Reach
     expressionAt zero w = unreached (deeper w)
     expressionAt (suc n) w =
-        expressionBy (λ v. predicateAt n v) (λ v. expressionAt n v) (declaredOf ranges) (wordOf (entered words w .word)) (entered words w .walk)
+        expressionBy (λ v. predicateAt n v) (λ v. expressionAt n v) (declaredOf ranges) (meant (entered words w .node)) (entered words w .walk)
 
   -- from a place on
   unfoldable pub walkAt : (at : ℕ) → Walked

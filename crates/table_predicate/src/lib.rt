@@ -1,5 +1,6 @@
-// The node words of one predicate: one word a node, kind + 16 * argument, in prefix order. The walk says whether a predicate
-// stands there, and where rows 9 and 10 are broken; the scans (scan.rt) are for rows 3, 7 and 8. All are total on any words.
+// The node words of one predicate: one word a node, in prefix order. The walk says whether a predicate stands there, and
+// where rows 9 and 10 are broken; the scans (scan.rt) are for rows 3, 7 and 8. All are total on any words.
+use node_words::Node;
 ghost use mathlib.Core.Path.{_≡_};
 ghost use lib.IntN.{pos};
 ghost use lib.ListN.{getD};
@@ -21,10 +22,10 @@ pub struct Walked {
     pub next: usize,
 }
 
-// A walk that has entered a node, and the node's word.
-pub struct Node {
+// A walk that has entered a node, and the node.
+pub struct Entered {
     pub walk: Walked,
-    pub word: u32,
+    pub node: Node,
 }
 
 // A walk that is past an expression, and the expression's interval, cut to the span.
@@ -33,9 +34,6 @@ pub struct Reach {
     pub low: i32,
     pub high: i32,
 }
-
-// No predicate and no expression begins with this word.
-const STRAY: u32 = 15;
 
 // No depth is left for the next node.
 fn deeper(walk: Walked) -> Walked
@@ -65,15 +63,21 @@ fn unsound(walk: Walked) -> Walked
 }
 
 // On to the node that comes next. A walk that has ended, or that has no words left, finds a stray.
-fn enter(words: &[u32], walk: Walked) -> Node
+fn enter(words: &[u32], walk: Walked) -> Entered
     ensures { λ r. ⌜ r ≡ entered (now (words .entry)) walk ⌝ }
 {
     let at = walk.next;
     if !walk.sound {
-        return Node { walk, word: STRAY };
+        return Entered {
+            walk,
+            node: Node::Stray,
+        };
     }
     if words.len() <= at {
-        return Node { walk, word: STRAY };
+        return Entered {
+            walk,
+            node: Node::Stray,
+        };
     }
     let inner = Walked {
         sound: walk.sound,
@@ -81,9 +85,9 @@ fn enter(words: &[u32], walk: Walked) -> Node
         leaves: walk.leaves,
         next: at + 1,
     };
-    Node {
+    Entered {
         walk: inner,
-        word: words[at],
+        node: node_words::node_of(words[at]),
     }
 }
 
@@ -184,19 +188,19 @@ fn predicate(words: &[u32], walk: Walked, left: usize, ranges: &[u32]) -> Walked
     if left == 0 {
         return deeper(walk);
     }
-    let node = enter(words, walk);
-    let inner = node.walk;
+    let entered = enter(words, walk);
+    let inner = entered.walk;
     let below = left - 1;
-    let w = node.word;
-    let kind = w % 16;
-    match kind {
-        0 | 1 => operands(words, inner, arithmetic::index(w / 16), below, ranges),
-        2 => predicate(words, inner, below, ranges),
-        3 => {
+    let node = entered.node;
+    match node {
+        Node::All(k) => operands(words, inner, arithmetic::index(k), below, ranges),
+        Node::Any(k) => operands(words, inner, arithmetic::index(k), below, ranges),
+        Node::Not => predicate(words, inner, below, ranges),
+        Node::Imp => {
             let p = predicate(words, inner, below, ranges);
             predicate(words, p, below, ranges)
         }
-        4 | 5 => {
+        Node::Eq | Node::Le => {
             let x = expression(words, inner, below, ranges);
             let y = expression(words, x.walk, below, ranges);
             y.walk
@@ -228,31 +232,30 @@ fn expression(words: &[u32], walk: Walked, left: usize, ranges: &[u32]) -> Reach
     if left == 0 {
         return unreached(deeper(walk));
     }
-    let node = enter(words, walk);
-    let inner = node.walk;
+    let entered = enter(words, walk);
+    let inner = entered.walk;
     let below = left - 1;
-    let w = node.word;
-    let kind = w % 16;
-    match kind {
-        6 => number(inner, w / 16),
-        7 => variable(inner, ranges, arithmetic::index(w / 16)),
-        8 => variable(inner, ranges, arithmetic::index(w / 16)),
-        9 => {
+    let node = entered.node;
+    match node {
+        Node::Number(n) => number(inner, n),
+        Node::Old(k) => variable(inner, ranges, arithmetic::index(k)),
+        Node::New(k) => variable(inner, ranges, arithmetic::index(k)),
+        Node::Add => {
             let x = expression(words, inner, below, ranges);
             let y = expression(words, x.walk, below, ranges);
             sum(x, y)
         }
-        10 => {
+        Node::Sub => {
             let x = expression(words, inner, below, ranges);
             let y = expression(words, x.walk, below, ranges);
             difference(x, y)
         }
-        11 => {
+        Node::Mul => {
             let x = expression(words, inner, below, ranges);
             let y = expression(words, x.walk, below, ranges);
             product(x, y)
         }
-        12 => {
+        Node::If => {
             let p = predicate(words, inner, below, ranges);
             let x = expression(words, p, below, ranges);
             let y = expression(words, x.walk, below, ranges);

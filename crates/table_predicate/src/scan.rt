@@ -1,11 +1,14 @@
 // Tests of a predicate's words one by one: of `count` words from `at` on, those that are there.
 use model::Model;
+use node_words::Node;
 ghost use mathlib.Core.Path.{_≡_};
 ghost use mathlib.Core.List.{map};
 ghost use lib.ListN.{take, drop};
 ghost use Rattle.model.specs.Basic.{every, exists};
 ghost use Rattle.model.specs.Predicate.{named, isOutside, isNew, namesOutside, namesNew};
+ghost use Rattle.model.specs.Limits.{inRange};
 ghost use Rattle.model.specs.Table.{wordOf};
+ghost use Rattle.node_words.specs.Nodes.{meant};
 ghost use Rattle.table_predicate.specs.Scan.{isCoded, fails};
 
 // What a word can fail by.
@@ -21,10 +24,10 @@ pub enum Test {
 fn outside(word: u32, variables: usize) -> bool
     ensures { λ r. ⌜ r ≡ isOutside variables (named (wordOf word)) ⌝ }
 {
-    let k = arithmetic::index(word / 16);
-    match word % 16 {
-        7 => variables <= k,
-        8 => variables <= k,
+    let node = node_words::node_of(word);
+    match node {
+        Node::Old(k) => variables <= arithmetic::index(k),
+        Node::New(k) => variables <= arithmetic::index(k),
         _ => false,
     }
 }
@@ -32,21 +35,33 @@ fn outside(word: u32, variables: usize) -> bool
 fn new_value(word: u32) -> bool
     ensures { λ r. ⌜ r ≡ isNew (named (wordOf word)) ⌝ }
 {
-    word % 16 == 8
+    let node = node_words::node_of(word);
+    match node {
+        Node::New(_) => true,
+        _ => false,
+    }
 }
 
+fn in_range(node: Node) -> bool
+    ensures { λ r. ⌜ r ≡ inRange (meant node) ⌝ }
+{
+    match node {
+        Node::All(k) => k <= Model::OPERANDS,
+        Node::Any(k) => k <= Model::OPERANDS,
+        Node::Number(n) => n <= Model::LAST_NUMBER,
+        Node::Old(k) => k <= Model::LAST_VARIABLE,
+        Node::New(k) => k <= Model::LAST_VARIABLE,
+        Node::Stray => false,
+        _ => true,
+    }
+}
+
+// Is the word just the one that its node is written as, and the node in range?
 fn coded(word: u32) -> bool
     ensures { λ r. ⌜ r ≡ isCoded word ⌝ }
 {
-    let argument = word / 16;
-    match word % 16 {
-        0 | 1 => argument <= model::Model::OPERANDS,
-        2 | 3 | 4 | 5 => argument == 0,
-        6 => argument <= Model::LAST_NUMBER,
-        7 | 8 => argument <= Model::LAST_VARIABLE,
-        9 | 10 | 11 | 12 => argument == 0,
-        _ => false,
-    }
+    let node = node_words::node_of(word);
+    (word == node_words::word_of(node)) & in_range(node)
 }
 
 fn fails(test: Test, word: u32) -> bool

@@ -46,7 +46,8 @@ unfolding
     Limits.listsFilled Limits.isDisordered Limits.isTooLarge Limits.passesEdges Limits.broken Limits.predFault
     Limits.locationFault Limits.contentFault Limits.faultOf Limits.withinLimits Limits.limits
     Lawful.locationNodes Lawful.automatonNodes Lawful.nodeTotal
-    Table.biased Table.lowBits Table.highBits Table.setWords Table.code Table.predWords Table.nodeWords Table.lineWords
+    Table.biased Table.lowBits Table.highBits Table.setWords Table.nodeWord Table.kindOf Table.argumentOf Table.code
+    Table.predWords Table.nodeWords Table.lineWords
     Table.sheetWords Table.tableOf Table.unbiased Table.bit Table.setOf Table.kinds Table.wordOf Table.split
     Table.splitNumber Table.splitPair Table.splitPred Table.edgeTo Table.splitEdge Table.andNode Table.splitNodes
     Table.splitTree Table.splitEntry Table.decode Table.isTableOf Table.modelOf Table.row18 Table.row19 Table.openTable

@@ -1,5 +1,5 @@
 -- Each way out of the code of src/words.rt.
-use Prim.Native.Nat.{ℕ, zero, suc, _+_, _-_, _%_, _/_, _≤_, _<_}
+use Prim.Native.Nat.{ℕ, zero, suc, _+_, _-_, _≤_, _<_}
 use mathlib.Core.Path.{_≡_, refl, sym, ap}
 use mathlib.Core.List.{List, [], _∷_, _++_, map, append-nil}
 use native.Mathlib.Numerals.{add-one}
@@ -9,85 +9,72 @@ use lib.Dec.{eqb}
 use Rattle.format.specs.Bytes.{Bytes, ledBy, joined, space}
 use Rattle.format.specs.Number.{decimal, signed}
 use Rattle.format.specs.Spelling.{spelled}
-use Rattle.model.specs.Predicate.{stray}
-use Rattle.model.specs.Table.{unbiased, kinds, wordOf}
+use Rattle.model.specs.Table.{unbiased, wordOf}
+use Rattle.node_words.specs.declared.Node.{Node}
+use Rattle.node_words.specs.declared.Node.the-variants.{All, Any, Not, Imp, Eq, Le, Number, Old, New, Add, Sub, Mul, If, Stray}
+use Rattle.node_words.specs.Nodes.{meant, nodeOf}
+use Rattle.node_words.proofs.NodeLaws.{word-by, Other, by-others}
 use Rattle.text_bytes.specs.declared.answer.Written.{Written}
 use Rattle.writer.specs.Growing.{Grew, between}
 use Rattle.writer.specs.Text.{wordText, wordsText, nameText, argumentText}
 use Rattle.writer.proofs.GrowingLaws.{grew-none, grew-then}
 use Rattle.writer.proofs.JoinLaws.{isNone, joined-snoc, map-append, none-taken}
 
--- `name` and `argument`, by the kind
-module _ (kind j : ℕ) (e : kind ≡ j) (at r : Written) (old new : Bytes) where
-  pub name-by : Grew (nameText j) at old new r → Grew (nameText kind) at old new r
+-- `name` and `argument`, by the node
+module _ (n m : Node) (e : n ≡ m) (at r : Written) (old new : Bytes) where
+  pub name-by : Grew (nameText m) at old new r → Grew (nameText n) at old new r
   name-by g = rw e g
 
-  pub argument-by : (k : ℕ) → Grew (argumentText j k) at old new r → Grew (argumentText kind k) at old new r
-  argument-by k g = rw e g
+  pub argument-by : Grew (argumentText m) at old new r → Grew (argumentText n) at old new r
+  argument-by g = rw e g
 
--- other kinds have no name
-no-name : (kind : ℕ) → (kind ≡ 0 → ⊥) → (kind ≡ 1 → ⊥) → (kind ≡ 2 → ⊥) → (kind ≡ 3 → ⊥) → (kind ≡ 4 → ⊥) → (kind ≡ 5 → ⊥) → (kind ≡ 7 → ⊥) → (kind ≡ 8 → ⊥) → (kind ≡ 9 → ⊥) → (kind ≡ 10 → ⊥) → (kind ≡ 11 → ⊥) → (kind ≡ 12 → ⊥) → nameText kind ≡ []
-unfolding nameText
-no-name zero h0 h1 h2 h3 h4 h5 h7 h8 h9 h10 h11 h12 = absurd (h0 refl)
-no-name (suc zero) h0 h1 h2 h3 h4 h5 h7 h8 h9 h10 h11 h12 = absurd (h1 refl)
-no-name (suc (suc zero)) h0 h1 h2 h3 h4 h5 h7 h8 h9 h10 h11 h12 = absurd (h2 refl)
-no-name (suc (suc (suc zero))) h0 h1 h2 h3 h4 h5 h7 h8 h9 h10 h11 h12 = absurd (h3 refl)
-no-name (suc (suc (suc (suc zero)))) h0 h1 h2 h3 h4 h5 h7 h8 h9 h10 h11 h12 = absurd (h4 refl)
-no-name (suc (suc (suc (suc (suc zero))))) h0 h1 h2 h3 h4 h5 h7 h8 h9 h10 h11 h12 = absurd (h5 refl)
-no-name (suc (suc (suc (suc (suc (suc zero)))))) h0 h1 h2 h3 h4 h5 h7 h8 h9 h10 h11 h12 = refl
-no-name (suc (suc (suc (suc (suc (suc (suc zero))))))) h0 h1 h2 h3 h4 h5 h7 h8 h9 h10 h11 h12 = absurd (h7 refl)
-no-name (suc (suc (suc (suc (suc (suc (suc (suc zero)))))))) h0 h1 h2 h3 h4 h5 h7 h8 h9 h10 h11 h12 = absurd (h8 refl)
-no-name (suc (suc (suc (suc (suc (suc (suc (suc (suc zero))))))))) h0 h1 h2 h3 h4 h5 h7 h8 h9 h10 h11 h12 = absurd (h9 refl)
-no-name (suc (suc (suc (suc (suc (suc (suc (suc (suc (suc zero)))))))))) h0 h1 h2 h3 h4 h5 h7 h8 h9 h10 h11 h12 = absurd (h10 refl)
-no-name (suc (suc (suc (suc (suc (suc (suc (suc (suc (suc (suc zero))))))))))) h0 h1 h2 h3 h4 h5 h7 h8 h9 h10 h11 h12 = absurd (h11 refl)
-no-name (suc (suc (suc (suc (suc (suc (suc (suc (suc (suc (suc (suc zero)))))))))))) h0 h1 h2 h3 h4 h5 h7 h8 h9 h10 h11 h12 = absurd (h12 refl)
-no-name (suc (suc (suc (suc (suc (suc (suc (suc (suc (suc (suc (suc (suc n))))))))))))) h0 h1 h2 h3 h4 h5 h7 h8 h9 h10 h11 h12 = refl
+-- the nodes with a name, and those with an argument
+abbrev named : List Node
+named = All 0 ∷ Any 0 ∷ Not ∷ Imp ∷ Eq ∷ Le ∷ Old 0 ∷ New 0 ∷ Add ∷ Sub ∷ Mul ∷ If ∷ []
 
-pub name-other : (kind : ℕ) (at : Written) (b : Bytes) → (kind ≡ 0 → ⊥) → (kind ≡ 1 → ⊥) → (kind ≡ 2 → ⊥) → (kind ≡ 3 → ⊥) → (kind ≡ 4 → ⊥) → (kind ≡ 5 → ⊥) → (kind ≡ 7 → ⊥) → (kind ≡ 8 → ⊥) → (kind ≡ 9 → ⊥) → (kind ≡ 10 → ⊥) → (kind ≡ 11 → ⊥) → (kind ≡ 12 → ⊥) → Grew (nameText kind) at b b at
-name-other kind at b h0 h1 h2 h3 h4 h5 h7 h8 h9 h10 h11 h12 = rw (no-name kind h0 h1 h2 h3 h4 h5 h7 h8 h9 h10 h11 h12) (grew-none at b)
+abbrev argued : List Node
+argued = All 0 ∷ Any 0 ∷ Number 0 ∷ Old 0 ∷ New 0 ∷ []
+
+module _ (n : Node) (at : Written) (b : Bytes) where
+  pub name-other : Other named n → Grew (nameText n) at b b at
+  unfolding nameText
+  name-other o =
+      by-others (λ (m : Node). Grew (nameText m) at b b at) named n o
+      (tt, tt, tt, tt, tt, tt, (λ k. grew-none at b), tt, tt, tt, tt, tt, tt, grew-none at b)
+
+  pub argument-other : Other argued n → Grew (argumentText n) at b b at
+  unfolding argumentText
+  argument-other o =
+      let none = grew-none at b in
+      by-others (λ (m : Node). Grew (argumentText m) at b b at) argued n o
+      (tt, tt, none, none, none, none, tt, tt, tt, none, none, none, none, none)
 
 pub ruleset name-laws = (name-by, name-other)
-
--- other kinds have no argument
-no-argument : (kind k : ℕ) → (kind ≡ 0 → ⊥) → (kind ≡ 1 → ⊥) → (kind ≡ 6 → ⊥) → (kind ≡ 7 → ⊥) → (kind ≡ 8 → ⊥) → argumentText kind k ≡ []
-unfolding argumentText
-no-argument zero k h0 h1 h6 h7 h8 = absurd (h0 refl)
-no-argument (suc zero) k h0 h1 h6 h7 h8 = absurd (h1 refl)
-no-argument (suc (suc zero)) k h0 h1 h6 h7 h8 = refl
-no-argument (suc (suc (suc zero))) k h0 h1 h6 h7 h8 = refl
-no-argument (suc (suc (suc (suc zero)))) k h0 h1 h6 h7 h8 = refl
-no-argument (suc (suc (suc (suc (suc zero))))) k h0 h1 h6 h7 h8 = refl
-no-argument (suc (suc (suc (suc (suc (suc zero)))))) k h0 h1 h6 h7 h8 = absurd (h6 refl)
-no-argument (suc (suc (suc (suc (suc (suc (suc zero))))))) k h0 h1 h6 h7 h8 = absurd (h7 refl)
-no-argument (suc (suc (suc (suc (suc (suc (suc (suc zero)))))))) k h0 h1 h6 h7 h8 = absurd (h8 refl)
-no-argument (suc (suc (suc (suc (suc (suc (suc (suc (suc n))))))))) k h0 h1 h6 h7 h8 = refl
-
-pub argument-other : (kind k : ℕ) (at : Written) (b : Bytes) → (kind ≡ 0 → ⊥) → (kind ≡ 1 → ⊥) → (kind ≡ 6 → ⊥) → (kind ≡ 7 → ⊥) → (kind ≡ 8 → ⊥) → Grew (argumentText kind k) at b b at
-argument-other kind k at b h0 h1 h6 h7 h8 = rw (no-argument kind k h0 h1 h6 h7 h8) (grew-none at b)
 
 pub ruleset argument-laws = (argument-by, argument-other)
 
 -- a word is its name and its argument
-kind-text : (kind k : ℕ) → nameText kind ++ argumentText kind k ≡ joined space (spelled (getD (kinds k) kind stray))
-unfolding nameText argumentText kinds spelled joined ledBy
-kind-text zero k = ap (λ (l : Bytes). nameText 0 ++ l) (sym (append-nil (decimal k)))
-kind-text (suc zero) k = ap (λ (l : Bytes). nameText 1 ++ l) (sym (append-nil (decimal k)))
-kind-text (suc (suc zero)) k = refl
-kind-text (suc (suc (suc zero))) k = refl
-kind-text (suc (suc (suc (suc zero)))) k = refl
-kind-text (suc (suc (suc (suc (suc zero))))) k = refl
-kind-text (suc (suc (suc (suc (suc (suc zero)))))) k = sym (append-nil (signed (unbiased k)))
-kind-text (suc (suc (suc (suc (suc (suc (suc zero))))))) k = ap (λ (l : Bytes). nameText 7 ++ l) (sym (append-nil (decimal k)))
-kind-text (suc (suc (suc (suc (suc (suc (suc (suc zero)))))))) k = ap (λ (l : Bytes). nameText 8 ++ l) (sym (append-nil (decimal k)))
-kind-text (suc (suc (suc (suc (suc (suc (suc (suc (suc zero))))))))) k = refl
-kind-text (suc (suc (suc (suc (suc (suc (suc (suc (suc (suc zero)))))))))) k = refl
-kind-text (suc (suc (suc (suc (suc (suc (suc (suc (suc (suc (suc zero))))))))))) k = refl
-kind-text (suc (suc (suc (suc (suc (suc (suc (suc (suc (suc (suc (suc zero)))))))))))) k = refl
-kind-text (suc (suc (suc (suc (suc (suc (suc (suc (suc (suc (suc (suc (suc n))))))))))))) k = refl
+node-text : (n : Node) → nameText n ++ argumentText n ≡ joined space (spelled (meant n))
+unfolding nameText argumentText meant spelled joined ledBy
+node-text (All k) = ap (λ (l : Bytes). nameText (All k) ++ l) (sym (append-nil (decimal k)))
+node-text (Any k) = ap (λ (l : Bytes). nameText (Any k) ++ l) (sym (append-nil (decimal k)))
+node-text Not = refl
+node-text Imp = refl
+node-text Eq = refl
+node-text Le = refl
+node-text (Number n) = sym (append-nil (signed (unbiased n)))
+node-text (Old k) = ap (λ (l : Bytes). nameText (Old k) ++ l) (sym (append-nil (decimal k)))
+node-text (New k) = ap (λ (l : Bytes). nameText (New k) ++ l) (sym (append-nil (decimal k)))
+node-text Add = refl
+node-text Sub = refl
+node-text Mul = refl
+node-text If = refl
+node-text Stray = refl
 
-pub word-is : (w : ℕ) (at a r : Written) (old mid new : Bytes) → Grew (nameText (w % 16)) at old mid a → Grew (argumentText (w % 16) (w / 16)) a mid new r → Grew (wordText w) at old new r
-unfolding wordText wordOf
-word-is w at a r old mid new g h = rw (← kind-text (w % 16) (w / 16)) (grew-then (nameText (w % 16)) (argumentText (w % 16) (w / 16)) at a r old mid new g h)
+pub word-is : (w : ℕ) (n : Node) (at a r : Written) (old mid new : Bytes) → n ≡ nodeOf w → Grew (nameText n) at old mid a → Grew (argumentText n) a mid new r → Grew (wordText w) at old new r
+unfolding wordText
+word-is w n at a r old mid new e g h =
+    rw (word-by w n n e refl, ← node-text n) (grew-then (nameText n) (argumentText n) at a r old mid new g h)
 
 -- the turns of `words`
 words-more : (ws : List ℕ) (i : ℕ) → i < length ws → wordsText (take (i + 1) ws) ≡ wordsText (take i ws) ++ between (eqb i 0) (space ∷ []) ++ wordText (getD ws i 0)

@@ -7,6 +7,8 @@ use lib.ListN.{getD, take, drop}
 use Rattle.model.specs.Bounds.{tableWords}
 use Rattle.model.specs.Lines.{format, actions, variables, variable, automata, sync, locations, init, inv, edges, edge, compose}
 use Rattle.model.specs.Table.{unbiased, wordOf, setOf}
+use Rattle.node_words.specs.declared.Node.{Node}
+use Rattle.node_words.specs.declared.Node.the-variants.{All, Any, Not, Imp, Eq, Le, Number, Old, New, Add, Sub, Mul, If, Stray}
 use Rattle.format.specs.Bytes.{Bytes, bytes, joined, LF, space, comma, 'a}
 use Rattle.format.specs.Number.{decimal, signed}
 use Rattle.format.specs.Spelling.{spelling, spelled, textOfList}
@@ -26,18 +28,38 @@ wordText w = joined space (spelled (wordOf w))
 unfoldable pub wordsText : List ℕ → Bytes
 wordsText ws = joined space (map wordText ws)
 
--- the same in two parts, each by the kind: the name, and the argument
-unfoldable pub nameText : (kind : ℕ) → Bytes
-nameText kind =
-    getD
-    (bytes "all " ∷ bytes "any " ∷ bytes "not" ∷ bytes "imp" ∷ bytes "eq" ∷ bytes "le" ∷ [] ∷ bytes "v" ∷ bytes "n" ∷
-    bytes "add" ∷ bytes "sub" ∷ bytes "mul" ∷ bytes "if" ∷ [])
-    kind
-    []
+-- the same in two parts, the node's name and its argument
+unfoldable pub nameText : Node → Bytes
+nameText (All k) = bytes "all "
+nameText (Any k) = bytes "any "
+nameText Not = bytes "not"
+nameText Imp = bytes "imp"
+nameText Eq = bytes "eq"
+nameText Le = bytes "le"
+nameText (Number n) = []
+nameText (Old k) = bytes "v"
+nameText (New k) = bytes "n"
+nameText Add = bytes "add"
+nameText Sub = bytes "sub"
+nameText Mul = bytes "mul"
+nameText If = bytes "if"
+nameText Stray = []
 
-unfoldable pub argumentText : (kind k : ℕ) → Bytes
-argumentText kind k =
-    getD (decimal k ∷ decimal k ∷ [] ∷ [] ∷ [] ∷ [] ∷ signed (unbiased k) ∷ decimal k ∷ decimal k ∷ []) kind []
+unfoldable pub argumentText : Node → Bytes
+argumentText (All k) = decimal k
+argumentText (Any k) = decimal k
+argumentText Not = []
+argumentText Imp = []
+argumentText Eq = []
+argumentText Le = []
+argumentText (Number n) = signed (unbiased n)
+argumentText (Old k) = decimal k
+argumentText (New k) = decimal k
+argumentText Add = []
+argumentText Sub = []
+argumentText Mul = []
+argumentText If = []
+argumentText Stray = []
 
 -- A set of two words. An action is written if it is in the set, after a comma if others were.
 abbrev pub setText : (low high : ℕ) → Bytes

@@ -44,6 +44,7 @@ use Rattle.evaluator.proofs.nodes.no_value.Reads as no-value-reads
 use Rattle.evaluator.proofs.nodes.ordered.Reads as ordered-reads
 use Rattle.evaluator.proofs.nodes.subtracted.Reads as subtracted-reads
 use Rattle.evaluator.proofs.nodes.variable.Reads as variable-reads
+use Rattle.node_words.proofs.node_of.Reads as node-of-reads
 use Rattle.evaluator.proofs.+choice+expression+implication+numbers+operands+predicate.{statement}
 use Rattle.evaluator.proofs.+choice+expression+implication+numbers+operands+predicate.Tie.{close}
 
@@ -111,7 +112,7 @@ abbrev choice-calls : ℕ → choice-lts.Claims
 choice-calls t = (predicate-below t, predicate.Post, numbers-below t, numbers.Post, chosen-reads.Asked, chosen-reads.Learnt)
 
 abbrev expression-calls : ℕ → expression-lts.Claims
-expression-calls t = (no-value-reads.Asked, no-value-reads.Learnt, constant-reads.Asked, constant-reads.Learnt, variable-reads.Asked, variable-reads.Learnt, numbers-below t, numbers.Post, added-reads.Asked, added-reads.Learnt, subtracted-reads.Asked, subtracted-reads.Learnt, multiplied-reads.Asked, multiplied-reads.Learnt, choice-below t, choice.Post)
+expression-calls t = (no-value-reads.Asked, no-value-reads.Learnt, node-of-reads.Asked, node-of-reads.Learnt, constant-reads.Asked, constant-reads.Learnt, variable-reads.Asked, variable-reads.Learnt, numbers-below t, numbers.Post, added-reads.Asked, added-reads.Learnt, subtracted-reads.Asked, subtracted-reads.Learnt, multiplied-reads.Asked, multiplied-reads.Learnt, choice-below t, choice.Post)
 
 abbrev implication-calls : ℕ → implication-lts.Claims
 implication-calls t = (predicate-below t, predicate.Post, implied-reads.Asked, implied-reads.Learnt)
@@ -123,7 +124,7 @@ abbrev operands-calls : ℕ → operands-lts.Claims
 operands-calls t = (predicate-below t, predicate.Post)
 
 abbrev predicate-calls : ℕ → predicate-lts.Claims
-predicate-calls t = (no-truth-reads.Asked, no-truth-reads.Learnt, index-reads.Asked, index-reads.Learnt, operands-below t, operands.Post, all-hold-reads.Asked, all-hold-reads.Learnt, any-holds-reads.Asked, any-holds-reads.Learnt, predicate-below t, predicate.Post, negated-reads.Asked, negated-reads.Learnt, implication-below t, implication.Post, numbers-below t, numbers.Post, equal-reads.Asked, equal-reads.Learnt, ordered-reads.Asked, ordered-reads.Learnt)
+predicate-calls t = (no-truth-reads.Asked, no-truth-reads.Learnt, node-of-reads.Asked, node-of-reads.Learnt, index-reads.Asked, index-reads.Learnt, operands-below t, operands.Post, all-hold-reads.Asked, all-hold-reads.Learnt, any-holds-reads.Asked, any-holds-reads.Learnt, predicate-below t, predicate.Post, negated-reads.Asked, negated-reads.Learnt, implication-below t, implication.Post, numbers-below t, numbers.Post, equal-reads.Asked, equal-reads.Learnt, ordered-reads.Asked, ordered-reads.Learnt)
 
 choice-numbers-requires : (t : ℕ) → choice-lts.Need-numbers-requires (choice-calls t) (choice-at t) choice.Post
 choice-numbers-requires t c κs =
@@ -248,7 +249,7 @@ pub +choice+expression+implication+numbers+operands+predicate-spec : {M : Type 1
     (λ t. choice-lts.spec (choice-calls t) (choice-at t)
     choice.Post (λ c κs. search needs) (choice-numbers-requires t) (λ c κs. search needs) (choice-returns t))
     (λ t. expression-lts.spec (expression-calls t) (expression-at t)
-    expression.Post (λ c κs. search needs) (expression-returns t) (λ c. search needs) (λ c κs. search needs) (expression-returns-2 t) (λ c. search needs) (λ c. search needs) (λ c. search needs) (λ c κs. search needs) (λ c κs. search needs) (λ c κs. search needs) (λ c κs. search needs) (λ c κs. search needs) (λ c κs. search needs) (λ c κs. search needs) (λ c κs. search needs) (λ c κs. search needs) (λ c κs. search needs) (λ c κs. search needs) (expression-returns-3 t) (expression-returns-4 t) (expression-returns-5 t) (expression-returns-6 t) (expression-returns-7 t) (expression-returns-8 t) (expression-returns-9 t) (expression-returns-10 t))
+    expression.Post (λ c κs. search needs) (expression-returns t) (λ c. search needs) (λ c κs. search needs) (expression-returns-2 t) (λ c. search needs) (λ c. search needs) (λ c κs. search needs) (λ c. search needs) (λ c. search needs) (λ c κs. search needs) (λ c. search needs) (λ c κs. search needs) (λ c. search needs) (λ c κs. search needs) (λ c. search needs) (λ c κs. search needs) (λ c κs. search needs) (λ c. search needs) (λ c κs. search needs) (λ c κs. search needs) (λ c. search needs) (λ c κs. search needs) (λ c κs. search needs) (λ c. search needs) (λ c κs. search needs) (λ c κs. search needs) (expression-returns-3 t) (expression-returns-4 t) (expression-returns-5 t) (expression-returns-6 t) (expression-returns-7 t) (expression-returns-8 t) (expression-returns-9 t) (expression-returns-10 t))
     (λ t. implication-lts.spec (implication-calls t) (implication-at t)
     implication.Post (λ c κs. search needs) (implication-predicate-requires-2 t) (λ c κs. search needs) (implication-returns t))
     (λ t. numbers-lts.spec
@@ -260,4 +261,4 @@ pub +choice+expression+implication+numbers+operands+predicate-spec : {M : Type 1
     operands-Inv-loop
     operands-μ-loop (operands-loop-holds t) (operands-returns t) (operands-predicate-requires t) (λ c. search needs) (λ c. search needs) (operands-loop-again t) (operands-returns-2 t))
     λ t. predicate-lts.spec (predicate-calls t) (predicate-at t)
-    predicate.Post (λ c κs. search needs) (predicate-returns t) (λ c. search needs) (λ c κs. search needs) (predicate-returns-2 t) (λ c. search needs) (λ c. search needs) (λ c. search needs) (λ c κs. search needs) (λ c κs. search needs) (λ c κs. search needs) (λ c κs. search needs) (λ c κs. search needs) (λ c κs. search needs) (λ c κs. search needs) (λ c κs. search needs) (λ c κs. search needs) (λ c κs. search needs) (λ c κs. search needs) (λ c κs. search needs) (λ c κs. search needs) (λ c κs. search needs) (predicate-returns-3 t) (predicate-returns-4 t) (predicate-returns-5 t) (predicate-returns-6 t) (predicate-returns-7 t) (predicate-returns-8 t) (predicate-returns-9 t)
+    predicate.Post (λ c κs. search needs) (predicate-returns t) (λ c. search needs) (λ c κs. search needs) (predicate-returns-2 t) (λ c. search needs) (λ c. search needs) (λ c κs. search needs) (λ c. search needs) (λ c. search needs) (λ c κs. search needs) (λ c κs. search needs) (λ c κs. search needs) (λ c. search needs) (λ c κs. search needs) (λ c κs. search needs) (λ c κs. search needs) (λ c. search needs) (λ c κs. search needs) (λ c κs. search needs) (λ c. search needs) (λ c κs. search needs) (λ c. search needs) (λ c κs. search needs) (λ c κs. search needs) (λ c. search needs) (λ c κs. search needs) (λ c κs. search needs) (λ c κs. search needs) (predicate-returns-3 t) (predicate-returns-4 t) (predicate-returns-5 t) (predicate-returns-6 t) (predicate-returns-7 t) (predicate-returns-8 t) (predicate-returns-9 t)

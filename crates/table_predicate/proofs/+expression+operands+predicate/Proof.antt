@@ -5,7 +5,7 @@ use Prim.Native.Nat.{ℕ, _<_, _+_, _*_, _-_}
 use mathlib.Core.Path.{_≡_, sym, _∙_}
 use Rattle.model.proofs.Tests.{not-true}
 use Rattle.table_predicate.specs.Walk.{predicateAt, gather}
-use Rattle.table_predicate.proofs.Steps.{limit-p, limit-e, row-p, not-p, imp-p, pair-p, other-p, number-e, old-e, new-e, sum-e, difference-e, product-e, either-e, other-e, gather-more, gather-ended}
+use Rattle.table_predicate.proofs.Steps.{predicate-laws, expression-laws, gather-more, gather-ended}
 use borrow.Fn.Kinds.{In}
 use borrow.Fn.PlainCycle.{Measures, is, falls, and}
 use Rattle.table_predicate.proofs.expression.Reads as expression
@@ -69,76 +69,34 @@ abbrev operands-calls : ℕ → operands-lts.Claims
 operands-calls t = (predicate-below t, predicate.Post)
 
 abbrev predicate-calls : ℕ → predicate-lts.Claims
-predicate-calls t = (deeper-reads.Asked, deeper-reads.Learnt, enter-reads.Asked, enter-reads.Learnt, predicate-below t, predicate.Post, index-reads.Asked, index-reads.Learnt, operands-below t, operands.Post, expression-below t, expression.Post, unsound-reads.Asked, unsound-reads.Learnt)
+predicate-calls t = (deeper-reads.Asked, deeper-reads.Learnt, enter-reads.Asked, enter-reads.Learnt, index-reads.Asked, index-reads.Learnt, operands-below t, operands.Post, predicate-below t, predicate.Post, expression-below t, expression.Post, unsound-reads.Asked, unsound-reads.Learnt)
 
 expression-returns : (t : ℕ) → expression-lts.Need-returns (expression-calls t) (expression-at t) expression.Post
-expression-returns t c =
-    rw (c .unreached .ensures, c .before .deeper .ensures) (limit-e _ _ _ _ (c .before .before .if1 .taken))
+expression-returns t c = search (needs, expression-laws)
 
 expression-returns-2 : (t : ℕ) → expression-lts.Need-returns-2 (expression-calls t) (expression-at t) expression.Post
-expression-returns-2 t c =
-    let m = c .before in
-    let n = m .before .before in
-    let z = n .before .if1 .left in
-    let h = n .enter .ensures in
-    rw (c .number .ensures) (sym (number-e _ _ _ z h (m .match .keys1)))
+expression-returns-2 t c = search (needs, expression-laws)
 
 expression-returns-3 : (t : ℕ) → expression-lts.Need-returns-3 (expression-calls t) (expression-at t) expression.Post
-expression-returns-3 t c =
-    let m = c .before .before in
-    let n = m .before .before in
-    let z = n .before .if1 .left in
-    let h = n .enter .ensures in
-    rw (c .variable .ensures, c .before .index .ensures) (sym (old-e _ _ _ z h (m .match .keys2)))
+expression-returns-3 t c = search (needs, expression-laws)
 
 expression-returns-4 : (t : ℕ) → expression-lts.Need-returns-4 (expression-calls t) (expression-at t) expression.Post
-expression-returns-4 t c =
-    let m = c .before .before in
-    let n = m .before .before in
-    let z = n .before .if1 .left in
-    let h = n .enter .ensures in
-    rw (c .variable2 .ensures, c .before .index2 .ensures) (sym (new-e _ _ _ z h (m .match .keys3)))
+expression-returns-4 t c = search (needs, expression-laws)
 
 expression-returns-5 : (t : ℕ) → expression-lts.Need-returns-5 (expression-calls t) (expression-at t) expression.Post
-expression-returns-5 t c =
-    let m = c .before .before .before in
-    let n = m .before .before in
-    let z = n .before .if1 .left in
-    let h = n .enter .ensures in
-    rw (c .sum .ensures, c .before .expression2 .ensures, c .before .before .expression .ensures) (sym (sum-e _ _ _ z h (m .match .keys4)))
+expression-returns-5 t c = search (needs, expression-laws)
 
 expression-returns-6 : (t : ℕ) → expression-lts.Need-returns-6 (expression-calls t) (expression-at t) expression.Post
-expression-returns-6 t c =
-    let m = c .before .before .before in
-    let n = m .before .before in
-    let z = n .before .if1 .left in
-    let h = n .enter .ensures in
-    rw (c .difference .ensures, c .before .expression4 .ensures, c .before .before .expression3 .ensures) (sym (difference-e _ _ _ z h (m .match .keys5)))
+expression-returns-6 t c = search (needs, expression-laws)
 
 expression-returns-7 : (t : ℕ) → expression-lts.Need-returns-7 (expression-calls t) (expression-at t) expression.Post
-expression-returns-7 t c =
-    let m = c .before .before .before in
-    let n = m .before .before in
-    let z = n .before .if1 .left in
-    let h = n .enter .ensures in
-    rw (c .product .ensures, c .before .expression6 .ensures, c .before .before .expression5 .ensures) (sym (product-e _ _ _ z h (m .match .keys6)))
+expression-returns-7 t c = search (needs, expression-laws)
 
 expression-returns-8 : (t : ℕ) → expression-lts.Need-returns-8 (expression-calls t) (expression-at t) expression.Post
-expression-returns-8 t c =
-    let m = c .before .before .before .before in
-    let n = m .before .before in
-    let z = n .before .if1 .left in
-    let h = n .enter .ensures in
-    rw (c .either .ensures, c .before .expression8 .ensures, c .before .before .expression7 .ensures, c .before .before .before .predicate .ensures) (sym (either-e _ _ _ z h (m .match .keys7)))
+expression-returns-8 t c = search (needs, expression-laws)
 
 expression-returns-9 : (t : ℕ) → expression-lts.Need-returns-9 (expression-calls t) (expression-at t) expression.Post
-expression-returns-9 t c =
-    let m = c .before .before in
-    let n = m .before .before in
-    let z = n .before .if1 .left in
-    let h = n .enter .ensures in
-    let r = m .match .rest in
-    rw (c .unreached2 .ensures, c .before .unsound .ensures) (sym (other-e _ _ _ z h (r .0 .0 .0 .0 .0 .0 .1) (r .0 .0 .0 .0 .0 .1) (r .0 .0 .0 .0 .1) (r .0 .0 .0 .1) (r .0 .0 .1) (r .0 .1) (r .1)))
+expression-returns-9 t c = search (needs, expression-laws)
 
 abbrev operands-Inv-loop : operands-lts.InvT-loop
 operands-Inv-loop words count left ranges rest₀ reach₀ rest reach =
@@ -163,60 +121,33 @@ operands-returns-2 t c =
     rw (c .loop-test .left) at (c .before .loop .inv)
 
 predicate-returns : (t : ℕ) → predicate-lts.Need-returns (predicate-calls t) (predicate-at t) predicate.Post
-predicate-returns t c =
-    rw (c .deeper .ensures) (limit-p _ _ _ _ (c .before .if1 .taken))
+predicate-returns t c = search (needs, predicate-laws)
 
 predicate-returns-2 : (t : ℕ) → predicate-lts.Need-returns-2 (predicate-calls t) (predicate-at t) predicate.Post
-predicate-returns-2 t c =
-    let m = c .before in
-    let n = m .before .before in
-    let z = n .before .if1 .left in
-    let h = n .enter .ensures in
-    rw (c .predicate .ensures) (sym (not-p _ _ _ z h (m .match .keys1)))
+predicate-returns-2 t c = search (needs, predicate-laws)
 
 predicate-returns-3 : (t : ℕ) → predicate-lts.Need-returns-3 (predicate-calls t) (predicate-at t) predicate.Post
-predicate-returns-3 t c =
-    let m = c .before .before in
-    let n = m .before .before in
-    let z = n .before .if1 .left in
-    let h = n .enter .ensures in
-    rw (c .predicate3 .ensures, c .before .predicate2 .ensures) (sym (imp-p _ _ _ z h (m .match .keys2)))
+predicate-returns-3 t c = search (needs, predicate-laws)
 
 predicate-returns-4 : (t : ℕ) → predicate-lts.Need-returns-4 (predicate-calls t) (predicate-at t) predicate.Post
-predicate-returns-4 t c =
-    let m = c .before .before .before in
-    let n = m .before .before in
-    let z = n .before .if1 .left in
-    let h = n .enter .ensures in
-    rw (c .operands .ensures, c .before .index .ensures) (sym (row-p _ _ _ z h (c .before .before .if2 .taken)))
+predicate-returns-4 t c = search (needs, predicate-laws)
 
 predicate-returns-5 : (t : ℕ) → predicate-lts.Need-returns-5 (predicate-calls t) (predicate-at t) predicate.Post
-predicate-returns-5 t c =
-    let b = c .before in
-    let a = b .before in
-    let i = a .before .before in
-    let m = i .before in
-    let n = m .before .before in
-    let z = n .before .if1 .left in
-    let h = n .enter .ensures in
-    rw (b .expression2 .ensures, a .expression .ensures) (sym (pair-p _ _ _ z h (i .if2 .left) (m .match .rest .0 .1) (m .match .rest .1) (a .before .if3 .taken)))
+predicate-returns-5 t c = search (needs, predicate-laws)
 
 predicate-returns-6 : (t : ℕ) → predicate-lts.Need-returns-6 (predicate-calls t) (predicate-at t) predicate.Post
-predicate-returns-6 t c =
-    let e = c .before in
-    let m = e .before .before in
-    let n = m .before .before in
-    let z = n .before .if1 .left in
-    let h = n .enter .ensures in
-    rw (c .unsound .ensures) (sym (other-p _ _ _ z h (e .if3 .left)))
+predicate-returns-6 t c = search (needs, predicate-laws)
+
+predicate-returns-7 : (t : ℕ) → predicate-lts.Need-returns-7 (predicate-calls t) (predicate-at t) predicate.Post
+predicate-returns-7 t c = search (needs, predicate-laws)
 
 pub +expression+operands+predicate-spec : {M : Type 1} → statement M
 +expression+operands+predicate-spec =
     close μ-expression μ-operands μ-predicate (λ t. expression-lts.spec (expression-calls t) (expression-at t)
-    expression.Post (λ c κs. search needs) (λ c κs. search needs) (expression-returns t) (λ c κs. search needs) (λ c. search needs) (λ c κs. search needs) (λ c κs. search needs) (λ c κs. search needs) (λ c κs. search needs) (λ c κs. search needs) (λ c κs. search needs) (λ c κs. search needs) (λ c κs. search needs) (λ c κs. search needs) (λ c κs. search needs) (λ c κs. search needs) (λ c κs. search needs) (λ c κs. search needs) (λ c κs. search needs) (λ c κs. search needs) (λ c κs. search needs) (λ c κs. search needs) (λ c κs. search needs) (λ c κs. search needs) (λ c κs. search needs) (expression-returns-2 t) (expression-returns-3 t) (expression-returns-4 t) (expression-returns-5 t) (expression-returns-6 t) (expression-returns-7 t) (expression-returns-8 t) (expression-returns-9 t))
+    expression.Post (λ c κs. search needs) (λ c κs. search needs) (expression-returns t) (λ c κs. search needs) (λ c. search needs) (λ c. search needs) (λ c κs. search needs) (λ c. search needs) (λ c κs. search needs) (λ c κs. search needs) (λ c. search needs) (λ c κs. search needs) (λ c κs. search needs) (λ c. search needs) (λ c κs. search needs) (λ c κs. search needs) (λ c κs. search needs) (λ c. search needs) (λ c κs. search needs) (λ c κs. search needs) (λ c κs. search needs) (λ c. search needs) (λ c κs. search needs) (λ c κs. search needs) (λ c κs. search needs) (λ c. search needs) (λ c κs. search needs) (λ c κs. search needs) (λ c κs. search needs) (λ c κs. search needs) (λ c κs. search needs) (λ c κs. search needs) (expression-returns-2 t) (expression-returns-3 t) (expression-returns-4 t) (expression-returns-5 t) (expression-returns-6 t) (expression-returns-7 t) (expression-returns-8 t) (expression-returns-9 t))
     (λ t. operands-lts.spec (operands-calls t) (operands-at t)
     operands.Post
     operands-Inv-loop
     operands-μ-loop (λ c. search needs) (operands-returns t) (λ c κs. search needs) (λ c. search needs) (λ c. search needs) (operands-loop-again t) (operands-returns-2 t))
     λ t. predicate-lts.spec (predicate-calls t) (predicate-at t)
-    predicate.Post (λ c κs. search needs) (predicate-returns t) (λ c κs. search needs) (λ c. search needs) (λ c κs. search needs) (λ c κs. search needs) (λ c κs. search needs) (λ c κs. search needs) (λ c κs. search needs) (λ c κs. search needs) (λ c κs. search needs) (λ c κs. search needs) (predicate-returns-2 t) (predicate-returns-3 t) (predicate-returns-4 t) (predicate-returns-5 t) (predicate-returns-6 t)
+    predicate.Post (λ c κs. search needs) (predicate-returns t) (λ c κs. search needs) (λ c. search needs) (λ c. search needs) (λ c κs. search needs) (λ c κs. search needs) (λ c. search needs) (λ c κs. search needs) (λ c κs. search needs) (λ c. search needs) (λ c κs. search needs) (λ c. search needs) (λ c κs. search needs) (λ c κs. search needs) (λ c κs. search needs) (λ c κs. search needs) (λ c κs. search needs) (predicate-returns-2 t) (predicate-returns-3 t) (predicate-returns-4 t) (predicate-returns-5 t) (predicate-returns-6 t) (predicate-returns-7 t)

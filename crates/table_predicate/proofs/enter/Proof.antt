@@ -11,17 +11,29 @@ returns c = enter-ended _ _ (not-true _ (c .if1 .taken))
 returns-2 : tie.Need-returns-2
 returns-2 c = enter-none _ _ (c .if2 .taken)
 
-add-t6 : tie.Need-add-t6
-add-t6 c = search needs
+add-node-of : tie.Need-add-node-of
+add-node-of c = search needs
 
-mul-t6 : tie.Need-mul-t6
-mul-t6 c = search needs
+mul-node-of : tie.Need-mul-node-of
+mul-node-of c = search needs
 
-shared-slice-read-t8 : tie.Need-shared-slice-read-t8
-shared-slice-read-t8 c = search needs
+shared-slice-read-node-of : tie.Need-shared-slice-read-node-of
+shared-slice-read-node-of c = search needs
+
+node-of-requires : tie.Need-node-of-requires
+node-of-requires c κs = search needs
 
 returns-3 : tie.Need-returns-3
-returns-3 c = enter-next _ _ (not-false _ (c .before .before .if1 .left)) (c .before .if2 .left)
+returns-3 c = rw (c .node-of .ensures) (enter-next _ _ (not-false _ (c .before .before .before .if1 .left)) (c .before .before .if2 .left))
 
 pub enter-spec : {M : Type 1} → statement M
-enter-spec = tie.close (tie.spec returns returns-2 add-t6 mul-t6 shared-slice-read-t8 returns-3)
+enter-spec =
+    tie.close
+    (tie.spec
+    returns
+    returns-2
+    add-node-of
+    mul-node-of
+    shared-slice-read-node-of
+    node-of-requires
+    returns-3)

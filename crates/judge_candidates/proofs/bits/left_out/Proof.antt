@@ -4,6 +4,12 @@ use borrow.Author.Needs.{needs}
 use Rattle.judge_candidates.proofs.bits.left_out.Statement.{statement}
 use Rattle.judge_candidates.proofs.bits.left_out.Tie as tie
 
+node-of-requires : tie.Need-node-of-requires
+node-of-requires c κs = search needs
+
+enum-known-node : tie.Need-enum-known-node
+enum-known-node c = search needs
+
 clear-requires : tie.Need-clear-requires
 clear-requires c κs = search needs
 
@@ -14,4 +20,5 @@ returns-2 : tie.Need-returns-2
 returns-2 c = search (needs, out-laws)
 
 pub left-out-spec : {M : Type 1} → statement M
-left-out-spec = tie.close (tie.spec clear-requires returns returns-2)
+left-out-spec =
+    tie.close (tie.spec node-of-requires enum-known-node clear-requires returns returns-2)

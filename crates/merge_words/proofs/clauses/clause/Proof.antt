@@ -4,8 +4,14 @@ use borrow.Author.Needs.{needs}
 use Rattle.merge_words.proofs.clauses.clause.Statement.{statement}
 use Rattle.merge_words.proofs.clauses.clause.Tie as tie
 
+imp-node-requires : tie.Need-imp-node-requires
+imp-node-requires c κs = search needs
+
 put-requires : tie.Need-put-requires
 put-requires c κs = search needs
+
+eq-node-requires : tie.Need-eq-node-requires
+eq-node-requires c κs = search needs
 
 put-requires-2 : tie.Need-put-requires-2
 put-requires-2 c κs = search needs
@@ -32,7 +38,9 @@ pub clause-spec : {M : Type 1} → statement M
 clause-spec =
     tie.close
     (tie.spec
+    imp-node-requires
     put-requires
+    eq-node-requires
     put-requires-2
     old-node-requires
     put-requires-3

@@ -12,10 +12,9 @@ use Rattle.merge_words.proofs.depth.depth_at.Reads as depth-at
 use Rattle.merge_words.proofs.depth.depth_at.Kinds as depth-at-kinds
 use Rattle.merge_words.proofs.depth.+depth_at.Lts-depth_at as depth-at-lts
 use Rattle.merge_words.proofs.depth.greater.Reads as greater-reads
-use Rattle.merge_words.proofs.depth.operands_of.Reads as operands-of-reads
-use Rattle.merge_words.proofs.node_words.add.Reads as add-reads
+use Rattle.merge_words.proofs.depth.operands_at.Reads as operands-at-reads
+use Rattle.merge_words.proofs.words.add.Reads as add-reads
 use Rattle.table_places.proofs.step.Reads as step-reads
-use Rattle.table_places.proofs.word.Reads as word-reads
 use Rattle.merge_words.proofs.depth.+depth_at.{statement}
 use Rattle.merge_words.proofs.depth.+depth_at.Tie.{close}
 
@@ -30,7 +29,7 @@ depth-at-below t =
     and 1 depth-at-kinds.ps (falls 1 depth-at-kinds.ps _<_ μ-depth-at t) depth-at.Pre
 
 abbrev depth-at-calls : ℕ → depth-at-lts.Claims
-depth-at-calls t = (word-reads.Asked, word-reads.Learnt, operands-of-reads.Asked, operands-of-reads.Learnt, step-reads.Asked, step-reads.Learnt, depth-at-below t, depth-at.Post, greater-reads.Asked, greater-reads.Learnt, add-reads.Asked, add-reads.Learnt)
+depth-at-calls t = (operands-at-reads.Asked, operands-at-reads.Learnt, step-reads.Asked, step-reads.Learnt, depth-at-below t, depth-at.Post, greater-reads.Asked, greater-reads.Learnt, add-reads.Asked, add-reads.Learnt)
 
 abbrev depth-at-Inv-loop : depth-at-lts.InvT-loop
 depth-at-Inv-loop t left at below rest₀ next₀ deepest₀ rest next deep =
@@ -45,11 +44,8 @@ depth-at-returns t c = search (needs, depth-laws)
 depth-at-sub-below : (t : ℕ) → depth-at-lts.Need-sub-below (depth-at-calls t) (depth-at-at t) depth-at.Post depth-at-Inv-loop depth-at-μ-loop
 depth-at-sub-below t c = search needs
 
-depth-at-word-requires : (t : ℕ) → depth-at-lts.Need-word-requires (depth-at-calls t) (depth-at-at t) depth-at.Post depth-at-Inv-loop depth-at-μ-loop
-depth-at-word-requires t c κs = search needs
-
-depth-at-operands-of-requires : (t : ℕ) → depth-at-lts.Need-operands-of-requires (depth-at-calls t) (depth-at-at t) depth-at.Post depth-at-Inv-loop depth-at-μ-loop
-depth-at-operands-of-requires t c κs = search needs
+depth-at-operands-at-requires : (t : ℕ) → depth-at-lts.Need-operands-at-requires (depth-at-calls t) (depth-at-at t) depth-at.Post depth-at-Inv-loop depth-at-μ-loop
+depth-at-operands-at-requires t c κs = search needs
 
 depth-at-step-requires : (t : ℕ) → depth-at-lts.Need-step-requires (depth-at-calls t) (depth-at-at t) depth-at.Post depth-at-Inv-loop depth-at-μ-loop
 depth-at-step-requires t c κs = search needs
@@ -86,8 +82,7 @@ pub +depth-at-spec : {M : Type 1} → statement M
     depth-at-μ-loop
     (depth-at-returns t)
     (depth-at-sub-below t)
-    (depth-at-word-requires t)
-    (depth-at-operands-of-requires t)
+    (depth-at-operands-at-requires t)
     (depth-at-step-requires t)
     (depth-at-loop-holds t)
     (depth-at-depth-at-requires t)

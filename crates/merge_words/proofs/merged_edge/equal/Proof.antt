@@ -4,6 +4,9 @@ use borrow.Author.Needs.{needs}
 use Rattle.merge_words.proofs.merged_edge.equal.Statement.{statement}
 use Rattle.merge_words.proofs.merged_edge.equal.Tie as tie
 
+eq-node-requires : tie.Need-eq-node-requires
+eq-node-requires c κs = search needs
+
 put-requires : tie.Need-put-requires
 put-requires c κs = search needs
 
@@ -21,4 +24,11 @@ returns c = search (needs, equal-is)
 
 pub equal-spec : {M : Type 1} → statement M
 equal-spec =
-    tie.close (tie.spec put-requires put-requires-2 number-node-requires put-requires-3 returns)
+    tie.close
+    (tie.spec
+    eq-node-requires
+    put-requires
+    put-requires-2
+    number-node-requires
+    put-requires-3
+    returns)

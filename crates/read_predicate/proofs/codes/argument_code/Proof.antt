@@ -1,5 +1,3 @@
-use Prim.Native.Nat.{_≤_}
-use native.Mathlib.Omega.{arith}
 use Rattle.read_predicate.proofs.CodeLaws.{argument-laws}
 use borrow.Author.Needs.{needs}
 use Rattle.read_predicate.proofs.codes.argument_code.Statement.{statement}
@@ -11,18 +9,17 @@ natural-requires c κs = search needs
 enum-known-m : tie.Need-enum-known-m
 enum-known-m c = search needs
 
-mul-result : tie.Need-mul-result
-mul-result c =
-    let l : c .before .m .given .0 .0 ≤ c .before .before .before .before .before .args .high = search (needs, argument-laws) in
-    record { fits = omega arith }
+node-with-requires : tie.Need-node-with-requires
+node-with-requires c κs = search needs
 
-add-result : tie.Need-add-result
-add-result c =
-    let l : c .before .m .given .0 .0 ≤ c .before .before .before .before .before .args .high = search (needs, argument-laws) in
-    record { fits = omega arith }
+word-of-requires : tie.Need-word-of-requires
+word-of-requires c κs = search needs
 
 enum-told : tie.Need-enum-told
 enum-told c = search needs
+
+stray-code-requires : tie.Need-stray-code-requires
+stray-code-requires c κs = search needs
 
 returns : tie.Need-returns
 returns c = search (needs, argument-laws)
@@ -33,4 +30,12 @@ returns-2 c = search (needs, argument-laws)
 pub argument-code-spec : {M : Type 1} → statement M
 argument-code-spec =
     tie.close
-    (tie.spec natural-requires enum-known-m mul-result add-result enum-told returns returns-2)
+    (tie.spec
+    natural-requires
+    enum-known-m
+    node-with-requires
+    word-of-requires
+    enum-told
+    stray-code-requires
+    returns
+    returns-2)

@@ -15,8 +15,14 @@ argument-code-requires c κs = search needs
 enum-told-2 : tie.Need-enum-told-2
 enum-told-2 c = search needs
 
+stray-code-requires : tie.Need-stray-code-requires
+stray-code-requires c κs = search needs
+
 enum-told-3 : tie.Need-enum-told-3
 enum-told-3 c = search needs
+
+stray-code-requires-2 : tie.Need-stray-code-requires-2
+stray-code-requires-2 c κs = search needs
 
 returns : tie.Need-returns
 returns c = search (needs, count-laws)
@@ -35,7 +41,9 @@ count-code-spec =
     enum-told
     argument-code-requires
     enum-told-2
+    stray-code-requires
     enum-told-3
+    stray-code-requires-2
     returns
     returns-2
     returns-3)

@@ -1,5 +1,3 @@
-use Prim.Native.Nat.{_≤_}
-use native.Mathlib.Omega.{arith}
 use Rattle.read_predicate.proofs.CodeLaws.{number-laws}
 use borrow.Author.Needs.{needs}
 use Rattle.read_predicate.proofs.codes.number_code.Statement.{statement}
@@ -14,18 +12,14 @@ enum-known-m c = search needs
 biased-requires : tie.Need-biased-requires
 biased-requires c κs = search needs
 
-mul-result : tie.Need-mul-result
-mul-result c =
-    let l : c .biased .result ≤ 65535 = search (needs, number-laws) in
-    record { fits = omega arith }
-
-add-result : tie.Need-add-result
-add-result c =
-    let l : c .biased .result ≤ 65535 = search (needs, number-laws) in
-    record { fits = omega arith }
+word-of-requires : tie.Need-word-of-requires
+word-of-requires c κs = search needs
 
 enum-told : tie.Need-enum-told
 enum-told c = search needs
+
+stray-code-requires : tie.Need-stray-code-requires
+stray-code-requires c κs = search needs
 
 returns : tie.Need-returns
 returns c = search (needs, number-laws)
@@ -40,8 +34,8 @@ number-code-spec =
     integer-requires
     enum-known-m
     biased-requires
-    mul-result
-    add-result
+    word-of-requires
     enum-told
+    stray-code-requires
     returns
     returns-2)

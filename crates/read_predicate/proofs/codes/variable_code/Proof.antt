@@ -15,10 +15,19 @@ argument-code-requires-2 c κs = search needs
 returns-2 : tie.Need-returns-2
 returns-2 c = search (needs, variable-laws)
 
+stray-code-requires : tie.Need-stray-code-requires
+stray-code-requires c κs = search needs
+
 returns-3 : tie.Need-returns-3
 returns-3 c = search (needs, variable-laws)
 
 pub variable-code-spec : {M : Type 1} → statement M
 variable-code-spec =
     tie.close
-    (tie.spec argument-code-requires returns argument-code-requires-2 returns-2 returns-3)
+    (tie.spec
+    argument-code-requires
+    returns
+    argument-code-requires-2
+    returns-2
+    stray-code-requires
+    returns-3)

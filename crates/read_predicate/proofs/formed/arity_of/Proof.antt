@@ -3,8 +3,32 @@ use borrow.Author.Needs.{needs}
 use Rattle.read_predicate.proofs.formed.arity_of.Statement.{statement}
 use Rattle.read_predicate.proofs.formed.arity_of.Tie as tie
 
+node-of-requires : tie.Need-node-of-requires
+node-of-requires c κs = search needs
+
+enum-known-node : tie.Need-enum-known-node
+enum-known-node c = search needs
+
 index-requires : tie.Need-index-requires
 index-requires c κs = search needs
+
+enum-known-node-2 : tie.Need-enum-known-node-2
+enum-known-node-2 c = search needs
+
+index-requires-2 : tie.Need-index-requires-2
+index-requires-2 c κs = search needs
+
+enum-told : tie.Need-enum-told
+enum-told c = search needs
+
+enum-told-2 : tie.Need-enum-told-2
+enum-told-2 c = search needs
+
+enum-told-3 : tie.Need-enum-told-3
+enum-told-3 c = search needs
+
+enum-told-4 : tie.Need-enum-told-4
+enum-told-4 c = search needs
 
 returns : tie.Need-returns
 returns c = search (needs, arity-laws)
@@ -30,11 +54,22 @@ returns-7 c = search (needs, arity-laws)
 returns-8 : tie.Need-returns-8
 returns-8 c = search (needs, arity-laws)
 
+returns-9 : tie.Need-returns-9
+returns-9 c = search (needs, arity-laws)
+
 pub arity-of-spec : {M : Type 1} → statement M
 arity-of-spec =
     tie.close
     (tie.spec
+    node-of-requires
+    enum-known-node
     index-requires
+    enum-known-node-2
+    index-requires-2
+    enum-told
+    enum-told-2
+    enum-told-3
+    enum-told-4
     returns
     returns-2
     returns-3
@@ -42,4 +77,5 @@ arity-of-spec =
     returns-5
     returns-6
     returns-7
-    returns-8)
+    returns-8
+    returns-9)

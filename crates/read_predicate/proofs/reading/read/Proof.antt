@@ -46,6 +46,9 @@ loop-again c = search (needs, read-laws)
 code-as-requires : tie.Need-code-as-requires Inv-loop μ-loop
 code-as-requires c κs = search needs
 
+is-stray-requires : tie.Need-is-stray-requires Inv-loop μ-loop
+is-stray-requires c κs = search needs
+
 same-length : tie.Need-same-length Inv-loop μ-loop
 same-length c = search needs
 
@@ -105,6 +108,7 @@ read-spec =
     loop-less
     loop-again
     code-as-requires
+    is-stray-requires
     same-length
     returns
     same-length-2

@@ -5,17 +5,32 @@ use borrow.Author.Needs.{needs}
 use Rattle.writer.proofs.words.argument.Statement.{statement}
 use Rattle.writer.proofs.words.argument.Tie as tie
 
+enum-known-node : tie.Need-enum-known-node
+enum-known-node c = search needs
+
 number-requires : tie.Need-number-requires
 number-requires c κs = search needs
+
+enum-known-node-2 : tie.Need-enum-known-node-2
+enum-known-node-2 c = search needs
 
 number-requires-2 : tie.Need-number-requires-2
 number-requires-2 c κs = search needs
 
+enum-known-node-3 : tie.Need-enum-known-node-3
+enum-known-node-3 c = search needs
+
 biased-requires : tie.Need-biased-requires
 biased-requires c κs = search needs
 
+enum-known-node-4 : tie.Need-enum-known-node-4
+enum-known-node-4 c = search needs
+
 number-requires-3 : tie.Need-number-requires-3
 number-requires-3 c κs = search needs
+
+enum-known-node-5 : tie.Need-enum-known-node-5
+enum-known-node-5 c = search needs
 
 number-requires-4 : tie.Need-number-requires-4
 number-requires-4 c κs = search needs
@@ -63,10 +78,15 @@ pub argument-spec : {M : Type 1} → statement M
 argument-spec =
     tie.close
     (tie.spec
+    enum-known-node
     number-requires
+    enum-known-node-2
     number-requires-2
+    enum-known-node-3
     biased-requires
+    enum-known-node-4
     number-requires-3
+    enum-known-node-5
     number-requires-4
     same-length
     returns

@@ -5,11 +5,17 @@ use borrow.Author.Needs.{needs}
 use Rattle.writer.proofs.words.name.Statement.{statement}
 use Rattle.writer.proofs.words.name.Tie as tie
 
+enum-told : tie.Need-enum-told
+enum-told c = search needs
+
 slice-aggregate-put : tie.Need-slice-aggregate-put
 slice-aggregate-put c = search needs
 
 put-requires : tie.Need-put-requires
 put-requires c κs = search needs
+
+enum-told-2 : tie.Need-enum-told-2
+enum-told-2 c = search needs
 
 slice-aggregate-put-2 : tie.Need-slice-aggregate-put-2
 slice-aggregate-put-2 c = search needs
@@ -17,11 +23,17 @@ slice-aggregate-put-2 c = search needs
 put-requires-2 : tie.Need-put-requires-2
 put-requires-2 c κs = search needs
 
+enum-told-3 : tie.Need-enum-told-3
+enum-told-3 c = search needs
+
 slice-aggregate-put-3 : tie.Need-slice-aggregate-put-3
 slice-aggregate-put-3 c = search needs
 
 put-requires-3 : tie.Need-put-requires-3
 put-requires-3 c κs = search needs
+
+enum-told-4 : tie.Need-enum-told-4
+enum-told-4 c = search needs
 
 slice-aggregate-put-4 : tie.Need-slice-aggregate-put-4
 slice-aggregate-put-4 c = search needs
@@ -29,11 +41,17 @@ slice-aggregate-put-4 c = search needs
 put-requires-4 : tie.Need-put-requires-4
 put-requires-4 c κs = search needs
 
+enum-told-5 : tie.Need-enum-told-5
+enum-told-5 c = search needs
+
 slice-aggregate-put-5 : tie.Need-slice-aggregate-put-5
 slice-aggregate-put-5 c = search needs
 
 put-requires-5 : tie.Need-put-requires-5
 put-requires-5 c κs = search needs
+
+enum-told-6 : tie.Need-enum-told-6
+enum-told-6 c = search needs
 
 slice-aggregate-put-6 : tie.Need-slice-aggregate-put-6
 slice-aggregate-put-6 c = search needs
@@ -41,11 +59,17 @@ slice-aggregate-put-6 c = search needs
 put-requires-6 : tie.Need-put-requires-6
 put-requires-6 c κs = search needs
 
+enum-told-7 : tie.Need-enum-told-7
+enum-told-7 c = search needs
+
 slice-aggregate-put-7 : tie.Need-slice-aggregate-put-7
 slice-aggregate-put-7 c = search needs
 
 put-requires-7 : tie.Need-put-requires-7
 put-requires-7 c κs = search needs
+
+enum-told-8 : tie.Need-enum-told-8
+enum-told-8 c = search needs
 
 slice-aggregate-put-8 : tie.Need-slice-aggregate-put-8
 slice-aggregate-put-8 c = search needs
@@ -53,11 +77,17 @@ slice-aggregate-put-8 c = search needs
 put-requires-8 : tie.Need-put-requires-8
 put-requires-8 c κs = search needs
 
+enum-told-9 : tie.Need-enum-told-9
+enum-told-9 c = search needs
+
 slice-aggregate-put-9 : tie.Need-slice-aggregate-put-9
 slice-aggregate-put-9 c = search needs
 
 put-requires-9 : tie.Need-put-requires-9
 put-requires-9 c κs = search needs
+
+enum-told-10 : tie.Need-enum-told-10
+enum-told-10 c = search needs
 
 slice-aggregate-put-10 : tie.Need-slice-aggregate-put-10
 slice-aggregate-put-10 c = search needs
@@ -65,11 +95,17 @@ slice-aggregate-put-10 c = search needs
 put-requires-10 : tie.Need-put-requires-10
 put-requires-10 c κs = search needs
 
+enum-told-11 : tie.Need-enum-told-11
+enum-told-11 c = search needs
+
 slice-aggregate-put-11 : tie.Need-slice-aggregate-put-11
 slice-aggregate-put-11 c = search needs
 
 put-requires-11 : tie.Need-put-requires-11
 put-requires-11 c κs = search needs
+
+enum-told-12 : tie.Need-enum-told-12
+enum-told-12 c = search needs
 
 slice-aggregate-put-12 : tie.Need-slice-aggregate-put-12
 slice-aggregate-put-12 c = search needs
@@ -169,28 +205,40 @@ pub name-spec : {M : Type 1} → statement M
 name-spec =
     tie.close
     (tie.spec
+    enum-told
     slice-aggregate-put
     put-requires
+    enum-told-2
     slice-aggregate-put-2
     put-requires-2
+    enum-told-3
     slice-aggregate-put-3
     put-requires-3
+    enum-told-4
     slice-aggregate-put-4
     put-requires-4
+    enum-told-5
     slice-aggregate-put-5
     put-requires-5
+    enum-told-6
     slice-aggregate-put-6
     put-requires-6
+    enum-told-7
     slice-aggregate-put-7
     put-requires-7
+    enum-told-8
     slice-aggregate-put-8
     put-requires-8
+    enum-told-9
     slice-aggregate-put-9
     put-requires-9
+    enum-told-10
     slice-aggregate-put-10
     put-requires-10
+    enum-told-11
     slice-aggregate-put-11
     put-requires-11
+    enum-told-12
     slice-aggregate-put-12
     put-requires-12
     same-length

@@ -4,6 +4,9 @@ use borrow.Author.Needs.{needs}
 use Rattle.writer.proofs.words.word.Statement.{statement}
 use Rattle.writer.proofs.words.word.Tie as tie
 
+node-of-requires : tie.Need-node-of-requires
+node-of-requires c κs = search needs
+
 name-requires : tie.Need-name-requires
 name-requires c κs = search needs
 
@@ -17,4 +20,5 @@ returns : tie.Need-returns
 returns c = search (needs, word-is)
 
 pub word-spec : {M : Type 1} → statement M
-word-spec = tie.close (tie.spec name-requires argument-requires same-length returns)
+word-spec =
+    tie.close (tie.spec node-of-requires name-requires argument-requires same-length returns)

@@ -1,8 +1,8 @@
--- `merge_words::node_words::add` meets its contract: each way out is a law of NodeLaws.
+-- `merge_words::words::add` meets its contract: each way out is a law of NodeLaws.
 use Rattle.merge_words.proofs.NodeLaws.{add-laws}
 use borrow.Author.Needs.{needs}
-use Rattle.merge_words.proofs.node_words.add.Statement.{statement}
-use Rattle.merge_words.proofs.node_words.add.Tie as tie
+use Rattle.merge_words.proofs.words.add.Statement.{statement}
+use Rattle.merge_words.proofs.words.add.Tie as tie
 
 returns : tie.Need-returns
 returns c = search (needs, add-laws)

@@ -1,8 +1,8 @@
--- `merge_words::node_words::upward` meets its contract.
+-- `merge_words::words::upward` meets its contract.
 use Rattle.merge_words.proofs.NodeLaws.{node-laws}
 use borrow.Author.Needs.{needs}
-use Rattle.merge_words.proofs.node_words.upward.Statement.{statement}
-use Rattle.merge_words.proofs.node_words.upward.Tie as tie
+use Rattle.merge_words.proofs.words.upward.Statement.{statement}
+use Rattle.merge_words.proofs.words.upward.Tie as tie
 
 add-result : tie.Need-add-result
 add-result c = search needs

@@ -1,8 +1,8 @@
--- `merge_words::node_words::pointer` meets its contract.
+-- `merge_words::words::pointer` meets its contract.
 use Rattle.merge_words.proofs.NodeLaws.{node-laws}
 use borrow.Author.Needs.{needs}
-use Rattle.merge_words.proofs.node_words.pointer.Statement.{statement}
-use Rattle.merge_words.proofs.node_words.pointer.Tie as tie
+use Rattle.merge_words.proofs.words.pointer.Statement.{statement}
+use Rattle.merge_words.proofs.words.pointer.Tie as tie
 
 add-result : tie.Need-add-result
 add-result c = search needs

@@ -1,11 +1,10 @@
 // The words of the nodes that merged predicates have of their own, and sums that stay within a word.
+use crate::put::{self};
+use node_words::Node;
 ghost use mathlib.Core.Path.{_≡_};
 ghost use Prim.Native.Nat.{_+_};
-ghost use Rattle.merge_words.specs.NodeWords.{upward, allNode, numberNode, oldNode, newNode, pointerOf, capped};
-
-pub const IMP: usize = 3;
-
-pub const EQ: usize = 4;
+ghost use Rattle.merge_words.specs.NodeWords.{upward, impNode, eqNode, allNode, numberNode, oldNode, newNode, pointerOf, capped};
+ghost use Rattle.node_words.specs.Nodes.{wordFor};
 
 // A number from 0 up, with the bias.
 pub fn upward(z: usize) -> usize
@@ -14,32 +13,53 @@ pub fn upward(z: usize) -> usize
     32768 + z % 4294967296
 }
 
+// The word of a node.
+fn held(node: Node) -> usize
+    ensures { λ r. ⌜ r ≡ wordFor node ⌝ }
+{
+    arithmetic::index(node_words::word_of(node))
+}
+
+// `imp`.
+pub fn imp_node() -> usize
+    ensures { λ r. ⌜ r ≡ impNode ⌝ }
+{
+    held(Node::Imp)
+}
+
+// `eq`.
+pub fn eq_node() -> usize
+    ensures { λ r. ⌜ r ≡ eqNode ⌝ }
+{
+    held(Node::Eq)
+}
+
 // `all K`.
 pub fn all_node(k: usize) -> usize
     ensures { λ r. ⌜ r ≡ allNode k ⌝ }
 {
-    16 * (k % 4294967296)
+    held(Node::All(put::narrow(k)))
 }
 
 // A number from 0 up.
 pub fn number_node(z: usize) -> usize
     ensures { λ r. ⌜ r ≡ numberNode z ⌝ }
 {
-    6 + 16 * (32768 + z % 4294967296)
+    held(Node::Number(put::narrow(upward(z))))
 }
 
 // `vK`.
 pub fn old_node(k: usize) -> usize
     ensures { λ r. ⌜ r ≡ oldNode k ⌝ }
 {
-    7 + 16 * (k % 4294967296)
+    held(Node::Old(put::narrow(k)))
 }
 
 // `nK`.
 pub fn new_node(k: usize) -> usize
     ensures { λ r. ⌜ r ≡ newNode k ⌝ }
 {
-    8 + 16 * (k % 4294967296)
+    held(Node::New(put::narrow(k)))
 }
 
 // The sum of two words: automaton i's pointer, after so many variables.
