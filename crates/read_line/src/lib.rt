@@ -11,7 +11,6 @@ use line_order::Counts;
 use line_order::Key;
 use model::Model;
 ghost use mathlib.Core.Path.{_≡_};
-ghost use Rattle.read_predicate.specs.Scratch.{Scratch};
 ghost use Rattle.read_line.specs.Line.{lineRead, lineAfter};
 
 // Sound: the line's number if it counts something or is the format's, the nodes of its predicate, and the place of the next
@@ -21,8 +20,7 @@ pub enum LineRead {
     Fault(u32),
 }
 
-// The line's bytes without the LF, and whether an LF ended it; `words` is the table so far, `at` the place of its next
-// word, `scratch` is for a predicate's words, and `sorts` for their sorts: scratch memory both.
+// The line's bytes without the LF, and whether an LF ended it; `words` is the table so far, `at` the place of its next word.
 pub fn read(
     line: &[u8],
     ended: bool,
@@ -30,12 +28,8 @@ pub fn read(
     counts: Counts,
     words: &mut [u32; Model::WORDS],
     at: usize,
-    scratch: &mut [u32; 32768],
-    sorts: &mut [bool; 32768],
 ) -> LineRead
     ensures { λ r. ⌜ (r ≡ lineRead (now (line .entry)) ended key counts (now (words .entry)) at) × (now (words .exit) ≡ lineAfter (now (line .entry)) ended key counts (now (words .entry)) at) ⌝ }
-    ensures { λ _. ⌜ Scratch (now (scratch .entry)) (now (scratch .exit))
-        × Scratch (now (sorts .entry)) (now (sorts .exit)) ⌝ }
 {
     match key {
         Key::Format => number::format(line, ended, words, at),
@@ -77,13 +71,13 @@ pub fn read(
             words,
             at,
         ),
-        Key::Init => predicates::location(line, ended, b"init=", counts, words, at, scratch, sorts),
-        Key::Inv => predicates::location(line, ended, b"inv=", counts, words, at, scratch, sorts),
+        Key::Init => predicates::location(line, ended, b"init=", counts, words, at),
+        Key::Inv => predicates::location(line, ended, b"inv=", counts, words, at),
         Key::Edges => {
             let before = counts.edges;
             number::edges(line, ended, before, words, at)
         }
-        Key::Edge => edge::edge(line, ended, counts, words, at, scratch, sorts),
+        Key::Edge => edge::edge(line, ended, counts, words, at),
         Key::Compose => composition::composition(line, ended, counts, words, at),
         Key::End => LineRead::Fault(2),
     }

@@ -2,7 +2,6 @@
 use Rattle.format.specs.Spelling.{spelling}
 use Rattle.read_line.specs.Line.{lineRead, lineAfter}
 use Rattle.read_line.proofs.DispatchLaws.{dispatch-laws}
-use Rattle.read_predicate.proofs.ScratchLaws.{scratch-laws}
 use borrow.Author.Needs.{needs}
 use Rattle.read_line.proofs.read.Statement.{statement}
 use Rattle.read_line.proofs.read.Tie as tie
@@ -111,55 +110,55 @@ enum-told-13 c = search needs
 
 returns : tie.Need-returns
 unfolding lineRead lineAfter spelling
-returns c = search (needs, dispatch-laws, scratch-laws)
+returns c = search (needs, dispatch-laws)
 
 returns-2 : tie.Need-returns-2
 unfolding lineRead lineAfter spelling
-returns-2 c = search (needs, dispatch-laws, scratch-laws)
+returns-2 c = search (needs, dispatch-laws)
 
 returns-3 : tie.Need-returns-3
 unfolding lineRead lineAfter spelling
-returns-3 c = search (needs, dispatch-laws, scratch-laws)
+returns-3 c = search (needs, dispatch-laws)
 
 returns-4 : tie.Need-returns-4
 unfolding lineRead lineAfter spelling
-returns-4 c = search (needs, dispatch-laws, scratch-laws)
+returns-4 c = search (needs, dispatch-laws)
 
 returns-5 : tie.Need-returns-5
 unfolding lineRead lineAfter spelling
-returns-5 c = search (needs, dispatch-laws, scratch-laws)
+returns-5 c = search (needs, dispatch-laws)
 
 returns-6 : tie.Need-returns-6
 unfolding lineRead lineAfter spelling
-returns-6 c = search (needs, dispatch-laws, scratch-laws)
+returns-6 c = search (needs, dispatch-laws)
 
 returns-7 : tie.Need-returns-7
 unfolding lineRead lineAfter spelling
-returns-7 c = search (needs, dispatch-laws, scratch-laws)
+returns-7 c = search (needs, dispatch-laws)
 
 returns-8 : tie.Need-returns-8
 unfolding lineRead lineAfter spelling
-returns-8 c = search (needs, dispatch-laws, scratch-laws)
+returns-8 c = search (needs, dispatch-laws)
 
 returns-9 : tie.Need-returns-9
 unfolding lineRead lineAfter spelling
-returns-9 c = search (needs, dispatch-laws, scratch-laws)
+returns-9 c = search (needs, dispatch-laws)
 
 returns-10 : tie.Need-returns-10
 unfolding lineRead lineAfter spelling
-returns-10 c = search (needs, dispatch-laws, scratch-laws)
+returns-10 c = search (needs, dispatch-laws)
 
 returns-11 : tie.Need-returns-11
 unfolding lineRead lineAfter spelling
-returns-11 c = search (needs, dispatch-laws, scratch-laws)
+returns-11 c = search (needs, dispatch-laws)
 
 returns-12 : tie.Need-returns-12
 unfolding lineRead lineAfter spelling
-returns-12 c = search (needs, dispatch-laws, scratch-laws)
+returns-12 c = search (needs, dispatch-laws)
 
 returns-13 : tie.Need-returns-13
 unfolding lineRead lineAfter spelling
-returns-13 c = search (needs, dispatch-laws, scratch-laws)
+returns-13 c = search (needs, dispatch-laws)
 
 pub read-spec : {M : Type 1} → statement M
 read-spec =
