@@ -324,3 +324,24 @@ module _ (part : Bytes) (room high : ℕ) (enough : length part ≤ 2 * room) (s
             (elim v as (λ x. Nodes) [ true ↦ onWords o variables ranges before top (codesOf part) (answer (codesOf part) most) | false ↦ Unsound 3 ])
         go true e = words-same e (answer (codesOf part) room) refl ∙ ap (onWords o variables ranges before top (codesOf part)) (answer-same most up)
         go false e = refl
+
+-- In one: of any bytes, with a place for every two of them, the answer is the smallest row of the text that is broken, or the number of
+-- the predicate's nodes, and these stand in front of the lent memory.
+pub record Exact (declared : List Range) (ranges : List ℕ) (before : ℕ) (part : Bytes) (o : Bool) (old : List ℕ) (high : ℕ) : Type 0 where
+  pub answer : nodesRead part o (length declared) ranges before (length old) high ≡ told (nodeCount (textPred part)) (textFault declared before o part none)
+  pub memory : textFault declared before o part none ≡ none → take (nodeCount (textPred part)) (nodesAfter part old) ≡ map code (words (textPred part))
+
+pub read-exact : (declared : List Range) (ranges : List ℕ) → declaredOf ranges ≡ declared → ((x : Range) → List·Memᴰ x declared → LawfulRange x)
+    → (before : ℕ) (part : Bytes) (o : Bool) (old : List ℕ) (high : ℕ) → length part ≤ 2 * length old → length part ≤ 2 * high
+    → Exact declared ranges before part o old high
+unfolding told
+read-exact declared ranges are lawful before part o old high enough sorts =
+    go (textFault declared before o part none) (read-rows declared ranges are lawful before part o (length old) high enough sorts) refl
+  where
+    go : (f : Option ℕ) → nodesRead part o (length declared) ranges before (length old) high ≡ told (length (codesOf part)) f → textFault declared before o part none ≡ f
+        → Exact declared ranges before part o old high
+    go none e h =
+        let a = accepted part o (length declared) ranges before (length old) high (length (codesOf part)) e in
+        let s = accepted-stands part o (length declared) ranges before (length old) high (length (codesOf part)) old refl e in
+        record { answer = e ∙ ap Are (a .size) ∙ rw h; memory = λ q. rw (← a .size) (s ∙ a .codes) }
+    go (some row) e h = record { answer = e ∙ rw h; memory = λ q. absurd (let z : _≡_ {A = ℕ} 0 1 = cc in omega arith) }
