@@ -5,7 +5,7 @@ use mathlib.Core.Bool.{Bool, true, false, not, _||_}
 use mathlib.Core.List.{List, [], _∷_}
 use mathlib.Core.Option.{Option, none, some}
 use native.Mathlib.Omega.{arith}
-use lib.ListN.{length, getD, take, drop}
+use lib.ListN.{length, getD, take, drop, length-drop}
 use lib.IntN.{pos}
 use lib.Dec.{leb, ltb, eqb}
 use Rattle.model.specs.Bounds.{maxNodes}
@@ -54,9 +54,12 @@ part-long c (b ∷ t) i = go (eqb b c) i (part-long c t)
     go true (suc j) ih = omega (arith, ih j)
     go false j ih = omega (arith, ih j, onto-long b (parts c t) j)
 
-pub field-within : (i : ℕ) (v : Bytes) → length (fieldIn i v) ≤ length v
+field-within : (i : ℕ) (v : Bytes) → length (fieldIn i v) ≤ length v
 unfolding fieldIn
 field-within i v = part-long comma v i
+
+pub field-long : (i : ℕ) (s : Bytes) → length (fieldIn i (valueAfter edgeName s)) ≤ length s
+field-long i s = omega (arith, field-within i (valueAfter edgeName s), length-drop (length edgeName) s)
 
 -- `field`: what is left of the fields, from a place on
 pub record Fields (v : Bytes) (number at left : ℕ) : Type 0 where
@@ -279,72 +282,58 @@ module _ (v : Bytes) (c : Counts) (t : List ℕ) (at : ℕ) (old : List ℕ) (hi
             unfolding afterValue
             value-put after hn = hn ∙ ap (λ (l : List ℕ). put at l t) all-words ∙ line-put _ at _ t unbroken-all
 
-pub ruleset value-in-laws = (value-unsound, value-unsound-kept, value-row, value-row-kept, value-full, value-full-kept, value-few, value-astray, value-astray-kept, value-are, value-put)
-
--- `read_value`
-module _ (c : Counts) (words : List ℕ) (v : Bytes) (at : ℕ) where
-  module _ (room : ℕ) (a : length v ≤ 2 * room) (b : length v ≤ 65536) where
-    same-row : valueFault c words v room room ≡ valueFault c words v mostWords mostWords
-    unfolding valueFault
-    same-row =
-        let l = field-within 3 v in
-        ap (λ (o : Option ℕ). broken 3 (not (endsSound v)) (thenRow o (broken 12 (astray c (naturalOf (fieldIn 0 v)) (naturalOf (fieldIn 1 v)) (naturalOf (fieldIn 2 v))) none)))
-        (fault-same (fieldIn 3 v) false c words room room mostWords mostWords (omega arith) (omega arith) (omega arith) (omega arith))
-
-    same-read : (r : LineRead) → r ≡ valueRead c words v room room at → r ≡ valueRead c words v mostWords mostWords at
-    unfolding valueRead
-    same-read r h = h ∙ ap (λ (o : Option ℕ). lineTold o (length (codesOf (fieldIn 3 v))) at (valueWords v)) same-row
-
-    same-after : (t : List ℕ) → t ≡ afterValue c words v room room at → t ≡ afterValue c words v mostWords mostWords at
-    unfolding afterValue
-    same-after t h = h ∙ ap (λ (o : Option ℕ). lineAfter o at (valueWords v) words) same-row
-
-  module _ (h : length v ≤ 256) where
-    pub value-short : (r : LineRead) → r ≡ valueRead c words v 128 128 at → r ≡ valueRead c words v mostWords mostWords at
-    value-short = same-read 128 h (omega arith)
-
-    pub value-short-after : (t : List ℕ) → t ≡ afterValue c words v 128 128 at → t ≡ afterValue c words v mostWords mostWords at
-    value-short-after = same-after 128 h (omega arith)
-
-  module _ (h : length v ≤ 4096) where
-    pub value-middle : (r : LineRead) → r ≡ valueRead c words v 2048 2048 at → r ≡ valueRead c words v mostWords mostWords at
-    value-middle = same-read 2048 h (omega arith)
-
-    pub value-middle-after : (t : List ℕ) → t ≡ afterValue c words v 2048 2048 at → t ≡ afterValue c words v mostWords mostWords at
-    value-middle-after = same-after 2048 h (omega arith)
-
-pub ruleset value-laws = (value-short, value-short-after, value-middle, value-middle-after)
+pub ruleset value-laws = (value-unsound, value-unsound-kept, value-row, value-row-kept, value-full, value-full-kept, value-few, value-astray, value-astray-kept, value-are, value-put)
 
 -- `edge`
-module _ (s : Bytes) (ended : Bool) (c : Counts) (t : List ℕ) (at : ℕ) (p : Bool) (hp : p ≡ misformed edgeName 4 s ended) where
+module _ (s : Bytes) (ended : Bool) (c : Counts) (t : List ℕ) (room high at : ℕ) (p : Bool) (hp : p ≡ misformed edgeName 4 s ended) where
   module _ (h : p ≡ true) where
-    form-row : edgeFault s ended c t ≡ some 2
+    form-row : edgeFault s ended c t room high ≡ some 2
     unfolding edgeFault
     form-row = broken-hit 2 _ _ (sym hp ∙ h)
 
-    pub edge-form : Fault 2 ≡ edgeRead s ended c t at
+    pub edge-form : Fault 2 ≡ edgeRead s ended c t room high at
     unfolding edgeRead
     edge-form = line-row _ 2 _ at _ form-row
 
-    pub edge-form-kept : t ≡ edgeAfter s ended c t at
+    pub edge-form-kept : t ≡ edgeAfter s ended c t room high at
     unfolding edgeAfter
     edge-form-kept = line-kept _ 2 at _ t form-row
 
   module _ (h : p ≡ false) (v : Bytes) (hv : v ≡ valueAfter edgeName s) where
-    rest-row : valueFault c t v mostWords mostWords ≡ edgeFault s ended c t
+    rest-row : valueFault c t v room high ≡ edgeFault s ended c t room high
     unfolding edgeFault
-    rest-row = ap (λ (x : Bytes). valueFault c t x mostWords mostWords) hv ∙ sym (broken-past 2 _ _ (sym hp ∙ h))
+    rest-row = ap (λ (x : Bytes). valueFault c t x room high) hv ∙ sym (broken-past 2 _ _ (sym hp ∙ h))
 
-    pub edge-value : (r : LineRead) → r ≡ valueRead c t v mostWords mostWords at → r ≡ edgeRead s ended c t at
+    pub edge-value : (r : LineRead) → r ≡ valueRead c t v room high at → r ≡ edgeRead s ended c t room high at
     unfolding valueRead edgeRead
     edge-value r hr =
         hr ∙ ap (λ (o : Option ℕ). lineTold o (length (codesOf (fieldIn 3 v))) at (valueWords v)) rest-row ∙
-        ap (λ (x : Bytes). lineTold (edgeFault s ended c t) (length (codesOf (fieldIn 3 x))) at (valueWords x)) hv
+        ap (λ (x : Bytes). lineTold (edgeFault s ended c t room high) (length (codesOf (fieldIn 3 x))) at (valueWords x)) hv
 
-    pub edge-value-put : (new : List ℕ) → new ≡ afterValue c t v mostWords mostWords at → new ≡ edgeAfter s ended c t at
+    pub edge-value-put : (new : List ℕ) → new ≡ afterValue c t v room high at → new ≡ edgeAfter s ended c t room high at
     unfolding afterValue edgeAfter
     edge-value-put new hn =
         hn ∙ ap (λ (o : Option ℕ). lineAfter o at (valueWords v) t) rest-row ∙
-        ap (λ (x : Bytes). lineAfter (edgeFault s ended c t) at (valueWords x) t) hv
+        ap (λ (x : Bytes). lineAfter (edgeFault s ended c t room high) at (valueWords x) t) hv
 
 pub ruleset edge-laws = (edge-form, edge-form-kept, edge-value, edge-value-put)
+
+-- more room than enough changes nothing
+module _ (s : Bytes) (ended : Bool) (c : Counts) (t : List ℕ) (at room : ℕ) (a : length s ≤ 2 * room) (b : length s ≤ 65536) where
+  abbrev value : Bytes
+  value = valueAfter edgeName s
+
+  edge-same : edgeFault s ended c t room room ≡ edgeFault s ended c t mostWords mostWords
+  unfolding edgeFault valueFault
+  edge-same =
+      let l = field-long 3 s in
+      ap (λ (o : Option ℕ). broken 2 (misformed edgeName 4 s ended) (broken 3 (not (endsSound value)) (thenRow o (broken 12 (astray c (naturalOf (fieldIn 0 value)) (naturalOf (fieldIn 1 value)) (naturalOf (fieldIn 2 value))) none))))
+      (fault-same (fieldIn 3 value) false c t room room mostWords mostWords (omega arith) (omega arith) (omega arith) (omega arith))
+
+  pub edge-room : edgeRead s ended c t room room at ≡ edgeRead s ended c t mostWords mostWords at
+  unfolding edgeRead
+  edge-room = ap (λ (o : Option ℕ). lineTold o (length (codesOf (fieldIn 3 value))) at (valueWords value)) edge-same
+
+  pub edge-room-after : edgeAfter s ended c t room room at ≡ edgeAfter s ended c t mostWords mostWords at
+  unfolding edgeAfter
+  edge-room-after = ap (λ (o : Option ℕ). lineAfter o at (valueWords value) t) edge-same

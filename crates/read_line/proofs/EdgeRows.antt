@@ -5,7 +5,7 @@ use mathlib.Core.Bool.{Bool, true, false, not, _&&_}
 use mathlib.Core.List.{List, [], _∷_}
 use mathlib.Core.Option.{Option, none, some}
 use native.Mathlib.Omega.{arith}
-use lib.ListN.{length, getD, length-drop}
+use lib.ListN.{length}
 use lib.IntN.{pos}
 use lib.Dec.{eqb}
 use Rattle.model.specs.Bounds.{maxBytes, maxActions, lastLocation}
@@ -35,11 +35,7 @@ use Rattle.read_line.specs.Edge.{fieldIn, endsSound, astray, thenRow, va
 use Rattle.read_line.proofs.FormLaws.{row2-by}
 use Rattle.read_line.proofs.PredicateLaws.{line-row, line-sound, line-put}
 use Rattle.read_line.proofs.PredicateRows.{predicate-rows, accepted-row, accepted-words, line-long}
-use Rattle.read_line.proofs.EdgeLaws.{field-within}
-
--- a field is no longer than its line
-field-long : (i : ℕ) (s : Bytes) → length (fieldIn i (valueAfter edgeName s)) ≤ length s
-field-long i s = omega (arith, field-within i (valueAfter edgeName s), length-drop (length edgeName) s)
+use Rattle.read_line.proofs.EdgeLaws.{field-long}
 
 -- rows after those of a predicate
 then-broken : (row : ℕ) (b : Bool) (x rest : Option ℕ) → thenRow (broken row b x) rest ≡ broken row b (thenRow x rest)
@@ -108,7 +104,7 @@ module _ (s : Bytes) (ended : Bool) where
     unfolding astray isAstray
     astray-is from action to = rw (n .locations, n .actions)
 
-    pub edge-rows : edgeFault s ended c t ≡ fault r edge (lineOf s ended)
+    pub edge-rows : edgeFault s ended c t mostWords mostWords ≡ fault r edge (lineOf s ended)
     unfolding edgeFault valueFault valueOf spelling
     edge-rows =
         same-row 2 _ _ _ _ form-is
@@ -121,13 +117,13 @@ module _ (s : Bytes) (ended : Bool) where
         ∙ sym (edge-text r (lineOf s ended))
 
     module _ (at : ℕ) where
-      pub edge-faulty : (row : ℕ) → fault r edge (lineOf s ended) ≡ some row → edgeRead s ended c t at ≡ Fault row
+      pub edge-faulty : (row : ℕ) → fault r edge (lineOf s ended) ≡ some row → edgeRead s ended c t mostWords mostWords at ≡ Fault row
       unfolding edgeRead
       edge-faulty row h = sym (line-row _ row _ at _ (edge-rows ∙ h))
 
       pub edge-sound : fault r edge (lineOf s ended) ≡ none
-          → (edgeRead s ended c t at ≡ Sound (numberOf (entry edge (lineOf s ended))) (nodesOf (entry edge (lineOf s ended))) (nextPlace at (length (lineWords (entry edge (lineOf s ended))))))
-          × (edgeAfter s ended c t at ≡ put at (lineWords (entry edge (lineOf s ended))) t)
+          → (edgeRead s ended c t mostWords mostWords at ≡ Sound (numberOf (entry edge (lineOf s ended))) (nodesOf (entry edge (lineOf s ended))) (nextPlace at (length (lineWords (entry edge (lineOf s ended))))))
+          × (edgeAfter s ended c t mostWords mostWords at ≡ put at (lineWords (entry edge (lineOf s ended))) t)
       unfolding edgeRead edgeAfter edgeFault valueFault valueWords
       edge-sound h =
           let l = lineOf s ended in
@@ -143,6 +139,6 @@ module _ (s : Bytes) (ended : Bool) where
           )
 
 -- the buffer keeps its length
-pub edge-kept : (s : Bytes) (ended : Bool) (c : Counts) (t : List ℕ) (at : ℕ) → length (edgeAfter s ended c t at) ≡ length t
+pub edge-kept : (s : Bytes) (ended : Bool) (c : Counts) (t : List ℕ) (room high at : ℕ) → length (edgeAfter s ended c t room high at) ≡ length t
 unfolding edgeAfter
-edge-kept s ended c t at = line-long _ at _ t
+edge-kept s ended c t room high at = line-long _ at _ t

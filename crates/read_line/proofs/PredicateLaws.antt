@@ -5,8 +5,9 @@ use mathlib.Core.Bool.{Bool, true, false}
 use mathlib.Core.List.{List, [], _∷_}
 use mathlib.Core.Option.{Option, none, some}
 use native.Mathlib.Omega.{arith}
-use lib.ListN.{length, take}
+use lib.ListN.{length, take, length-drop}
 use Rattle.model.specs.Bounds.{maxNodes}
+use Rattle.model.specs.Limits.{broken}
 use Rattle.line_order.specs.declared.Counts.{Counts}
 use Rattle.table_check.specs.Line.{rangesIn}
 use Rattle.format.specs.Bytes.{Bytes}
@@ -96,7 +97,7 @@ pub line-put : (f : Option ℕ) (at : ℕ) (new words : List ℕ) → f ≡ none
 unfolding lineAfter
 line-put f at new words h = rw h
 
--- `located_in`
+-- `located`
 module _ (c : Counts) (words : List ℕ) (v : Bytes) (at : ℕ) (old : List ℕ) (high : ℕ) (r : Nodes) (k : r ≡ predicateRead v true c words (length old) high) where
   module _ (row : ℕ) (e : r ≡ Unsound row) where
     pub located-row : Fault row ≡ locatedRead c words v (length old) high at
@@ -135,68 +136,54 @@ module _ (c : Counts) (words : List ℕ) (v : Bytes) (at : ℕ) (old : List ℕ)
       unfolding locatedAfter
       located-put t hn = hn ∙ ap (λ (l : List ℕ). put at l words) stand ∙ line-put _ at _ words (told-fine v true c words (length old) high r k n e)
 
-pub ruleset located-in-laws = (located-row, located-row-kept, located-full, located-full-kept, located-few, located-are, located-put)
-
--- `located`
-module _ (c : Counts) (words : List ℕ) (v : Bytes) (at : ℕ) where
-  module _ (room : ℕ) (a : length v ≤ 2 * room) (b : length v ≤ 65536) where
-    same-row : predicateFault v true c words room room ≡ predicateFault v true c words mostWords mostWords
-    same-row = fault-same v true c words room room mostWords mostWords a a (omega arith) (omega arith)
-
-    same-read : (r : LineRead) → r ≡ locatedRead c words v room room at → r ≡ locatedRead c words v mostWords mostWords at
-    unfolding locatedRead
-    same-read r h = h ∙ ap (λ (o : Option ℕ). lineTold o (length (codesOf v)) at (counted (codesOf v))) same-row
-
-    same-after : (t : List ℕ) → t ≡ locatedAfter c words v room room at → t ≡ locatedAfter c words v mostWords mostWords at
-    unfolding locatedAfter
-    same-after t h = h ∙ ap (λ (o : Option ℕ). lineAfter o at (counted (codesOf v)) words) same-row
-
-  module _ (h : length v ≤ 256) where
-    pub located-short : (r : LineRead) → r ≡ locatedRead c words v 128 128 at → r ≡ locatedRead c words v mostWords mostWords at
-    located-short = same-read 128 h (omega arith)
-
-    pub located-short-after : (t : List ℕ) → t ≡ locatedAfter c words v 128 128 at → t ≡ locatedAfter c words v mostWords mostWords at
-    located-short-after = same-after 128 h (omega arith)
-
-  module _ (h : length v ≤ 4096) where
-    pub located-middle : (r : LineRead) → r ≡ locatedRead c words v 2048 2048 at → r ≡ locatedRead c words v mostWords mostWords at
-    located-middle = same-read 2048 h (omega arith)
-
-    pub located-middle-after : (t : List ℕ) → t ≡ locatedAfter c words v 2048 2048 at → t ≡ locatedAfter c words v mostWords mostWords at
-    located-middle-after = same-after 2048 h (omega arith)
-
-pub ruleset located-laws = (located-short, located-short-after, located-middle, located-middle-after)
+pub ruleset located-laws = (located-row, located-row-kept, located-full, located-full-kept, located-few, located-are, located-put)
 
 -- `location`
-module _ (name s : Bytes) (ended : Bool) (c : Counts) (words : List ℕ) (at : ℕ) (p : Bool) (hp : p ≡ misformed name 1 s ended) where
+module _ (name s : Bytes) (ended : Bool) (c : Counts) (words : List ℕ) (room high at : ℕ) (p : Bool) (hp : p ≡ misformed name 1 s ended) where
   module _ (h : p ≡ true) where
-    form-row : locationFault name s ended c words ≡ some 2
+    form-row : locationFault name s ended c words room high ≡ some 2
     unfolding locationFault
     form-row = broken-hit 2 _ _ (sym hp ∙ h)
 
-    pub location-form : Fault 2 ≡ locationRead name s ended c words at
+    pub location-form : Fault 2 ≡ locationRead name s ended c words room high at
     unfolding locationRead
     location-form = line-row _ 2 _ at _ form-row
 
-    pub location-form-kept : words ≡ locationAfter name s ended c words at
+    pub location-form-kept : words ≡ locationAfter name s ended c words room high at
     unfolding locationAfter
     location-form-kept = line-kept _ 2 at _ words form-row
 
   module _ (h : p ≡ false) (v : Bytes) (hv : v ≡ valueAfter name s) where
-    rest-is : predicateFault v true c words mostWords mostWords ≡ locationFault name s ended c words
+    rest-is : predicateFault v true c words room high ≡ locationFault name s ended c words room high
     unfolding locationFault
-    rest-is = ap (λ (x : Bytes). predicateFault x true c words mostWords mostWords) hv ∙ sym (broken-past 2 _ _ (sym hp ∙ h))
+    rest-is = ap (λ (x : Bytes). predicateFault x true c words room high) hv ∙ sym (broken-past 2 _ _ (sym hp ∙ h))
 
-    pub location-value : (r : LineRead) → r ≡ locatedRead c words v mostWords mostWords at → r ≡ locationRead name s ended c words at
+    pub location-value : (r : LineRead) → r ≡ locatedRead c words v room high at → r ≡ locationRead name s ended c words room high at
     unfolding locatedRead locationRead
     location-value r hr =
         hr ∙ ap (λ (o : Option ℕ). lineTold o (length (codesOf v)) at (counted (codesOf v))) rest-is ∙
-        ap (λ (x : Bytes). lineTold (locationFault name s ended c words) (length (codesOf x)) at (counted (codesOf x))) hv
+        ap (λ (x : Bytes). lineTold (locationFault name s ended c words room high) (length (codesOf x)) at (counted (codesOf x))) hv
 
-    pub location-value-put : (t : List ℕ) → t ≡ locatedAfter c words v mostWords mostWords at → t ≡ locationAfter name s ended c words at
+    pub location-value-put : (t : List ℕ) → t ≡ locatedAfter c words v room high at → t ≡ locationAfter name s ended c words room high at
     unfolding locatedAfter locationAfter
     location-value-put t ht =
         ht ∙ ap (λ (o : Option ℕ). lineAfter o at (counted (codesOf v)) words) rest-is ∙
-        ap (λ (x : Bytes). lineAfter (locationFault name s ended c words) at (counted (codesOf x)) words) hv
+        ap (λ (x : Bytes). lineAfter (locationFault name s ended c words room high) at (counted (codesOf x)) words) hv
 
 pub ruleset location-laws = (location-form, location-form-kept, location-value, location-value-put)
+
+-- more room than enough changes nothing
+module _ (name s : Bytes) (ended : Bool) (c : Counts) (words : List ℕ) (at room : ℕ) (a : length s ≤ 2 * room) (b : length s ≤ 65536) where
+  location-same : locationFault name s ended c words room room ≡ locationFault name s ended c words mostWords mostWords
+  unfolding locationFault
+  location-same =
+      let l = length-drop (length name) s in
+      ap (broken 2 (misformed name 1 s ended)) (fault-same (valueAfter name s) true c words room room mostWords mostWords (omega arith) (omega arith) (omega arith) (omega arith))
+
+  pub location-room : locationRead name s ended c words room room at ≡ locationRead name s ended c words mostWords mostWords at
+  unfolding locationRead
+  location-room = ap (λ (o : Option ℕ). lineTold o (length (codesOf (valueAfter name s))) at (counted (codesOf (valueAfter name s)))) location-same
+
+  pub location-room-after : locationAfter name s ended c words room room at ≡ locationAfter name s ended c words mostWords mostWords at
+  unfolding locationAfter
+  location-room-after = ap (λ (o : Option ℕ). lineAfter o at (counted (codesOf (valueAfter name s))) words) location-same

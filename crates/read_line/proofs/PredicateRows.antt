@@ -118,7 +118,7 @@ module _ (k : Key) (of : OfLocation k) (s : Bytes) (ended : Bool) where
       of .value (lineOf s ended) ∙ one-field v (eqb-true (length (parts comma v)) 1 (not-false _ g))
 
   module _ (r : Reading) (c : Counts) (t : List ℕ) (n : Counted r c) (d : Declared t r) (short : length s ≤ maxBytes) where
-    pub location-rows : locationFault (spelling k) s ended c t ≡ fault r k (lineOf s ended)
+    pub location-rows : locationFault (spelling k) s ended c t mostWords mostWords ≡ fault r k (lineOf s ended)
     unfolding locationFault
     location-rows =
         same-row 2 _ _ _ _ form-is
@@ -127,13 +127,13 @@ module _ (k : Key) (of : OfLocation k) (s : Bytes) (ended : Bool) where
         ∙ sym (of .rows r (lineOf s ended))
 
     module _ (at : ℕ) where
-      pub location-faulty : (row : ℕ) → fault r k (lineOf s ended) ≡ some row → locationRead (spelling k) s ended c t at ≡ Fault row
+      pub location-faulty : (row : ℕ) → fault r k (lineOf s ended) ≡ some row → locationRead (spelling k) s ended c t mostWords mostWords at ≡ Fault row
       unfolding locationRead
       location-faulty row h = sym (line-row _ row _ at _ (location-rows ∙ h))
 
       pub location-sound : fault r k (lineOf s ended) ≡ none
-          → (locationRead (spelling k) s ended c t at ≡ Sound (numberOf (entry k (lineOf s ended))) (nodesOf (entry k (lineOf s ended))) (nextPlace at (length (lineWords (entry k (lineOf s ended))))))
-          × (locationAfter (spelling k) s ended c t at ≡ put at (lineWords (entry k (lineOf s ended))) t)
+          → (locationRead (spelling k) s ended c t mostWords mostWords at ≡ Sound (numberOf (entry k (lineOf s ended))) (nodesOf (entry k (lineOf s ended))) (nextPlace at (length (lineWords (entry k (lineOf s ended))))))
+          × (locationAfter (spelling k) s ended c t mostWords mostWords at ≡ put at (lineWords (entry k (lineOf s ended))) t)
       unfolding locationRead locationAfter locationFault
       location-sound h =
           let l = lineOf s ended in
@@ -150,6 +150,6 @@ module _ (k : Key) (of : OfLocation k) (s : Bytes) (ended : Bool) where
           )
 
 -- the buffer keeps its length
-pub location-kept : (name s : Bytes) (ended : Bool) (c : Counts) (t : List ℕ) (at : ℕ) → length (locationAfter name s ended c t at) ≡ length t
+pub location-kept : (name s : Bytes) (ended : Bool) (c : Counts) (t : List ℕ) (room high at : ℕ) → length (locationAfter name s ended c t room high at) ≡ length t
 unfolding locationAfter
-location-kept name s ended c t at = line-long _ at _ t
+location-kept name s ended c t room high at = line-long _ at _ t

@@ -16,7 +16,7 @@ use Rattle.read_line.specs.declared.edge.Ends.{Ends}
 use Rattle.read_line.specs.declared.edge.Ends.the-variants.{Are, Unsound}
 use Rattle.read_line.specs.Form.{valueAfter, misformed}
 use Rattle.read_nodes.specs.Nodes.{codesOf}
-use Rattle.read_line.specs.Predicate.{mostWords, predicateFault, counted, lineTold, lineAfter}
+use Rattle.read_line.specs.Predicate.{predicateFault, counted, lineTold, lineAfter}
 
 -- a field of a value that commas part
 unfoldable pub fieldIn : ℕ → Bytes → Bytes
@@ -68,9 +68,9 @@ module _ (c : Counts) (words : List ℕ) (v : Bytes) (room high : ℕ) (at : ℕ
 abbrev pub edgeName : Bytes
 edgeName = bytes "edge="
 
-module _ (s : Bytes) (ended : Bool) (c : Counts) (words : List ℕ) where
+module _ (s : Bytes) (ended : Bool) (c : Counts) (words : List ℕ) (room high : ℕ) where
   unfoldable pub edgeFault : Option ℕ
-  edgeFault = broken 2 (misformed edgeName 4 s ended) (valueFault c words (valueAfter edgeName s) mostWords mostWords)
+  edgeFault = broken 2 (misformed edgeName 4 s ended) (valueFault c words (valueAfter edgeName s) room high)
 
   unfoldable pub edgeRead : (at : ℕ) → LineRead
   edgeRead at = lineTold edgeFault (length (codesOf (fieldIn 3 (valueAfter edgeName s)))) at (valueWords (valueAfter edgeName s))

@@ -56,9 +56,9 @@ module _ (c : Counts) (words : List ℕ) (v : Bytes) (room high : ℕ) (at : ℕ
   locatedAfter = lineAfter (predicateFault v true c words room high) at (counted (codesOf v)) words
 
 -- init and inv, by the bytes of the key
-module _ (name s : Bytes) (ended : Bool) (c : Counts) (words : List ℕ) where
+module _ (name s : Bytes) (ended : Bool) (c : Counts) (words : List ℕ) (room high : ℕ) where
   unfoldable pub locationFault : Option ℕ
-  locationFault = broken 2 (misformed name 1 s ended) (predicateFault (valueAfter name s) true c words mostWords mostWords)
+  locationFault = broken 2 (misformed name 1 s ended) (predicateFault (valueAfter name s) true c words room high)
 
   unfoldable pub locationRead : (at : ℕ) → LineRead
   locationRead at = lineTold locationFault (length (codesOf (valueAfter name s))) at (counted (codesOf (valueAfter name s)))

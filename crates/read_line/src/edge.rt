@@ -13,7 +13,6 @@ ghost use Prim.Native.Nat.{suc, _≤_};
 ghost use lib.ListN.{length, take};
 ghost use Rattle.model.specs.Bounds.{maxNodes};
 ghost use Rattle.read_line.specs.Append.{nextPlace, put};
-ghost use Rattle.read_line.specs.Predicate.{mostWords};
 ghost use Rattle.read_line.specs.Edge.{fieldIn, endsIn, astray, valueRead, afterValue, edgeRead, edgeAfter};
 
 // FROM, ACT and TO, or that one of them is no number in its range.
@@ -86,8 +85,8 @@ fn append_edge(
 }
 
 // What stands after the key: row 3, the rows of P, where new values may stand, and then row 12. Nothing is written where one is
-// broken. `nodes` and `sorts` are scratch memory.
-fn read_value_in(
+// broken.
+fn read_value(
     value: &[u8],
     counts: Counts,
     words: &mut [u32; Model::WORDS],
@@ -116,26 +115,6 @@ fn read_value_in(
     }
 }
 
-// The same with memory of its own, as much as so many bytes need.
-fn read_value(value: &[u8], counts: Counts, words: &mut [u32; Model::WORDS], at: usize) -> LineRead
-    ensures { λ r. ⌜ r ≡ valueRead counts (now (words .entry)) (now (value .entry)) mostWords mostWords at ⌝ }
-    ensures { λ _. ⌜ now (words .exit) ≡ afterValue counts (now (words .entry)) (now (value .entry)) mostWords mostWords at ⌝ }
-{
-    if value.len() <= 256 {
-        let mut nodes = [0u32; 128];
-        let mut sorts = [false; 128];
-        return read_value_in(value, counts, words, at, &mut nodes, &mut sorts);
-    }
-    if value.len() <= 4096 {
-        let mut nodes = [0u32; 2048];
-        let mut sorts = [false; 2048];
-        return read_value_in(value, counts, words, at, &mut nodes, &mut sorts);
-    }
-    let mut nodes = [0u32; 32768];
-    let mut sorts = [false; 32768];
-    read_value_in(value, counts, words, at, &mut nodes, &mut sorts)
-}
-
 // Row 2, and then those of the value.
 pub fn edge(
     line: &[u8],
@@ -143,11 +122,16 @@ pub fn edge(
     counts: Counts,
     words: &mut [u32; Model::WORDS],
     at: usize,
+    nodes: &mut [u32],
+    sorts: &mut [bool],
 ) -> LineRead
-    ensures { λ r. ⌜ (r ≡ edgeRead (now (line .entry)) ended counts (now (words .entry)) at) × (now (words .exit) ≡ edgeAfter (now (line .entry)) ended counts (now (words .entry)) at) ⌝ }
+    ensures { λ r. ⌜ r ≡ edgeRead (now (line .entry)) ended counts (now (words .entry)) (length (now (nodes .entry)))
+        (length (now (sorts .entry))) at ⌝ }
+    ensures { λ _. ⌜ now (words .exit) ≡ edgeAfter (now (line .entry)) ended counts (now (words .entry))
+        (length (now (nodes .entry))) (length (now (sorts .entry))) at ⌝ }
 {
     if form::misformed(line, ended, b"edge=", 4) {
         return LineRead::Fault(2);
     }
-    read_value(form::value(line, b"edge="), counts, words, at)
+    read_value(form::value(line, b"edge="), counts, words, at, nodes, sorts)
 }

@@ -13,7 +13,7 @@ ghost use Rattle.model.specs.Bounds.{maxNodes};
 ghost use Rattle.read_predicate.specs.Scratch.{Scratch};
 ghost use Rattle.read_nodes.specs.Nodes.{nodesAfter};
 ghost use Rattle.read_line.specs.Append.{nextPlace, put};
-ghost use Rattle.read_line.specs.Predicate.{mostWords, predicateRead, locatedRead, locatedAfter, locationRead, locationAfter};
+ghost use Rattle.read_line.specs.Predicate.{predicateRead, locatedRead, locatedAfter, locationRead, locationAfter};
 
 // The predicate that the bytes spell, by the table so far; where `old`, it may name only old values.
 pub(crate) fn predicate(
@@ -49,8 +49,8 @@ pub(crate) fn append_nodes(
     append::append(words, next, from, n)
 }
 
-// The value of a location's line: the rows of P. Nothing is written where one is broken. `nodes` and `sorts` are scratch memory.
-fn located_in(
+// The value of a location's line: the rows of P. Nothing is written where one is broken.
+fn located(
     value: &[u8],
     counts: Counts,
     words: &mut [u32; Model::WORDS],
@@ -71,26 +71,6 @@ fn located_in(
     }
 }
 
-// The same with memory of its own, as much as so many bytes need: to clear the most would cost more than most lines.
-fn located(value: &[u8], counts: Counts, words: &mut [u32; Model::WORDS], at: usize) -> LineRead
-    ensures { λ r. ⌜ r ≡ locatedRead counts (now (words .entry)) (now (value .entry)) mostWords mostWords at ⌝ }
-    ensures { λ _. ⌜ now (words .exit) ≡ locatedAfter counts (now (words .entry)) (now (value .entry)) mostWords mostWords at ⌝ }
-{
-    if value.len() <= 256 {
-        let mut nodes = [0u32; 128];
-        let mut sorts = [false; 128];
-        return located_in(value, counts, words, at, &mut nodes, &mut sorts);
-    }
-    if value.len() <= 4096 {
-        let mut nodes = [0u32; 2048];
-        let mut sorts = [false; 2048];
-        return located_in(value, counts, words, at, &mut nodes, &mut sorts);
-    }
-    let mut nodes = [0u32; 32768];
-    let mut sorts = [false; 32768];
-    located_in(value, counts, words, at, &mut nodes, &mut sorts)
-}
-
 // A location's line with the key `name`: row 2, and those of P.
 pub fn location(
     line: &[u8],
@@ -99,11 +79,16 @@ pub fn location(
     counts: Counts,
     words: &mut [u32; Model::WORDS],
     at: usize,
+    nodes: &mut [u32],
+    sorts: &mut [bool],
 ) -> LineRead
-    ensures { λ r. ⌜ (r ≡ locationRead (now (name .entry)) (now (line .entry)) ended counts (now (words .entry)) at) × (now (words .exit) ≡ locationAfter (now (name .entry)) (now (line .entry)) ended counts (now (words .entry)) at) ⌝ }
+    ensures { λ r. ⌜ r ≡ locationRead (now (name .entry)) (now (line .entry)) ended counts (now (words .entry))
+        (length (now (nodes .entry))) (length (now (sorts .entry))) at ⌝ }
+    ensures { λ _. ⌜ now (words .exit) ≡ locationAfter (now (name .entry)) (now (line .entry)) ended counts (now (words .entry))
+        (length (now (nodes .entry))) (length (now (sorts .entry))) at ⌝ }
 {
     if form::misformed(line, ended, name, 1) {
         return LineRead::Fault(2);
     }
-    located(form::value(line, name), counts, words, at)
+    located(form::value(line, name), counts, words, at, nodes, sorts)
 }

@@ -22,6 +22,12 @@ value-requires c κs = search needs
 read-value-requires : tie.Need-read-value-requires
 read-value-requires c κs = search needs
 
+same-length : tie.Need-same-length
+same-length c = search needs
+
+same-length-2 : tie.Need-same-length-2
+same-length-2 c = search needs
+
 returns-2 : tie.Need-returns-2
 returns-2 c = search (needs, edge-laws)
 
@@ -35,4 +41,6 @@ edge-spec =
     slice-aggregate-value
     value-requires
     read-value-requires
+    same-length
+    same-length-2
     returns-2)

@@ -16,9 +16,23 @@ value-requires c κs = search needs
 located-requires : tie.Need-located-requires
 located-requires c κs = search needs
 
+same-length : tie.Need-same-length
+same-length c = search needs
+
+same-length-2 : tie.Need-same-length-2
+same-length-2 c = search needs
+
 returns-2 : tie.Need-returns-2
 returns-2 c = search (needs, location-laws)
 
 pub location-spec : {M : Type 1} → statement M
 location-spec =
-    tie.close (tie.spec misformed-requires returns value-requires located-requires returns-2)
+    tie.close
+    (tie.spec
+    misformed-requires
+    returns
+    value-requires
+    located-requires
+    same-length
+    same-length-2
+    returns-2)
