@@ -1,5 +1,5 @@
--- A predicate by the table so far, and the lines `init=P` and `inv=P`: the rows that they break, in order. Where the text has at
--- most 65,536 bytes these are the rows of Rows.antt: the laws predicate-rows and location-rows.
+-- A predicate by the table so far, and the lines `init=P` and `inv=P`: the rows that they break, in order. Where the text
+-- has at most 65,536 bytes these are the rows of Rows.antt: the laws predicate-rows and location-rows.
 use Prim.Native.Nat.{ℕ}
 use mathlib.Core.Bool.{Bool, true}
 use mathlib.Core.List.{List, _∷_}

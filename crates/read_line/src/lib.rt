@@ -89,8 +89,9 @@ fn read_with(
     }
 }
 
-// The line's bytes without the LF, and whether an LF ended it; `words` is the table so far, `at` the place of its next word. The memory
-// for a predicate is as much as the line needs: to clear the most would take longer than to read most lines.
+// The line's bytes without the LF, and whether an LF ended it; `words` is the table so far, `at` the place of its next
+// word. The memory for a predicate is as much as the line needs: to clear the most would take longer than to read most
+// lines.
 pub fn read(
     line: &[u8],
     ended: bool,

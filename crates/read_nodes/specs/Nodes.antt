@@ -1,5 +1,5 @@
--- What `read` answers of the bytes of a P, and what it leaves in the lent memory. Where there is a place for every two bytes, of any
--- number of bytes, it is what the text's rows say: the laws read-rows, read-few and accepted.
+-- What `read` answers of the bytes of a P, and what it leaves in the lent memory. With a place for every two bytes, of
+-- any number of bytes, it is what the text's rows say: the law read-exact.
 use Prim.Native.Nat.{ℕ, _+_}
 use mathlib.Core.Bool.{Bool, true, false, not, _&&_}
 use mathlib.Core.List.{List, [], map}

@@ -1,5 +1,5 @@
-// A predicate P from its bytes to node words, with every row that P can break: 3 and 6 to 11. P stands alone here: no line, no key and
-// no table is known but the words of the variables' ranges.
+// A predicate P from its bytes to node words, with every row that P can break: 3 and 6 to 11. P stands alone here: no
+// line, no key and no table is known but the words of the variables' ranges.
 use model::Model;
 use read_predicate::Words;
 ghost use mathlib.Core.Path.{_≡_};
@@ -7,8 +7,8 @@ ghost use lib.ListN.{length, take};
 ghost use Rattle.read_predicate.specs.Scratch.{Scratch};
 ghost use Rattle.read_nodes.specs.Nodes.{told, extentFault, judgedIn, nodesRead, nodesAfter};
 
-// Are: so many nodes, which stand at the front of the lent memory. Unsound: the smallest row that P breaks. Full: P has more
-// words than were lent, and what it breaks is not known.
+// Are: so many nodes, which stand at the front of the lent memory. Unsound: the smallest row that P breaks. Full: P has
+// more words than there are places, and what it breaks is not known.
 pub enum Nodes {
     Are(usize),
     Unsound(u32),
@@ -73,9 +73,10 @@ fn first(from: &[u32], n: usize) -> &[u32]
     &from[..n]
 }
 
-// Reads the bytes of a P, of any length. Where `old`, P may name only old values. `ranges` has the variables' declared ranges as the
-// table has them: LO and HI of variable K are the words 2K and 2K + 1. So many nodes were counted `before`. The nodes go into `nodes`; `sorts`
-// is scratch memory. A word of P takes two bytes at least, so as many places as half of P's bytes are enough of both.
+// Reads the bytes of a P, of any length. Where `old`, P may name only old values. `ranges` has the variables' declared
+// ranges as the table has them: LO and HI of variable K are the words 2K and 2K + 1. So many nodes were counted `before`.
+// The nodes go into `nodes`; `sorts` is scratch memory. A word of P takes two bytes at least, so half as many places as
+// P has bytes are enough of both.
 pub fn read(
     part: &[u8],
     old: bool,
