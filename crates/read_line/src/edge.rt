@@ -84,8 +84,8 @@ fn append_edge(
     predicates::append_nodes(words, fourth, nodes, n)
 }
 
-// What stands after the key: row 3, the rows of P, where new values may stand, and then row 12. Nothing is written where
-// one is broken.
+// What stands after the key: row 3, the rows of P, where new values may stand, and then row 12. Nothing is written
+// where one is broken.
 fn read_value(
     value: &[u8],
     counts: Counts,

@@ -32,8 +32,8 @@ fn read_with(
     nodes: &mut [u32],
     sorts: &mut [bool],
 ) -> LineRead
-    ensures { λ r. ⌜ r ≡ lineWith (now (line .entry)) ended key counts (now (words .entry)) at (length (now (nodes .entry)))
-        (length (now (sorts .entry))) ⌝ }
+    ensures { λ r. ⌜ r ≡ lineWith (now (line .entry)) ended key counts (now (words .entry)) at
+        (length (now (nodes .entry))) (length (now (sorts .entry))) ⌝ }
     ensures { λ _. ⌜ now (words .exit) ≡ lineWithAfter (now (line .entry)) ended key counts (now (words .entry)) at
         (length (now (nodes .entry))) (length (now (sorts .entry))) ⌝ }
 {

@@ -84,8 +84,8 @@ pub fn location(
 ) -> LineRead
     ensures { λ r. ⌜ r ≡ locationRead (now (name .entry)) (now (line .entry)) ended counts (now (words .entry))
         (length (now (nodes .entry))) (length (now (sorts .entry))) at ⌝ }
-    ensures { λ _. ⌜ now (words .exit) ≡ locationAfter (now (name .entry)) (now (line .entry)) ended counts (now (words .entry))
-        (length (now (nodes .entry))) (length (now (sorts .entry))) at ⌝ }
+    ensures { λ _. ⌜ now (words .exit) ≡ locationAfter (now (name .entry)) (now (line .entry)) ended counts
+        (now (words .entry)) (length (now (nodes .entry))) (length (now (sorts .entry))) at ⌝ }
 {
     if form::misformed(line, ended, name, 1) {
         return LineRead::Fault(2);

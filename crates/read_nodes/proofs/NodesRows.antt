@@ -325,8 +325,8 @@ module _ (part : Bytes) (room high : ℕ) (enough : length part ≤ 2 * room) (s
         go true e = words-same e (answer (codesOf part) room) refl ∙ ap (onWords o variables ranges before top (codesOf part)) (answer-same most up)
         go false e = refl
 
--- In one: of any bytes, with a place for every two of them, the answer is the smallest row of the text that is broken, or the number of
--- the predicate's nodes, and these stand in front of the lent memory.
+-- In one: of any bytes, with a place for every two of them, the answer is the smallest row of the text that is broken,
+-- or the number of the predicate's nodes, and these stand in front of the lent memory.
 pub record Exact (declared : List Range) (ranges : List ℕ) (before : ℕ) (part : Bytes) (o : Bool) (old : List ℕ) (high : ℕ) : Type 0 where
   pub answer : nodesRead part o (length declared) ranges before (length old) high ≡ told (nodeCount (textPred part)) (textFault declared before o part none)
   pub memory : textFault declared before o part none ≡ none → take (nodeCount (textPred part)) (nodesAfter part old) ≡ map code (words (textPred part))

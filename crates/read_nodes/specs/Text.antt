@@ -1,5 +1,5 @@
--- The rows of P as the text breaks them (Rows.antt), for variables with these ranges and after so many nodes, before the
--- rows of `rest`.
+-- The rows of P as the text breaks them (Rows.antt), for variables with these ranges and after so many nodes, before
+-- the rows of `rest`.
 use Prim.Native.Nat.{ℕ}
 use mathlib.Core.Bool.{Bool, not, _&&_}
 use mathlib.Core.List.{List, []}

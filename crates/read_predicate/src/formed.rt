@@ -90,10 +90,11 @@ fn step(word: u32, sorts: &mut [bool], height: usize) -> Height
     Height::Of(top + 1)
 }
 
-// Do the first n words make one predicate? There must be room for a sort of each. The sorts are scratch memory, whatever
-// stands in them: to clear as many would cost more than most predicates.
+// Do the first n words make one predicate? There must be room for a sort of each. The sorts are scratch memory,
+// whatever stands in them: to clear as many would cost more than most predicates.
 pub fn well_formed(words: &[u32], n: usize, sorts: &mut [bool]) -> bool
-    ensures { λ r. ⌜ r ≡ (leb n (length (now (sorts .entry))) && (leb n (length (now (words .entry))) && not (lacks (readPred (map wordOf (take n (now (words .entry)))))))) ⌝ }
+    ensures { λ r. ⌜ r ≡ (leb n (length (now (sorts .entry))) && (leb n (length (now (words .entry)))
+        && not (lacks (readPred (map wordOf (take n (now (words .entry)))))))) ⌝ }
     ensures { λ _. ⌜ Scratch (now (sorts .entry)) (now (sorts .exit)) ⌝ }
 {
     if sorts.len() < n {
