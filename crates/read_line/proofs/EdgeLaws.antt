@@ -1,17 +1,17 @@
 -- Each way out of the code of src/edge.rt.
-use Prim.Native.Nat.{ℕ, zero, suc, _+_, _-_, _≤_, _<_}
+use Prim.Native.Nat.{ℕ, zero, suc, _+_, _-_, _*_, _≤_, _<_}
 use mathlib.Core.Path.{_≡_, refl, sym, _∙_, ap}
 use mathlib.Core.Bool.{Bool, true, false, not, _||_}
 use mathlib.Core.List.{List, [], _∷_}
 use mathlib.Core.Option.{Option, none, some}
 use native.Mathlib.Omega.{arith}
-use lib.ListN.{length, getD, take, drop}
+use lib.ListN.{length, getD, take, drop, length-drop}
 use lib.IntN.{pos}
-use lib.Dec.{leb, ltb}
+use lib.Dec.{leb, ltb, eqb}
 use Rattle.model.specs.Bounds.{maxNodes}
 use Rattle.model.specs.Limits.{broken}
 use Rattle.line_order.specs.declared.Counts.{Counts}
-use Rattle.format.specs.Bytes.{Bytes, comma}
+use Rattle.format.specs.Bytes.{Bytes, onto, parts, comma}
 use Rattle.format.specs.Number.{within, naturalOf}
 use Rattle.text_bytes.specs.Find.{firstFrom}
 use Rattle.text_bytes.specs.Number.{naturalIn}
@@ -22,15 +22,44 @@ use Rattle.text_bytes.proofs.FindLaws.{find-after}
 use Rattle.read_predicate.proofs.Parting.{partsFrom, from-start, from-past, from-step}
 use Rattle.read_line.specs.declared.LineRead.{LineRead}
 use Rattle.read_line.specs.declared.LineRead.the-variants.{Sound, Fault}
-use Rattle.read_line.specs.declared.predicates.Nodes.the-variants as N
-use Rattle.read_line.specs.declared.predicates.Nodes.{Nodes}
+use Rattle.read_nodes.specs.declared.Nodes.the-variants as N
+use Rattle.read_nodes.specs.declared.Nodes.{Nodes}
+use Rattle.read_nodes.specs.Nodes.{codesOf, nodesAfter}
+use Rattle.read_nodes.proofs.NodesRows.{broken-hit, broken-past}
 use Rattle.read_line.specs.declared.edge.Ends.{Ends}
 use Rattle.read_line.specs.declared.edge.Ends.the-variants.{Are, Unsound}
 use Rattle.read_line.specs.Append.{nextPlace, put}
 use Rattle.read_line.specs.Form.{valueAfter, misformed}
-use Rattle.read_line.specs.Predicate.{codesOf, predicateFault, PredicateRead, counted, lineTold, lineAfter}
+use Rattle.read_line.specs.Predicate.{mostWords, predicateRead, predicateFault, counted, lineTold, lineAfter}
 use Rattle.read_line.specs.Edge.{fieldIn, endsSound, endsIn, astray, thenRow, valueFault, valueWords, valueRead, afterValue, edgeName, edgeFault, edgeRead, edgeAfter}
-use Rattle.read_line.proofs.PredicateLaws.{told-are, told-row, are-few, more-next, more-put, line-row, line-kept, line-sound, line-put, broken-hit, broken-past}
+use Rattle.read_line.proofs.PredicateLaws.{told-row, told-full, told-fine, told-size, told-few, told-stand, fault-same, more-next, more-put, line-row, line-kept, line-sound, line-put}
+
+-- a part is no longer than the whole
+onto-long : (b : ℕ) (ss : List Bytes) (i : ℕ) → length (getD (onto b ss) i []) ≤ suc (length (getD ss i []))
+unfolding onto
+onto-long b [] zero = omega arith
+onto-long b [] (suc i) = omega arith
+onto-long b (s ∷ ss) zero = omega arith
+onto-long b (s ∷ ss) (suc i) = omega arith
+
+part-long : (c : ℕ) (s : Bytes) (i : ℕ) → length (getD (parts c s) i []) ≤ length s
+unfolding parts
+part-long c [] zero = omega arith
+part-long c [] (suc i) = omega arith
+part-long c (b ∷ t) i = go (eqb b c) i (part-long c t)
+  where
+    go : (v : Bool) (j : ℕ) → ((k : ℕ) → length (getD (parts c t) k []) ≤ length t)
+        → length (getD {A = Bytes} (elim v as (λ x. List Bytes) [ true ↦ [] ∷ parts c t | false ↦ onto b (parts c t) ]) j []) ≤ suc (length t)
+    go true zero ih = omega arith
+    go true (suc j) ih = omega (arith, ih j)
+    go false j ih = omega (arith, ih j, onto-long b (parts c t) j)
+
+field-within : (i : ℕ) (v : Bytes) → length (fieldIn i v) ≤ length v
+unfolding fieldIn
+field-within i v = part-long comma v i
+
+pub field-long : (i : ℕ) (s : Bytes) → length (fieldIn i (valueAfter edgeName s)) ≤ length s
+field-long i s = omega (arith, field-within i (valueAfter edgeName s), length-drop (length edgeName) s)
 
 -- `field`: what is left of the fields, from a place on
 pub record Fields (v : Bytes) (number at left : ℕ) : Type 0 where
@@ -157,125 +186,154 @@ ends-some v from action to e = go (endsSound v) refl e
     go true h k = record { sound = h; first = cc; second = cc; third = cc }
     go false h k = absurd (let q : _≡_ {A = ℕ} 0 1 = cc in omega arith)
 
-module _ (v : Bytes) (c : Counts) (t : List ℕ) (at : ℕ) (q : Ends) (hq : q ≡ endsIn v) where
+module _ (v : Bytes) (c : Counts) (t : List ℕ) (at : ℕ) (old : List ℕ) (high : ℕ) (q : Ends) (hq : q ≡ endsIn v) where
   -- a row that is broken is the answer, and the buffer is left as it was
-  row-told : (row : ℕ) → valueFault c t v ≡ some row → Fault row ≡ valueRead c t v at
+  row-told : (row : ℕ) → valueFault c t v (length old) high ≡ some row → Fault row ≡ valueRead c t v (length old) high at
   unfolding valueRead
   row-told row h = line-row _ row _ at _ h
 
-  row-kept : (row : ℕ) → valueFault c t v ≡ some row → t ≡ afterValue c t v at
+  row-kept : (row : ℕ) → valueFault c t v (length old) high ≡ some row → t ≡ afterValue c t v (length old) high at
   unfolding afterValue
   row-kept row h = line-kept _ row at _ t h
 
   module _ (e : q ≡ Unsound) where
-    ends-row : valueFault c t v ≡ some 3
+    ends-row : valueFault c t v (length old) high ≡ some 3
     unfolding valueFault
     ends-row = broken-hit 3 _ _ (ap not (ends-none v (sym hq ∙ e)))
 
-    pub value-unsound : Fault 3 ≡ valueRead c t v at
+    pub value-unsound : Fault 3 ≡ valueRead c t v (length old) high at
     value-unsound = row-told 3 ends-row
 
-    pub value-unsound-kept : t ≡ afterValue c t v at
+    pub value-unsound-kept : t ≡ afterValue c t v (length old) high at
     value-unsound-kept = row-kept 3 ends-row
 
-  module _ (from action to : ℕ) (e : q ≡ Are from action to) (f : Bytes) (hf : f ≡ fieldIn 3 v) (scratch : List ℕ) (r : Nodes)
-      (k : PredicateRead f (predicateFault f false c t) scratch r) where
+  module _ (from action to : ℕ) (e : q ≡ Are from action to) (f : Bytes) (hf : f ≡ fieldIn 3 v) (r : Nodes)
+      (k : r ≡ predicateRead f false c t (length old) high) where
     ends-of : EndsOf v from action to
     ends-of = ends-some v from action to (sym hq ∙ e)
 
-    past-ends : valueFault c t v ≡ thenRow (predicateFault f false c t) (broken 12 (astray c from action to) none)
+    past-ends : valueFault c t v (length old) high ≡ thenRow (predicateFault f false c t (length old) high) (broken 12 (astray c from action to) none)
     unfolding valueFault
     past-ends = broken-past 3 _ _ (ap not (ends-of .sound)) ∙ rw (ends-of .first, ends-of .second, ends-of .third, ← hf)
 
     module _ (row : ℕ) (g : r ≡ N.Unsound row) where
-      its-row : valueFault c t v ≡ some row
+      its-row : valueFault c t v (length old) high ≡ some row
       unfolding thenRow
-      its-row = past-ends ∙ ap (λ (o : Option ℕ). thenRow o (broken 12 (astray c from action to) none)) (told-row _ row _ (sym (k .answered) ∙ g))
+      its-row = past-ends ∙ ap (λ (o : Option ℕ). thenRow o (broken 12 (astray c from action to) none)) (told-row f false c t (length old) high r k row g)
 
-      pub value-row : Fault row ≡ valueRead c t v at
+      pub value-row : Fault row ≡ valueRead c t v (length old) high at
       value-row = row-told row its-row
 
-      pub value-row-kept : t ≡ afterValue c t v at
+      pub value-row-kept : t ≡ afterValue c t v (length old) high at
       value-row-kept = row-kept row its-row
 
-    module _ (n : ℕ) (g : r ≡ N.Are n) where
-      fine : (predicateFault f false c t ≡ none) × (n ≡ length (codesOf f))
-      fine = told-are _ n _ (sym (k .answered) ∙ g)
-
-      last-row : valueFault c t v ≡ broken 12 (astray c from action to) none
+    module _ (g : r ≡ N.Full) where
+      full-row : valueFault c t v (length old) high ≡ some 6
       unfolding thenRow
-      last-row = past-ends ∙ ap (λ (o : Option ℕ). thenRow o (broken 12 (astray c from action to) none)) (fine .0)
+      full-row = past-ends ∙ ap (λ (o : Option ℕ). thenRow o (broken 12 (astray c from action to) none)) (told-full f false c t (length old) high r k g)
+
+      pub value-full : Fault 6 ≡ valueRead c t v (length old) high at
+      value-full = row-told 6 full-row
+
+      pub value-full-kept : t ≡ afterValue c t v (length old) high at
+      value-full-kept = row-kept 6 full-row
+
+    module _ (n : ℕ) (g : r ≡ N.Are n) where
+      last-row : valueFault c t v (length old) high ≡ broken 12 (astray c from action to) none
+      unfolding thenRow
+      last-row = past-ends ∙ ap (λ (o : Option ℕ). thenRow o (broken 12 (astray c from action to) none)) (told-fine f false c t (length old) high r k n g)
 
       pub value-few : n ≤ maxNodes
-      value-few = are-few f false c t scratch r n k g
+      value-few = told-few f false c t (length old) high r k n g
 
       module _ (w : Bool) (hw : w ≡ astray c from action to) where
         module _ (i : w ≡ true) where
-          pub value-astray : Fault 12 ≡ valueRead c t v at
+          pub value-astray : Fault 12 ≡ valueRead c t v (length old) high at
           value-astray = row-told 12 (last-row ∙ broken-hit 12 _ _ (sym hw ∙ i))
 
-          pub value-astray-kept : t ≡ afterValue c t v at
+          pub value-astray-kept : t ≡ afterValue c t v (length old) high at
           value-astray-kept = row-kept 12 (last-row ∙ broken-hit 12 _ _ (sym hw ∙ i))
 
         module _ (i : w ≡ false) where
-          unbroken-all : valueFault c t v ≡ none
+          unbroken-all : valueFault c t v (length old) high ≡ none
           unbroken-all = last-row ∙ broken-past 12 _ _ (sym hw ∙ i)
 
-          stand : _≡_ {A = List ℕ} (n ∷ take n scratch) (counted (codesOf (fieldIn 3 v)))
-          stand = ap (λ (l : List ℕ). n ∷ l) (k .stands n g) ∙ ap (λ (m : ℕ). m ∷ codesOf f) (fine .1) ∙ ap (λ (x : Bytes). counted (codesOf x)) hf
-
-          all-words : _≡_ {A = List ℕ} (from ∷ action ∷ to ∷ n ∷ take n scratch) (valueWords v)
-          unfolding valueWords
-          all-words =
-              ap (λ (l : List ℕ). from ∷ action ∷ to ∷ l) stand ∙
-              rw (← ends-of .first, ← ends-of .second, ← ends-of .third)
-
           size : n ≡ length (codesOf (fieldIn 3 v))
-          size = fine .1 ∙ ap (λ (x : Bytes). length (codesOf x)) hf
+          size = told-size f false c t (length old) high r k n g ∙ ap (λ (x : Bytes). length (codesOf x)) hf
 
-          pub value-are : (next : ℕ) → next ≡ nextPlace at (suc (suc (suc (suc (length (take n scratch)))))) → Sound 0 n next ≡ valueRead c t v at
-          unfolding valueRead
-          value-are next hn =
-              ap (Sound 0 n) (hn ∙ ap (λ (l : List ℕ). nextPlace at (length l)) all-words) ∙
-              ap (λ (m : ℕ). Sound 0 m (nextPlace at (length (valueWords v)))) size ∙
-              line-sound _ _ at _ unbroken-all
+          module _ (new : List ℕ) (m : new ≡ nodesAfter f old) where
+            stand : _≡_ {A = List ℕ} (n ∷ take n new) (counted (codesOf (fieldIn 3 v)))
+            stand = told-stand f false c t (length old) high r k n g old new refl m ∙ ap (λ (x : Bytes). counted (codesOf x)) hf
 
-          pub value-put : (new : List ℕ) → new ≡ put at (from ∷ action ∷ to ∷ n ∷ take n scratch) t → new ≡ afterValue c t v at
-          unfolding afterValue
-          value-put new hn = hn ∙ ap (λ (l : List ℕ). put at l t) all-words ∙ line-put _ at _ t unbroken-all
+            all-words : _≡_ {A = List ℕ} (from ∷ action ∷ to ∷ n ∷ take n new) (valueWords v)
+            unfolding valueWords
+            all-words =
+                ap (λ (l : List ℕ). from ∷ action ∷ to ∷ l) stand ∙
+                rw (← ends-of .first, ← ends-of .second, ← ends-of .third)
 
-pub ruleset value-laws = (value-unsound, value-unsound-kept, value-row, value-row-kept, value-few, value-astray, value-astray-kept, value-are, value-put)
+            pub value-are : (next : ℕ) → next ≡ nextPlace at (suc (suc (suc (suc (length (take n new)))))) → Sound 0 n next ≡ valueRead c t v (length old) high at
+            unfolding valueRead
+            value-are next hn =
+                ap (Sound 0 n) (hn ∙ ap (λ (l : List ℕ). nextPlace at (length l)) all-words) ∙
+                ap (λ (m : ℕ). Sound 0 m (nextPlace at (length (valueWords v)))) size ∙
+                line-sound _ _ at _ unbroken-all
+
+            pub value-put : (after : List ℕ) → after ≡ put at (from ∷ action ∷ to ∷ n ∷ take n new) t → after ≡ afterValue c t v (length old) high at
+            unfolding afterValue
+            value-put after hn = hn ∙ ap (λ (l : List ℕ). put at l t) all-words ∙ line-put _ at _ t unbroken-all
+
+pub ruleset value-laws = (value-unsound, value-unsound-kept, value-row, value-row-kept, value-full, value-full-kept, value-few, value-astray, value-astray-kept, value-are, value-put)
 
 -- `edge`
-module _ (s : Bytes) (ended : Bool) (c : Counts) (t : List ℕ) (at : ℕ) (p : Bool) (hp : p ≡ misformed edgeName 4 s ended) where
+module _ (s : Bytes) (ended : Bool) (c : Counts) (t : List ℕ) (room high at : ℕ) (p : Bool) (hp : p ≡ misformed edgeName 4 s ended) where
   module _ (h : p ≡ true) where
-    form-row : edgeFault s ended c t ≡ some 2
+    form-row : edgeFault s ended c t room high ≡ some 2
     unfolding edgeFault
     form-row = broken-hit 2 _ _ (sym hp ∙ h)
 
-    pub edge-form : Fault 2 ≡ edgeRead s ended c t at
+    pub edge-form : Fault 2 ≡ edgeRead s ended c t room high at
     unfolding edgeRead
     edge-form = line-row _ 2 _ at _ form-row
 
-    pub edge-form-kept : t ≡ edgeAfter s ended c t at
+    pub edge-form-kept : t ≡ edgeAfter s ended c t room high at
     unfolding edgeAfter
     edge-form-kept = line-kept _ 2 at _ t form-row
 
   module _ (h : p ≡ false) (v : Bytes) (hv : v ≡ valueAfter edgeName s) where
-    rest-row : valueFault c t v ≡ edgeFault s ended c t
+    rest-row : valueFault c t v room high ≡ edgeFault s ended c t room high
     unfolding edgeFault
-    rest-row = ap (valueFault c t) hv ∙ sym (broken-past 2 _ _ (sym hp ∙ h))
+    rest-row = ap (λ (x : Bytes). valueFault c t x room high) hv ∙ sym (broken-past 2 _ _ (sym hp ∙ h))
 
-    pub edge-value : (r : LineRead) → r ≡ valueRead c t v at → r ≡ edgeRead s ended c t at
+    pub edge-value : (r : LineRead) → r ≡ valueRead c t v room high at → r ≡ edgeRead s ended c t room high at
     unfolding valueRead edgeRead
     edge-value r hr =
         hr ∙ ap (λ (o : Option ℕ). lineTold o (length (codesOf (fieldIn 3 v))) at (valueWords v)) rest-row ∙
-        ap (λ (x : Bytes). lineTold (edgeFault s ended c t) (length (codesOf (fieldIn 3 x))) at (valueWords x)) hv
+        ap (λ (x : Bytes). lineTold (edgeFault s ended c t room high) (length (codesOf (fieldIn 3 x))) at (valueWords x)) hv
 
-    pub edge-value-put : (new : List ℕ) → new ≡ afterValue c t v at → new ≡ edgeAfter s ended c t at
+    pub edge-value-put : (new : List ℕ) → new ≡ afterValue c t v room high at → new ≡ edgeAfter s ended c t room high at
     unfolding afterValue edgeAfter
     edge-value-put new hn =
         hn ∙ ap (λ (o : Option ℕ). lineAfter o at (valueWords v) t) rest-row ∙
-        ap (λ (x : Bytes). lineAfter (edgeFault s ended c t) at (valueWords x) t) hv
+        ap (λ (x : Bytes). lineAfter (edgeFault s ended c t room high) at (valueWords x) t) hv
 
 pub ruleset edge-laws = (edge-form, edge-form-kept, edge-value, edge-value-put)
+
+-- more room than enough changes nothing
+module _ (s : Bytes) (ended : Bool) (c : Counts) (t : List ℕ) (at room : ℕ) (a : length s ≤ 2 * room) (b : length s ≤ 65536) where
+  abbrev value : Bytes
+  value = valueAfter edgeName s
+
+  edge-same : edgeFault s ended c t room room ≡ edgeFault s ended c t mostWords mostWords
+  unfolding edgeFault valueFault
+  edge-same =
+      let l = field-long 3 s in
+      ap (λ (o : Option ℕ). broken 2 (misformed edgeName 4 s ended) (broken 3 (not (endsSound value)) (thenRow o (broken 12 (astray c (naturalOf (fieldIn 0 value)) (naturalOf (fieldIn 1 value)) (naturalOf (fieldIn 2 value))) none))))
+      (fault-same (fieldIn 3 value) false c t room room mostWords mostWords (omega arith) (omega arith) (omega arith) (omega arith))
+
+  pub edge-room : edgeRead s ended c t room room at ≡ edgeRead s ended c t mostWords mostWords at
+  unfolding edgeRead
+  edge-room = ap (λ (o : Option ℕ). lineTold o (length (codesOf (fieldIn 3 value))) at (valueWords value)) edge-same
+
+  pub edge-room-after : edgeAfter s ended c t room room at ≡ edgeAfter s ended c t mostWords mostWords at
+  unfolding edgeAfter
+  edge-room-after = ap (λ (o : Option ℕ). lineAfter o at (valueWords value) t) edge-same

@@ -1,24 +1,24 @@
 -- The rows of the line `edge=FROM,ACT,TO,P`, as the code tests them, are those of the text.
-use Prim.Native.Nat.{ℕ, zero, suc, _≤_}
+use Prim.Native.Nat.{ℕ, _≤_}
 use mathlib.Core.Path.{_≡_, refl, sym, _∙_, ap, ap₂}
 use mathlib.Core.Bool.{Bool, true, false, not, _&&_}
 use mathlib.Core.List.{List, [], _∷_}
 use mathlib.Core.Option.{Option, none, some}
 use native.Mathlib.Omega.{arith}
-use lib.ListN.{length, getD, length-drop}
+use lib.ListN.{length}
 use lib.IntN.{pos}
 use lib.Dec.{eqb}
 use Rattle.model.specs.Bounds.{maxBytes, maxActions, lastLocation}
-use Rattle.model.specs.Predicate.{nodeCount}
+use Rattle.model.specs.Predicate.{Range, nodeCount}
 use Rattle.model.specs.Lines.{edge, Reading}
-use Rattle.model.specs.Limits.{broken, isAstray}
+use Rattle.model.specs.Limits.{broken, isAstray, variableCount}
 use Rattle.model.specs.Table.{predWords, lineWords}
 use Rattle.model.proofs.Decode.{unbroken}
 use Rattle.line_order.specs.declared.Counts.{Counts}
 use Rattle.line_order.specs.Due.{numberOf}
 use Rattle.line_order.specs.Counts.{nodesOf, Counted}
 use Rattle.table_check.specs.Scan.{Declared}
-use Rattle.format.specs.Bytes.{Bytes, onto, parts, comma}
+use Rattle.format.specs.Bytes.{Bytes}
 use Rattle.format.specs.Number.{within, naturalOf}
 use Rattle.format.specs.Rows.{Line, place, is, fields, field, valueOf, hasPred, predTokens, wordsIn, predOf, thePred, row2, row3, row4, row5, row6, row7, row8, row9, row10, row11, row12, row13, row14, row15, row16, numbersSound, fault, entry}
 use Rattle.format.specs.Spelling.{spelling}
@@ -27,35 +27,15 @@ use Rattle.read_line.specs.declared.LineRead.the-variants.{Sound, Fault}
 use Rattle.read_line.specs.Append.{nextPlace, put}
 use Rattle.read_line.specs.Exact.{lineOf}
 use Rattle.read_line.specs.Form.{valueAfter, misformed, fieldsOf}
-use Rattle.read_line.specs.Predicate.{codesOf, textPred, textFault}
+use Rattle.read_nodes.specs.Nodes.{codesOf}
+use Rattle.read_nodes.specs.Text.{textPred, textFault}
+use Rattle.read_nodes.proofs.NodesRows.{same-row}
+use Rattle.read_line.specs.Predicate.{mostWords}
 use Rattle.read_line.specs.Edge.{fieldIn, endsSound, astray, thenRow, valueFault, valueWords, edgeName, edgeFault, edgeRead, edgeAfter}
 use Rattle.read_line.proofs.FormLaws.{row2-by}
 use Rattle.read_line.proofs.PredicateLaws.{line-row, line-sound, line-put}
-use Rattle.read_line.proofs.PredicateRows.{same-row, predicate-rows, accepted, accepted-words, line-long}
-
--- a part is no longer than the whole
-onto-long : (b : ℕ) (ss : List Bytes) (i : ℕ) → length (getD (onto b ss) i []) ≤ suc (length (getD ss i []))
-unfolding onto
-onto-long b [] zero = omega arith
-onto-long b [] (suc i) = omega arith
-onto-long b (s ∷ ss) zero = omega arith
-onto-long b (s ∷ ss) (suc i) = omega arith
-
-part-long : (c : ℕ) (s : Bytes) (i : ℕ) → length (getD (parts c s) i []) ≤ length s
-unfolding parts
-part-long c [] zero = omega arith
-part-long c [] (suc i) = omega arith
-part-long c (b ∷ t) i = go (eqb b c) i (part-long c t)
-  where
-    go : (v : Bool) (j : ℕ) → ((k : ℕ) → length (getD (parts c t) k []) ≤ length t)
-        → length (getD {A = Bytes} (elim v as (λ x. List Bytes) [ true ↦ [] ∷ parts c t | false ↦ onto b (parts c t) ]) j []) ≤ suc (length t)
-    go true zero ih = omega arith
-    go true (suc j) ih = omega (arith, ih j)
-    go false j ih = omega (arith, ih j, onto-long b (parts c t) j)
-
-field-long : (i : ℕ) (s : Bytes) → length (fieldIn i (valueAfter edgeName s)) ≤ length s
-unfolding fieldIn
-field-long i s = omega (arith, part-long comma (valueAfter edgeName s) i, length-drop (length edgeName) s)
+use Rattle.read_line.proofs.PredicateRows.{predicate-rows, accepted-row, accepted-words, line-long}
+use Rattle.read_line.proofs.EdgeLaws.{field-long}
 
 -- rows after those of a predicate
 then-broken : (row : ℕ) (b : Bool) (x rest : Option ℕ) → thenRow (broken row b x) rest ≡ broken row b (thenRow x rest)
@@ -72,9 +52,9 @@ unfolding thenRow
 first-none none rest e = refl
 first-none (some row) rest e = absurd (let q : _≡_ {A = ℕ} 0 1 = cc in omega arith)
 
-then-text : (r : Reading) (o : Bool) (part : Bytes) (rest : Option ℕ) → thenRow (textFault r o part none) rest ≡ textFault r o part rest
+then-text : (declared : List Range) (before : ℕ) (o : Bool) (part : Bytes) (rest : Option ℕ) → thenRow (textFault declared before o part none) rest ≡ textFault declared before o part rest
 unfolding textFault
-then-text r o part rest = simp (then-broken, then-none)
+then-text declared before o part rest = simp (then-broken, then-none)
 
 -- row 3 of the ends, and then of the predicate
 both-rows : (a b d e : Bool) (x : Option ℕ) → broken 3 (not (a && (b && d))) (broken 3 (not e) x) ≡ broken 3 (not (a && (b && (d && e)))) x
@@ -89,10 +69,10 @@ edge-text : (r : Reading) (l : Line)
     → fault r edge l ≡
     broken 2 (row2 edge l)
     (broken 3 (not (endsSound (valueOf edge l)))
-    (textFault r false (fieldIn 3 (valueOf edge l))
+    (textFault (r .model .variables) (r .nodes) false (fieldIn 3 (valueOf edge l))
     (broken 12 (isAstray r (naturalOf (fieldIn 0 (valueOf edge l))) (naturalOf (fieldIn 1 (valueOf edge l))) (naturalOf (fieldIn 2 (valueOf edge l))))
     none)))
-unfolding field fields is place fault row3 row4 row5 row6 row7 row8 row9 row10 row11 row12 row13 row14 row15 row16 hasPred broken numbersSound predTokens wordsIn predOf thePred textFault textPred endsSound fieldIn
+unfolding field fields is place fault row3 row4 row5 row6 row7 row8 row9 row10 row11 row12 row13 row14 row15 row16 hasPred broken numbersSound predTokens wordsIn predOf thePred textFault textPred variableCount endsSound fieldIn
 edge-text r l =
     ap (broken 2 (row2 edge l))
     (sym
@@ -124,7 +104,7 @@ module _ (s : Bytes) (ended : Bool) where
     unfolding astray isAstray
     astray-is from action to = rw (n .locations, n .actions)
 
-    pub edge-rows : edgeFault s ended c t ≡ fault r edge (lineOf s ended)
+    pub edge-rows : edgeFault s ended c t mostWords mostWords ≡ fault r edge (lineOf s ended)
     unfolding edgeFault valueFault valueOf spelling
     edge-rows =
         same-row 2 _ _ _ _ form-is
@@ -133,23 +113,23 @@ module _ (s : Bytes) (ended : Bool) where
         ap₂ thenRow
         (predicate-rows r c t n d (fieldIn 3 value) (omega (arith, field-long 3 s)) false)
         (ap (λ (b : Bool). broken 12 b none) (astray-is (naturalOf (fieldIn 0 value)) (naturalOf (fieldIn 1 value)) (naturalOf (fieldIn 2 value)))) ∙
-        then-text r false (fieldIn 3 value) _))
+        then-text (r .model .variables) (r .nodes) false (fieldIn 3 value) _))
         ∙ sym (edge-text r (lineOf s ended))
 
     module _ (at : ℕ) where
-      pub edge-faulty : (row : ℕ) → fault r edge (lineOf s ended) ≡ some row → edgeRead s ended c t at ≡ Fault row
+      pub edge-faulty : (row : ℕ) → fault r edge (lineOf s ended) ≡ some row → edgeRead s ended c t mostWords mostWords at ≡ Fault row
       unfolding edgeRead
       edge-faulty row h = sym (line-row _ row _ at _ (edge-rows ∙ h))
 
       pub edge-sound : fault r edge (lineOf s ended) ≡ none
-          → (edgeRead s ended c t at ≡ Sound (numberOf (entry edge (lineOf s ended))) (nodesOf (entry edge (lineOf s ended))) (nextPlace at (length (lineWords (entry edge (lineOf s ended))))))
-          × (edgeAfter s ended c t at ≡ put at (lineWords (entry edge (lineOf s ended))) t)
+          → (edgeRead s ended c t mostWords mostWords at ≡ Sound (numberOf (entry edge (lineOf s ended))) (nodesOf (entry edge (lineOf s ended))) (nextPlace at (length (lineWords (entry edge (lineOf s ended))))))
+          × (edgeAfter s ended c t mostWords mostWords at ≡ put at (lineWords (entry edge (lineOf s ended))) t)
       unfolding edgeRead edgeAfter edgeFault valueFault valueWords
       edge-sound h =
           let l = lineOf s ended in
           let f = edge-rows ∙ h in
           let u = unbroken 3 _ _ (unbroken 2 _ _ f .1) .1 in
-          let a = accepted (fieldIn 3 value) false c t (first-none _ _ u) in
+          let a = accepted-row (fieldIn 3 value) false c t mostWords mostWords (first-none _ _ u) in
           let w : valueWords value ≡ lineWords (entry edge l) =
           ap (λ (x : List ℕ). naturalOf (fieldIn 0 value) ∷ naturalOf (fieldIn 1 value) ∷ naturalOf (fieldIn 2 value) ∷ x) (accepted-words (fieldIn 3 value) a) ∙ sym entry-words in
           let z : length (codesOf (fieldIn 3 value)) ≡ nodesOf (entry edge l) = a .size ∙ sym entry-nodes in (
@@ -159,6 +139,6 @@ module _ (s : Bytes) (ended : Bool) where
           )
 
 -- the buffer keeps its length
-pub edge-kept : (s : Bytes) (ended : Bool) (c : Counts) (t : List ℕ) (at : ℕ) → length (edgeAfter s ended c t at) ≡ length t
+pub edge-kept : (s : Bytes) (ended : Bool) (c : Counts) (t : List ℕ) (room high at : ℕ) → length (edgeAfter s ended c t room high at) ≡ length t
 unfolding edgeAfter
-edge-kept s ended c t at = line-long _ at _ t
+edge-kept s ended c t room high at = line-long _ at _ t

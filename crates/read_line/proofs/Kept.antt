@@ -22,7 +22,8 @@ use Rattle.read_line.specs.Outcome.{written}
 use Rattle.read_line.specs.Number.{countIn, numberAfter, fewEdges, boundsIn, boundsAfter}
 use Rattle.read_line.specs.Sync.{syncFault, syncAfter}
 use Rattle.read_line.specs.Composition.{composeFault, composeAfter}
-use Rattle.read_line.specs.Line.{lineAfter}
+use Rattle.read_line.specs.Predicate.{mostWords}
+use Rattle.read_line.specs.Line.{lineWithAfter, lineAfter}
 use Rattle.read_line.proofs.AppendLaws.{put-kept}
 use Rattle.read_line.proofs.PredicateRows.{location-kept}
 use Rattle.read_line.proofs.EdgeRows.{edge-kept}
@@ -53,7 +54,7 @@ module _ (s : Bytes) (ended : Bool) (c : Counts) (words : List ℕ) (at : ℕ) w
   compose-kept = written-kept (composeFault s ended c) at _ words
 
 pub line-kept : (s : Bytes) (ended : Bool) (k : Key) (c : Counts) (words : List ℕ) (at : ℕ) → length (lineAfter s ended k c words at) ≡ length words
-unfolding lineAfter
+unfolding lineAfter lineWithAfter
 line-kept s ended Format c words at = number-kept _ at words
 line-kept s ended Actions c words at = number-kept _ at words
 line-kept s ended Variables c words at = number-kept _ at words
@@ -61,9 +62,9 @@ line-kept s ended Variable c words at = bounds-kept _ at words
 line-kept s ended Automata c words at = number-kept _ at words
 line-kept s ended Sync c words at = sync-kept s ended c words at
 line-kept s ended Locations c words at = number-kept _ at words
-line-kept s ended Init c words at = location-kept (spelling Lines.init) s ended c words at
-line-kept s ended Inv c words at = location-kept (spelling Lines.inv) s ended c words at
+line-kept s ended Init c words at = location-kept (spelling Lines.init) s ended c words mostWords mostWords at
+line-kept s ended Inv c words at = location-kept (spelling Lines.inv) s ended c words mostWords mostWords at
 line-kept s ended Edges c words at = number-kept _ at words
-line-kept s ended Edge c words at = edge-kept s ended c words at
+line-kept s ended Edge c words at = edge-kept s ended c words mostWords mostWords at
 line-kept s ended Compose c words at = compose-kept s ended c words at
 line-kept s ended End c words at = refl

@@ -1,215 +1,74 @@
--- Each way out of the code of src/predicate.rt.
-use Prim.Native.Nat.{ℕ, suc, _+_, _≤_, _<_}
+-- Each way out of the code of src/predicates.rt.
+use Prim.Native.Nat.{ℕ, suc, _+_, _*_, _≤_, _<_}
 use mathlib.Core.Path.{_≡_, refl, sym, _∙_, ap}
-use mathlib.Core.Bool.{Bool, true, false, not, _&&_}
-use mathlib.Core.List.{List, [], _∷_, _++_, map}
+use mathlib.Core.Bool.{Bool, true, false}
+use mathlib.Core.List.{List, [], _∷_}
 use mathlib.Core.Option.{Option, none, some}
 use native.Mathlib.Omega.{arith}
-use borrow.Author.Tests.{le-leb, leb-true, ltb-true, ltb-false, leb-false, not-false}
-use lib.ListN.{length, take, drop, set}
-use lib.Seq.{take-all, take-at, take-length, length-take-le}
-use lib.Dec.{leb, ltb}
-use Rattle.model.specs.Basic.{lacks}
+use lib.ListN.{length, take, length-drop}
 use Rattle.model.specs.Bounds.{maxNodes}
-use Rattle.model.specs.Predicate.{namesOutside, namesNew}
-use Rattle.model.specs.Parse.{readPred}
 use Rattle.model.specs.Limits.{broken}
-use Rattle.model.specs.Table.{wordOf}
-use Rattle.model.proofs.Decode.{unbroken}
 use Rattle.line_order.specs.declared.Counts.{Counts}
-use Rattle.table_predicate.specs.declared.Walked.{Walked}
-use Rattle.table_predicate.specs.Walk.{walkAt}
 use Rattle.table_check.specs.Line.{rangesIn}
 use Rattle.format.specs.Bytes.{Bytes}
-use Rattle.format.specs.Tokens.{tokens, sounds}
-use Rattle.text_bytes.specs.Find.{gap}
-use Rattle.text_bytes.proofs.FindLaws.{gap-within}
-use Rattle.read_predicate.specs.Codes.{strayCode}
-use Rattle.read_predicate.specs.declared.reading.Words.{Words}
-use Rattle.read_predicate.specs.declared.reading.Words.the-variants.{Read, Stray, Full}
-use Rattle.read_predicate.specs.Read.{answer, count, written, Reads}
-use Rattle.read_predicate.proofs.Answers.{said-read}
+use Rattle.read_nodes.specs.declared.Nodes.{Nodes}
+use Rattle.read_nodes.specs.declared.Nodes.the-variants.{Are, Unsound, Full}
+use Rattle.read_nodes.specs.Nodes.{codesOf, nodesRead, nodesAfter}
+use Rattle.read_nodes.proofs.NodesRows.{broken-hit, broken-past, accepted, accepted-stands, room-same}
+use Rattle.read_line.specs.declared.LineRead.{LineRead}
 use Rattle.read_line.specs.declared.LineRead.the-variants.{Sound, Fault}
-use Rattle.read_line.specs.declared.predicates.Nodes.{Nodes}
-use Rattle.read_line.specs.declared.predicates.Nodes.the-variants.{Are, Unsound}
 use Rattle.read_line.specs.Append.{nextPlace, put}
 use Rattle.read_line.specs.Form.{valueAfter, misformed}
-use Rattle.read_line.specs.Predicate.{told, extentFault, mostWords, wellFormed, nodesFault, codesOf, unread, predicateFault, PredicateRead, lineTold, lineAfter, counted, locationFault, locationRead, locationAfter}
-use Rattle.read_line.proofs.AppendLaws.{next-in, next-over, next-past, put-past}
+use Rattle.read_line.specs.Predicate.{mostWords, predicateRead, rowIn, predicateFault, lineTold, lineAfter, counted, locatedRead, locatedAfter, locationFault, locationRead, locationAfter}
 use Rattle.read_line.proofs.Joined.{next-then, put-then}
 
--- the first row that is broken is the answer; a row that is not leaves it to the later ones
-hit : (n row : ℕ) (b : Bool) (rest : Option ℕ) → b ≡ true → Unsound row ≡ told n (broken row b rest)
-unfolding told broken
-hit n row b rest h = rw h
+-- `predicate`
+pub predicate-by : (part : Bytes) (o : Bool) (c : Counts) (words rs : List ℕ) (room high : ℕ) (r : Nodes) → rs ≡ rangesIn words (c .variables)
+    → r ≡ nodesRead part o (c .variables) rs (c .nodes) room high → r ≡ predicateRead part o c words room high
+unfolding predicateRead
+predicate-by part o c words rs room high r e h = rw (← e) h
 
-pass : (n row : ℕ) (b : Bool) (rest : Option ℕ) (r : Nodes) → b ≡ false → r ≡ told n rest → r ≡ told n (broken row b rest)
-unfolding told broken
-pass n row b rest r h e = rw h e
-
--- what the answer says of the rows
-pub told-are : (k n : ℕ) (f : Option ℕ) → told k f ≡ Are n → (f ≡ none) × (n ≡ k)
-unfolding told
-told-are k n none e = (refl, cc)
-told-are k n (some row) e = absurd (let z : _≡_ {A = ℕ} 0 1 = cc in omega arith)
-
-pub told-row : (k row : ℕ) (f : Option ℕ) → told k f ≡ Unsound row → f ≡ some row
-unfolding told
-told-row k row none e = absurd (let z : _≡_ {A = ℕ} 0 1 = cc in omega arith)
-told-row k row (some n) e = let z : n ≡ row = cc in ap some z
-
--- `extent`
-module _ (nodes words : List ℕ) (c : Counts) (rs : List ℕ) (hr : rs ≡ rangesIn words (c .variables)) (w : Walked) (hw : w ≡ walkAt nodes rs 0) where
-  walk-is : walkAt nodes (rangesIn words (c .variables)) 0 ≡ w
-  walk-is = ap (λ (x : List ℕ). walkAt nodes x 0) (sym hr) ∙ sym hw
-
-  pub extent-deep : w .deep ≡ true → Unsound 9 ≡ told (length nodes) (extentFault c words nodes)
-  unfolding extentFault
-  extent-deep h = hit (length nodes) 9 _ _ (ap (λ (x : Walked). x .deep) walk-is ∙ h)
-
-  module _ (h : w .deep ≡ false) where
-    past-deep : (r : Nodes) → r ≡ told (length nodes) (broken 10 (w .leaves) (broken 11 (not (leb (c .nodes + length nodes) maxNodes)) none)) → r ≡ told (length nodes) (extentFault c words nodes)
-    unfolding extentFault
-    past-deep r e = rw walk-is (pass (length nodes) 9 (w .deep) _ r h e)
-
-    pub extent-leaves : w .leaves ≡ true → Unsound 10 ≡ told (length nodes) (extentFault c words nodes)
-    extent-leaves g = past-deep (Unsound 10) (hit (length nodes) 10 (w .leaves) _ g)
-
-    module _ (g : w .leaves ≡ false) (b : Bool) (hb : b ≡ leb (c .nodes + length nodes) maxNodes) where
-      pub extent-many : not b ≡ true → Unsound 11 ≡ told (length nodes) (extentFault c words nodes)
-      extent-many q = past-deep (Unsound 11) (pass (length nodes) 10 (w .leaves) _ (Unsound 11) g (hit (length nodes) 11 _ none (ap not (sym hb) ∙ q)))
-
-      pub extent-fine : not b ≡ false → Are (length nodes) ≡ told (length nodes) (extentFault c words nodes)
-      unfolding told
-      extent-fine q = past-deep (Are (length nodes)) (pass (length nodes) 10 (w .leaves) _ (Are (length nodes)) g (pass (length nodes) 11 _ none (Are (length nodes)) (ap not (sym hb) ∙ q) refl))
-
-pub ruleset extent-laws = (extent-deep, extent-leaves, extent-many, extent-fine)
-
--- `judged`
-formed-all : (nodes : List ℕ) → (leb (length nodes) 32768 && (leb (length nodes) (length nodes) && not (lacks (readPred (map wordOf (take (length nodes) nodes)))))) ≡ wellFormed nodes
-unfolding wellFormed
-formed-all nodes =
-    let e : leb (length nodes) (length nodes) ≡ true = le-leb (length nodes) (length nodes) (omega arith) in
-    rw (take-length nodes, e)
-
-module _ (nodes words : List ℕ) (o : Bool) (c : Counts) (b : Bool)
-    (hb : b ≡ (leb (length nodes) 32768 && (leb (length nodes) (length nodes) && not (lacks (readPred (map wordOf (take (length nodes) nodes))))))) where
-  formed-is : wellFormed nodes ≡ b
-  formed-is = sym (formed-all nodes) ∙ sym hb
-
-  pub judged-ill : not b ≡ true → Unsound 6 ≡ told (length nodes) (nodesFault o c words nodes)
-  unfolding nodesFault
-  judged-ill h = hit (length nodes) 6 _ _ (ap not formed-is ∙ h)
-
-  module _ (h : not b ≡ false) (q : Bool) (hq : q ≡ namesOutside (c .variables) (map wordOf (take (length nodes) nodes))) where
-    outside-is : namesOutside (c .variables) (map wordOf nodes) ≡ q
-    outside-is = ap (λ (l : List ℕ). namesOutside (c .variables) (map wordOf l)) (sym (take-length nodes)) ∙ sym hq
-
-    pub judged-outside : q ≡ true → Unsound 7 ≡ told (length nodes) (nodesFault o c words nodes)
-    unfolding nodesFault
-    judged-outside g = pass (length nodes) 6 _ _ (Unsound 7) (ap not formed-is ∙ h) (hit (length nodes) 7 _ _ (outside-is ∙ g))
-
-    module _ (g : q ≡ false) (w : Bool) (hw : w ≡ namesNew (map wordOf (take (length nodes) nodes))) where
-      new-is : (o && namesNew (map wordOf nodes)) ≡ (o && w)
-      new-is = ap (λ (l : List ℕ). o && namesNew (map wordOf l)) (sym (take-length nodes)) ∙ ap (λ (x : Bool). o && x) (sym hw)
-
-      pub judged-new : (o && w) ≡ true → Unsound 8 ≡ told (length nodes) (nodesFault o c words nodes)
-      unfolding nodesFault
-      judged-new i =
-          pass (length nodes) 6 _ _ (Unsound 8) (ap not formed-is ∙ h)
-          (pass (length nodes) 7 _ _ (Unsound 8) (outside-is ∙ g) (hit (length nodes) 8 _ _ (new-is ∙ i)))
-
-      pub judged-rest : (o && w) ≡ false → (r : Nodes) → r ≡ told (length nodes) (extentFault c words nodes) → r ≡ told (length nodes) (nodesFault o c words nodes)
-      unfolding nodesFault
-      judged-rest i r e =
-          pass (length nodes) 6 _ _ r (ap not formed-is ∙ h)
-          (pass (length nodes) 7 _ _ r (outside-is ∙ g) (pass (length nodes) 8 _ _ r (new-is ∙ i) e))
-
-pub ruleset judged-laws = (judged-ill, judged-outside, judged-new, judged-rest)
-
--- `first`
-pub first-all : (from : List ℕ) (n : ℕ) → length from < n → from ≡ take n from
-first-all from n h = sym (take-all n from (omega arith))
-
-pub first-long : (from : List ℕ) (n : ℕ) → n ≤ length from → n ≡ length (take n from)
-first-long from n h = sym (length-take-le n from h)
-
-pub ruleset first-laws = (first-all, first-long)
-
--- `predicate`: where all words were read, their codes stand in front
-pub read-front : (part old new : List ℕ) (n : ℕ) → Reads part old new (Read n) → (take n new ≡ codesOf part) × (length (codesOf part) ≡ n)
-unfolding codesOf written count
-read-front part old new n r =
-    let cs = codesOf part in
-    let i = said-read cs (length old) n (r .answered) in
-    let t : take n cs ≡ cs = take-all n cs (i .2) in
-    let g : gap strayCode cs ≡ n = sym (i .0) in
-    let l : length cs ≡ n = omega (arith, i .2, i .0, gap-within strayCode cs) in
-    let m : length cs ≤ length old = omega (arith, i .1) in
-    let w : new ≡ cs ++ drop n old = r .memory ∙ rw (g, t, take-all (length old) cs m) in
-    (ap (take n) w ∙ take-at cs (drop n old) n l, l)
-
-module _ (part : List ℕ) (o : Bool) (c : Counts) (words : List ℕ) (b : Bool) (hb : b ≡ sounds [] (tokens part)) where
-  numbers-are : not (sounds [] (tokens part)) ≡ not b
-  numbers-are = ap not (sym hb)
-
-  -- no node stands where a row is broken
-  refused : (row : ℕ) (scratch : List ℕ) → Unsound row ≡ told (length (codesOf part)) (predicateFault part o c words) → PredicateRead part (predicateFault part o c words) scratch (Unsound row)
-  refused row scratch e = record { answered = e; stands = λ n z. absurd (let q : _≡_ {A = ℕ} 0 1 = cc in omega arith) }
-
-  pub predicate-numbers : (scratch : List ℕ) → not b ≡ true → PredicateRead part (predicateFault part o c words) scratch (Unsound 3)
+-- what its answer says
+module _ (part : Bytes) (o : Bool) (c : Counts) (words : List ℕ) (room high : ℕ) (r : Nodes) (k : r ≡ predicateRead part o c words room high) where
+  row-is : predicateFault part o c words room high ≡ rowIn r
   unfolding predicateFault
-  predicate-numbers scratch h = refused 3 scratch (hit (length (codesOf part)) 3 _ _ (numbers-are ∙ h))
+  row-is = ap rowIn (sym k)
 
-  module _ (h : not b ≡ false) (old new : List ℕ) (room : length old ≡ 32768) (q : Words) (hq : Reads part old new q) where
-    answer-is : answer (codesOf part) mostWords ≡ q
-    unfolding codesOf
-    answer-is = ap (answer (codesOf part)) (sym room) ∙ sym (hq .answered)
+  pub told-row : (row : ℕ) → r ≡ Unsound row → predicateFault part o c words room high ≡ some row
+  unfolding rowIn
+  told-row row e = row-is ∙ rw e
 
-    unspelled : unread q ≡ true → PredicateRead part (predicateFault part o c words) new (Unsound 6)
-    unfolding predicateFault
-    unspelled e =
-        refused 6 new
-        (pass (length (codesOf part)) 3 _ _ (Unsound 6) (numbers-are ∙ h) (hit (length (codesOf part)) 6 _ _ (ap unread answer-is ∙ e)))
+  pub told-full : r ≡ Full → predicateFault part o c words room high ≡ some 6
+  unfolding rowIn
+  told-full e = row-is ∙ rw e
 
-    pub predicate-stray : q ≡ Stray → PredicateRead part (predicateFault part o c words) new (Unsound 6)
-    unfolding unread
-    predicate-stray e = unspelled (ap unread e)
+  module _ (n : ℕ) (e : r ≡ Are n) where
+    pub told-fine : predicateFault part o c words room high ≡ none
+    unfolding rowIn
+    told-fine = row-is ∙ rw e
 
-    pub predicate-full : q ≡ Full → PredicateRead part (predicateFault part o c words) new (Unsound 6)
-    unfolding unread
-    predicate-full e = unspelled (ap unread e)
+    pub told-size : n ≡ length (codesOf part)
+    unfolding predicateRead
+    told-size = sym (accepted part o (c .variables) (rangesIn words (c .variables)) (c .nodes) room high n (sym k ∙ e) .counted)
 
-    pub predicate-read : (n : ℕ) → q ≡ Read n → (ns : List ℕ) → ns ≡ take n new → (r : Nodes) → r ≡ told (length ns) (nodesFault o c words ns)
-        → PredicateRead part (predicateFault part o c words) new r
-    unfolding predicateFault unread
-    predicate-read n e ns hn r hr =
-        let f = read-front part old new n (rw e at hq) in
-        let same : ns ≡ codesOf part = hn ∙ f .0 in
-        let t : r ≡ told (length (codesOf part)) (nodesFault o c words (codesOf part)) = hr ∙ ap (λ (l : List ℕ). told (length l) (nodesFault o c words l)) same in
-        record {
-          answered = pass (length (codesOf part)) 3 _ _ r (numbers-are ∙ h) (pass (length (codesOf part)) 6 _ _ r (ap unread (answer-is ∙ e)) t);
-          stands = λ m z. let i = told-are (length (codesOf part)) m (nodesFault o c words (codesOf part)) (sym t ∙ z) in ap (λ (x : ℕ). take x new) (i .1 ∙ f .1) ∙ f .0;
-        }
+    pub told-few : n ≤ maxNodes
+    unfolding predicateRead
+    told-few = accepted part o (c .variables) (rangesIn words (c .variables)) (c .nodes) room high n (sym k ∙ e) .few
 
-pub ruleset predicate-laws = (predicate-numbers, predicate-stray, predicate-full, predicate-read)
+    -- the count and the nodes, from the lent memory
+    pub told-stand : (old new : List ℕ) → length old ≡ room → new ≡ nodesAfter part old → _≡_ {A = List ℕ} (n ∷ take n new) (counted (codesOf part))
+    unfolding predicateRead
+    told-stand old new l h =
+        ap (λ (x : List ℕ). n ∷ take n x) h ∙
+        ap (λ (x : List ℕ). n ∷ x) (accepted-stands part o (c .variables) (rangesIn words (c .variables)) (c .nodes) room high n old l (sym k ∙ e)) ∙
+        ap (λ (m : ℕ). m ∷ codesOf part) told-size
 
--- an accepted predicate has few nodes
-module _ (part : List ℕ) (o : Bool) (c : Counts) (words : List ℕ) where
-  pub few-nodes : predicateFault part o c words ≡ none → length (codesOf part) ≤ maxNodes
-  unfolding predicateFault nodesFault extentFault
-  few-nodes h =
-      let a = unbroken 3 _ _ h .1 in
-      let d = unbroken 8 _ _ (unbroken 7 _ _ (unbroken 6 _ _ (unbroken 6 _ _ a .1) .1) .1) .1 in
-      let e = unbroken 11 _ _ (unbroken 10 _ _ (unbroken 9 _ _ d .1) .1) .0 in
-      let l = leb-true (c .nodes + length (codesOf part)) maxNodes (not-false _ e) in
-      omega arith
-
-  pub are-few : (scratch : List ℕ) (r : Nodes) (n : ℕ) → PredicateRead part (predicateFault part o c words) scratch r → r ≡ Are n → n ≤ maxNodes
-  are-few scratch r n k e =
-      let i = told-are (length (codesOf part)) n (predicateFault part o c words) (sym (k .answered) ∙ e) in
-      let l = few-nodes (i .0) in
-      omega (arith, i .1)
+-- more room than enough changes no row
+pub fault-same : (part : Bytes) (o : Bool) (c : Counts) (words : List ℕ) (room high most top : ℕ)
+    → length part ≤ 2 * room → length part ≤ 2 * high → length part ≤ 2 * most → length part ≤ 2 * top
+    → predicateFault part o c words room high ≡ predicateFault part o c words most top
+unfolding predicateFault predicateRead
+fault-same part o c words room high most top a b d e = ap rowIn (room-same part room high a b o (c .variables) (rangesIn words (c .variables)) (c .nodes) most top d e)
 
 -- a word, and then more
 module _ (at a : ℕ) (ws : List ℕ) (i : ℕ) (hi : i ≡ nextPlace at 1) where
@@ -238,65 +97,93 @@ pub line-put : (f : Option ℕ) (at : ℕ) (new words : List ℕ) → f ≡ none
 unfolding lineAfter
 line-put f at new words h = rw h
 
-pub broken-hit : (row : ℕ) (b : Bool) (rest : Option ℕ) → b ≡ true → broken row b rest ≡ some row
-unfolding broken
-broken-hit row b rest h = rw h
+-- `located`
+module _ (c : Counts) (words : List ℕ) (v : Bytes) (at : ℕ) (old : List ℕ) (high : ℕ) (r : Nodes) (k : r ≡ predicateRead v true c words (length old) high) where
+  module _ (row : ℕ) (e : r ≡ Unsound row) where
+    pub located-row : Fault row ≡ locatedRead c words v (length old) high at
+    unfolding locatedRead
+    located-row = line-row _ row _ at _ (told-row v true c words (length old) high r k row e)
 
-pub broken-past : (row : ℕ) (b : Bool) (rest : Option ℕ) → b ≡ false → broken row b rest ≡ rest
-unfolding broken
-broken-past row b rest h = rw h
+    pub located-row-kept : words ≡ locatedAfter c words v (length old) high at
+    unfolding locatedAfter
+    located-row-kept = line-kept _ row at _ words (told-row v true c words (length old) high r k row e)
+
+  module _ (e : r ≡ Full) where
+    pub located-full : Fault 6 ≡ locatedRead c words v (length old) high at
+    unfolding locatedRead
+    located-full = line-row _ 6 _ at _ (told-full v true c words (length old) high r k e)
+
+    pub located-full-kept : words ≡ locatedAfter c words v (length old) high at
+    unfolding locatedAfter
+    located-full-kept = line-kept _ 6 at _ words (told-full v true c words (length old) high r k e)
+
+  module _ (n : ℕ) (e : r ≡ Are n) where
+    pub located-few : n ≤ maxNodes
+    located-few = told-few v true c words (length old) high r k n e
+
+    module _ (new : List ℕ) (m : new ≡ nodesAfter v old) where
+      stand : _≡_ {A = List ℕ} (n ∷ take n new) (counted (codesOf v))
+      stand = told-stand v true c words (length old) high r k n e old new refl m
+
+      pub located-are : (next : ℕ) → next ≡ nextPlace at (suc (length (take n new))) → Sound 0 n next ≡ locatedRead c words v (length old) high at
+      unfolding locatedRead
+      located-are next hn =
+          ap (Sound 0 n) (hn ∙ ap (λ (l : List ℕ). nextPlace at (length l)) stand) ∙
+          ap (λ (m : ℕ). Sound 0 m (nextPlace at (length (counted (codesOf v))))) (told-size v true c words (length old) high r k n e) ∙
+          line-sound _ _ at _ (told-fine v true c words (length old) high r k n e)
+
+      pub located-put : (t : List ℕ) → t ≡ put at (n ∷ take n new) words → t ≡ locatedAfter c words v (length old) high at
+      unfolding locatedAfter
+      located-put t hn = hn ∙ ap (λ (l : List ℕ). put at l words) stand ∙ line-put _ at _ words (told-fine v true c words (length old) high r k n e)
+
+pub ruleset located-laws = (located-row, located-row-kept, located-full, located-full-kept, located-few, located-are, located-put)
 
 -- `location`
-module _ (name s : Bytes) (ended : Bool) (c : Counts) (words : List ℕ) (at : ℕ) (p : Bool) (hp : p ≡ misformed name 1 s ended) where
+module _ (name s : Bytes) (ended : Bool) (c : Counts) (words : List ℕ) (room high at : ℕ) (p : Bool) (hp : p ≡ misformed name 1 s ended) where
   module _ (h : p ≡ true) where
-    form-row : locationFault name s ended c words ≡ some 2
+    form-row : locationFault name s ended c words room high ≡ some 2
     unfolding locationFault
     form-row = broken-hit 2 _ _ (sym hp ∙ h)
 
-    pub location-form : Fault 2 ≡ locationRead name s ended c words at
+    pub location-form : Fault 2 ≡ locationRead name s ended c words room high at
     unfolding locationRead
     location-form = line-row _ 2 _ at _ form-row
 
-    pub location-form-kept : words ≡ locationAfter name s ended c words at
+    pub location-form-kept : words ≡ locationAfter name s ended c words room high at
     unfolding locationAfter
     location-form-kept = line-kept _ 2 at _ words form-row
 
-  module _ (h : p ≡ false) (v : Bytes) (hv : v ≡ valueAfter name s) (scratch : List ℕ) (r : Nodes) (k : PredicateRead v (predicateFault v true c words) scratch r) where
-    rest-is : locationFault name s ended c words ≡ predicateFault v true c words
+  module _ (h : p ≡ false) (v : Bytes) (hv : v ≡ valueAfter name s) where
+    rest-is : predicateFault v true c words room high ≡ locationFault name s ended c words room high
     unfolding locationFault
-    rest-is = broken-past 2 _ _ (sym hp ∙ h) ∙ ap (λ (x : Bytes). predicateFault x true c words) (sym hv)
+    rest-is = ap (λ (x : Bytes). predicateFault x true c words room high) hv ∙ sym (broken-past 2 _ _ (sym hp ∙ h))
 
-    module _ (row : ℕ) (e : r ≡ Unsound row) where
-      its-row : locationFault name s ended c words ≡ some row
-      its-row = rest-is ∙ told-row _ row _ (sym (k .answered) ∙ e)
+    pub location-value : (r : LineRead) → r ≡ locatedRead c words v room high at → r ≡ locationRead name s ended c words room high at
+    unfolding locatedRead locationRead
+    location-value r hr =
+        hr ∙ ap (λ (o : Option ℕ). lineTold o (length (codesOf v)) at (counted (codesOf v))) rest-is ∙
+        ap (λ (x : Bytes). lineTold (locationFault name s ended c words room high) (length (codesOf x)) at (counted (codesOf x))) hv
 
-      pub location-row : Fault row ≡ locationRead name s ended c words at
-      unfolding locationRead
-      location-row = line-row _ row _ at _ its-row
+    pub location-value-put : (t : List ℕ) → t ≡ locatedAfter c words v room high at → t ≡ locationAfter name s ended c words room high at
+    unfolding locatedAfter locationAfter
+    location-value-put t ht =
+        ht ∙ ap (λ (o : Option ℕ). lineAfter o at (counted (codesOf v)) words) rest-is ∙
+        ap (λ (x : Bytes). lineAfter (locationFault name s ended c words room high) at (counted (codesOf x)) words) hv
 
-      pub location-row-kept : words ≡ locationAfter name s ended c words at
-      unfolding locationAfter
-      location-row-kept = line-kept _ row at _ words its-row
+pub ruleset location-laws = (location-form, location-form-kept, location-value, location-value-put)
 
-    module _ (n : ℕ) (e : r ≡ Are n) where
-      fine : (predicateFault v true c words ≡ none) × (n ≡ length (codesOf v))
-      fine = told-are _ n _ (sym (k .answered) ∙ e)
+-- more room than enough changes nothing
+module _ (name s : Bytes) (ended : Bool) (c : Counts) (words : List ℕ) (at room : ℕ) (a : length s ≤ 2 * room) (b : length s ≤ 65536) where
+  location-same : locationFault name s ended c words room room ≡ locationFault name s ended c words mostWords mostWords
+  unfolding locationFault
+  location-same =
+      let l = length-drop (length name) s in
+      ap (broken 2 (misformed name 1 s ended)) (fault-same (valueAfter name s) true c words room room mostWords mostWords (omega arith) (omega arith) (omega arith) (omega arith))
 
-      stand : _≡_ {A = List ℕ} (n ∷ take n scratch) (counted (codesOf (valueAfter name s)))
-      stand = ap (λ (l : List ℕ). n ∷ l) (k .stands n e) ∙ ap (λ (m : ℕ). m ∷ codesOf v) (fine .1) ∙ ap (λ (x : Bytes). counted (codesOf x)) hv
+  pub location-room : locationRead name s ended c words room room at ≡ locationRead name s ended c words mostWords mostWords at
+  unfolding locationRead
+  location-room = ap (λ (o : Option ℕ). lineTold o (length (codesOf (valueAfter name s))) at (counted (codesOf (valueAfter name s)))) location-same
 
-      pub location-few : n ≤ maxNodes
-      location-few = are-few v true c words scratch r n k e
-
-      pub location-are : (next : ℕ) → next ≡ nextPlace at (suc (length (take n scratch))) → Sound 0 n next ≡ locationRead name s ended c words at
-      unfolding locationRead
-      location-are next hn =
-          ap (Sound 0 n) (hn ∙ ap (λ (l : List ℕ). nextPlace at (length l)) stand) ∙
-          ap (λ (m : ℕ). Sound 0 m (nextPlace at (length (counted (codesOf (valueAfter name s)))))) (fine .1 ∙ ap (λ (x : Bytes). length (codesOf x)) hv) ∙
-          line-sound _ _ at _ (rest-is ∙ fine .0)
-
-      pub location-put : (new : List ℕ) → new ≡ put at (n ∷ take n scratch) words → new ≡ locationAfter name s ended c words at
-      unfolding locationAfter
-      location-put new hn = hn ∙ ap (λ (l : List ℕ). put at l words) stand ∙ line-put _ at _ words (rest-is ∙ fine .0)
-
-pub ruleset location-laws = (location-form, location-form-kept, location-row, location-row-kept, location-few, location-are, location-put)
+  pub location-room-after : locationAfter name s ended c words room room at ≡ locationAfter name s ended c words mostWords mostWords at
+  unfolding locationAfter
+  location-room-after = ap (λ (o : Option ℕ). lineAfter o at (counted (codesOf (valueAfter name s))) words) location-same

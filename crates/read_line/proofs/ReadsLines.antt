@@ -19,7 +19,7 @@ use Rattle.read_line.specs.declared.LineRead.{LineRead}
 use Rattle.read_line.specs.declared.LineRead.the-variants.{Sound, Fault}
 use Rattle.read_line.specs.Append.{nextPlace, put}
 use Rattle.read_line.specs.Exact.{lineOf, ReadsLines}
-use Rattle.read_line.specs.Line.{lineRead, lineAfter}
+use Rattle.read_line.specs.Line.{lineWith, lineWithAfter, lineRead, lineAfter}
 use Rattle.read_line.proofs.Answered.{answered-fault, answered-sound, left-new}
 use Rattle.read_line.proofs.NumberLines.{format-read, format-left, actions-read, actions-left, variables-read, variables-left, automata-read, automata-left, locations-read, locations-left, edges-read, edges-left}
 use Rattle.read_line.proofs.RangeLines.{variable-read, variable-left}
@@ -30,7 +30,7 @@ use Rattle.read_line.proofs.EdgeRows.{edge-faulty, edge-sound}
 
 module _ (r : Reading) (c : Counts) (words : List ℕ) (at : ℕ) (s : Bytes) (ended : Bool) (n : Counted r c) (d : Declared words r) (short : length s ≤ maxBytes) where
   faulty : (k : Key) (row : ℕ) → fault r k (lineOf s ended) ≡ some row → lineRead s ended (codeOf k) c words at ≡ Fault row
-  unfolding lineRead codeOf
+  unfolding lineRead lineWith codeOf
   faulty format row h = answered-fault _ row _ _ (format-read r s ended at words) h
   faulty actions row h = answered-fault _ row _ _ (actions-read r s ended at words) h
   faulty variables row h = answered-fault _ row _ _ (variables-read r s ended at words) h
@@ -47,7 +47,7 @@ module _ (r : Reading) (c : Counts) (words : List ℕ) (at : ℕ) (s : Bytes) (e
   sound : (k : Key) → fault r k (lineOf s ended) ≡ none
       → (lineRead s ended (codeOf k) c words at ≡ Sound (numberOf (entry k (lineOf s ended))) (nodesOf (entry k (lineOf s ended))) (nextPlace at (length (lineWords (entry k (lineOf s ended))))))
       × (lineAfter s ended (codeOf k) c words at ≡ put at (lineWords (entry k (lineOf s ended))) words)
-  unfolding lineRead lineAfter codeOf entry numberOf nodesOf lineWords theRange range
+  unfolding lineRead lineAfter lineWith lineWithAfter codeOf entry numberOf nodesOf lineWords theRange range
   sound format h = (answered-sound _ _ _ (format-read r s ended at words) h, left-new _ _ words _ (format-left r s ended at words) h)
   sound actions h = (answered-sound _ _ _ (actions-read r s ended at words) h, left-new _ _ words _ (actions-left r s ended at words) h)
   sound variables h = (answered-sound _ _ _ (variables-read r s ended at words) h, left-new _ _ words _ (variables-left r s ended at words) h)

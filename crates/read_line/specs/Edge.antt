@@ -15,7 +15,8 @@ use Rattle.read_line.specs.declared.LineRead.{LineRead}
 use Rattle.read_line.specs.declared.edge.Ends.{Ends}
 use Rattle.read_line.specs.declared.edge.Ends.the-variants.{Are, Unsound}
 use Rattle.read_line.specs.Form.{valueAfter, misformed}
-use Rattle.read_line.specs.Predicate.{codesOf, predicateFault, counted, lineTold, lineAfter}
+use Rattle.read_nodes.specs.Nodes.{codesOf}
+use Rattle.read_line.specs.Predicate.{predicateFault, counted, lineTold, lineAfter}
 
 -- a field of a value that commas part
 unfoldable pub fieldIn : ℕ → Bytes → Bytes
@@ -44,11 +45,11 @@ unfoldable pub thenRow : Option ℕ → (rest : Option ℕ) → Option ℕ
 thenRow none rest = rest
 thenRow (some row) rest = some row
 
--- what stands after the key, and its rows
-unfoldable pub valueFault : Counts → (words : List ℕ) (v : Bytes) → Option ℕ
-valueFault c words v =
+-- what stands after the key, and its rows, with room for so many nodes and sorts
+unfoldable pub valueFault : Counts → (words : List ℕ) (v : Bytes) (room high : ℕ) → Option ℕ
+valueFault c words v room high =
     broken 3 (not (endsSound v))
-    (thenRow (predicateFault (fieldIn 3 v) false c words)
+    (thenRow (predicateFault (fieldIn 3 v) false c words room high)
     (broken 12 (astray c (naturalOf (fieldIn 0 v)) (naturalOf (fieldIn 1 v)) (naturalOf (fieldIn 2 v)))
     none))
 
@@ -57,19 +58,19 @@ unfoldable pub valueWords : Bytes → List ℕ
 valueWords v = naturalOf (fieldIn 0 v) ∷ naturalOf (fieldIn 1 v) ∷ naturalOf (fieldIn 2 v) ∷ counted (codesOf (fieldIn 3 v))
 
 -- the answer, and the buffer after it
-module _ (c : Counts) (words : List ℕ) (v : Bytes) (at : ℕ) where
+module _ (c : Counts) (words : List ℕ) (v : Bytes) (room high : ℕ) (at : ℕ) where
   unfoldable pub valueRead : LineRead
-  valueRead = lineTold (valueFault c words v) (length (codesOf (fieldIn 3 v))) at (valueWords v)
+  valueRead = lineTold (valueFault c words v room high) (length (codesOf (fieldIn 3 v))) at (valueWords v)
 
   unfoldable pub afterValue : List ℕ
-  afterValue = lineAfter (valueFault c words v) at (valueWords v) words
+  afterValue = lineAfter (valueFault c words v room high) at (valueWords v) words
 
 abbrev pub edgeName : Bytes
 edgeName = bytes "edge="
 
-module _ (s : Bytes) (ended : Bool) (c : Counts) (words : List ℕ) where
+module _ (s : Bytes) (ended : Bool) (c : Counts) (words : List ℕ) (room high : ℕ) where
   unfoldable pub edgeFault : Option ℕ
-  edgeFault = broken 2 (misformed edgeName 4 s ended) (valueFault c words (valueAfter edgeName s))
+  edgeFault = broken 2 (misformed edgeName 4 s ended) (valueFault c words (valueAfter edgeName s) room high)
 
   unfoldable pub edgeRead : (at : ℕ) → LineRead
   edgeRead at = lineTold edgeFault (length (codesOf (fieldIn 3 (valueAfter edgeName s)))) at (valueWords (valueAfter edgeName s))

@@ -2,17 +2,16 @@
 use crate::LineRead;
 use crate::append::{self};
 use crate::form::{self};
-use crate::predicates::Nodes;
 use crate::predicates::{self};
 use line_order::Counts;
 use model::Model;
+use read_nodes::Nodes;
 use text_bytes::Natural;
 ghost use mathlib.Core.Path.{_≡_};
 ghost use mathlib.Core.List.{_∷_};
 ghost use Prim.Native.Nat.{suc, _≤_};
 ghost use lib.ListN.{length, take};
 ghost use Rattle.model.specs.Bounds.{maxNodes};
-ghost use Rattle.read_predicate.specs.Scratch.{Scratch};
 ghost use Rattle.read_line.specs.Append.{nextPlace, put};
 ghost use Rattle.read_line.specs.Edge.{fieldIn, endsIn, astray, valueRead, afterValue, edgeRead, edgeAfter};
 
@@ -85,31 +84,34 @@ fn append_edge(
     predicates::append_nodes(words, fourth, nodes, n)
 }
 
-// What stands after the key: row 3, the rows of P, where new values may stand, and then row 12. Nothing is written where one is broken.
+// What stands after the key: row 3, the rows of P, where new values may stand, and then row 12. Nothing is written
+// where one is broken.
 fn read_value(
     value: &[u8],
     counts: Counts,
     words: &mut [u32; Model::WORDS],
     at: usize,
-    scratch: &mut [u32; 32768],
-    sorts: &mut [bool; 32768],
+    nodes: &mut [u32],
+    sorts: &mut [bool],
 ) -> LineRead
-    ensures { λ r. ⌜ (r ≡ valueRead counts (now (words .entry)) (now (value .entry)) at) × (now (words .exit) ≡ afterValue counts (now (words .entry)) (now (value .entry)) at) ⌝ }
-    ensures { λ _. ⌜ Scratch (now (scratch .entry)) (now (scratch .exit))
-        × Scratch (now (sorts .entry)) (now (sorts .exit)) ⌝ }
+    ensures { λ r. ⌜ r ≡ valueRead counts (now (words .entry)) (now (value .entry)) (length (now (nodes .entry)))
+        (length (now (sorts .entry))) at ⌝ }
+    ensures { λ _. ⌜ now (words .exit) ≡ afterValue counts (now (words .entry)) (now (value .entry))
+        (length (now (nodes .entry))) (length (now (sorts .entry))) at ⌝ }
 {
     let Ends::Are(from, action, to) = read_ends(value) else {
         return LineRead::Fault(3);
     };
-    let nodes = predicates::predicate(field(value, 3), false, counts, words, scratch, sorts);
-    match nodes {
+    let read = predicates::predicate(field(value, 3), false, counts, words, nodes, sorts);
+    match read {
         Nodes::Are(n) => {
             if astray(counts, from, action, to) {
                 return LineRead::Fault(12);
             }
-            LineRead::Sound(0, n, append_edge(words, at, from, action, to, scratch, n))
+            LineRead::Sound(0, n, append_edge(words, at, from, action, to, nodes, n))
         }
         Nodes::Unsound(row) => LineRead::Fault(row),
+        Nodes::Full => LineRead::Fault(6),
     }
 }
 
@@ -120,22 +122,16 @@ pub fn edge(
     counts: Counts,
     words: &mut [u32; Model::WORDS],
     at: usize,
-    scratch: &mut [u32; 32768],
-    sorts: &mut [bool; 32768],
+    nodes: &mut [u32],
+    sorts: &mut [bool],
 ) -> LineRead
-    ensures { λ r. ⌜ (r ≡ edgeRead (now (line .entry)) ended counts (now (words .entry)) at) × (now (words .exit) ≡ edgeAfter (now (line .entry)) ended counts (now (words .entry)) at) ⌝ }
-    ensures { λ _. ⌜ Scratch (now (scratch .entry)) (now (scratch .exit))
-        × Scratch (now (sorts .entry)) (now (sorts .exit)) ⌝ }
+    ensures { λ r. ⌜ r ≡ edgeRead (now (line .entry)) ended counts (now (words .entry)) (length (now (nodes .entry)))
+        (length (now (sorts .entry))) at ⌝ }
+    ensures { λ _. ⌜ now (words .exit) ≡ edgeAfter (now (line .entry)) ended counts (now (words .entry))
+        (length (now (nodes .entry))) (length (now (sorts .entry))) at ⌝ }
 {
     if form::misformed(line, ended, b"edge=", 4) {
         return LineRead::Fault(2);
     }
-    read_value(
-        form::value(line, b"edge="),
-        counts,
-        words,
-        at,
-        scratch,
-        sorts,
-    )
+    read_value(form::value(line, b"edge="), counts, words, at, nodes, sorts)
 }

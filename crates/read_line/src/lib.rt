@@ -11,8 +11,8 @@ use line_order::Counts;
 use line_order::Key;
 use model::Model;
 ghost use mathlib.Core.Path.{_≡_};
-ghost use Rattle.read_predicate.specs.Scratch.{Scratch};
-ghost use Rattle.read_line.specs.Line.{lineRead, lineAfter};
+ghost use lib.ListN.{length};
+ghost use Rattle.read_line.specs.Line.{lineWith, lineWithAfter, lineRead, lineAfter};
 
 // Sound: the line's number if it counts something or is the format's, the nodes of its predicate, and the place of the next
 // word. Fault: the smallest row that it breaks.
@@ -21,21 +21,21 @@ pub enum LineRead {
     Fault(u32),
 }
 
-// The line's bytes without the LF, and whether an LF ended it; `words` is the table so far, `at` the place of its next
-// word, `scratch` is for a predicate's words, and `sorts` for their sorts: scratch memory both.
-pub fn read(
+// The line that the key says, with memory for a predicate's nodes and their sorts.
+fn read_with(
     line: &[u8],
     ended: bool,
     key: Key,
     counts: Counts,
     words: &mut [u32; Model::WORDS],
     at: usize,
-    scratch: &mut [u32; 32768],
-    sorts: &mut [bool; 32768],
+    nodes: &mut [u32],
+    sorts: &mut [bool],
 ) -> LineRead
-    ensures { λ r. ⌜ (r ≡ lineRead (now (line .entry)) ended key counts (now (words .entry)) at) × (now (words .exit) ≡ lineAfter (now (line .entry)) ended key counts (now (words .entry)) at) ⌝ }
-    ensures { λ _. ⌜ Scratch (now (scratch .entry)) (now (scratch .exit))
-        × Scratch (now (sorts .entry)) (now (sorts .exit)) ⌝ }
+    ensures { λ r. ⌜ r ≡ lineWith (now (line .entry)) ended key counts (now (words .entry)) at
+        (length (now (nodes .entry))) (length (now (sorts .entry))) ⌝ }
+    ensures { λ _. ⌜ now (words .exit) ≡ lineWithAfter (now (line .entry)) ended key counts (now (words .entry)) at
+        (length (now (nodes .entry))) (length (now (sorts .entry))) ⌝ }
 {
     match key {
         Key::Format => number::format(line, ended, words, at),
@@ -77,14 +77,43 @@ pub fn read(
             words,
             at,
         ),
-        Key::Init => predicates::location(line, ended, b"init=", counts, words, at, scratch, sorts),
-        Key::Inv => predicates::location(line, ended, b"inv=", counts, words, at, scratch, sorts),
+        Key::Init => predicates::location(line, ended, b"init=", counts, words, at, nodes, sorts),
+        Key::Inv => predicates::location(line, ended, b"inv=", counts, words, at, nodes, sorts),
         Key::Edges => {
             let before = counts.edges;
             number::edges(line, ended, before, words, at)
         }
-        Key::Edge => edge::edge(line, ended, counts, words, at, scratch, sorts),
+        Key::Edge => edge::edge(line, ended, counts, words, at, nodes, sorts),
         Key::Compose => composition::composition(line, ended, counts, words, at),
         Key::End => LineRead::Fault(2),
     }
+}
+
+// The line's bytes without the LF, and whether an LF ended it; `words` is the table so far, `at` the place of its next
+// word. The memory for a predicate is as much as the line needs: to clear the most would take longer than to read most
+// lines.
+pub fn read(
+    line: &[u8],
+    ended: bool,
+    key: Key,
+    counts: Counts,
+    words: &mut [u32; Model::WORDS],
+    at: usize,
+) -> LineRead
+    ensures { λ r. ⌜ (r ≡ lineRead (now (line .entry)) ended key counts (now (words .entry)) at)
+        × (now (words .exit) ≡ lineAfter (now (line .entry)) ended key counts (now (words .entry)) at) ⌝ }
+{
+    if line.len() <= 256 {
+        let mut nodes = [0u32; 128];
+        let mut sorts = [false; 128];
+        return read_with(line, ended, key, counts, words, at, &mut nodes, &mut sorts);
+    }
+    if line.len() <= 4096 {
+        let mut nodes = [0u32; 2048];
+        let mut sorts = [false; 2048];
+        return read_with(line, ended, key, counts, words, at, &mut nodes, &mut sorts);
+    }
+    let mut nodes = [0u32; 32768];
+    let mut sorts = [false; 32768];
+    read_with(line, ended, key, counts, words, at, &mut nodes, &mut sorts)
 }

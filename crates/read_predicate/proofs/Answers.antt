@@ -127,7 +127,7 @@ unfolding readPred onSome
 read-stray-word part old new h r =
     rw (agree-stray (codes Due.Word (tokens part)) (readWords (tokens part)) (agree part h) (said-stray (codes Due.Word (tokens part)) (length old) (r .answered)))
 
--- Full: not where a text of 65,536 bytes is read into 32,768 places. A token that spells a word has a byte, and a space after it.
+-- Full: not where there is a place for every two bytes. A token that spells a word has a byte, and a space after it.
 unfoldable spread : List Bytes → ℕ
 spread [] = 0
 spread (t ∷ ts) = length t + 1 + spread ts
@@ -178,11 +178,15 @@ two-bytes due (t ∷ ts) = go (isWord (dueAfter due t)) (two-bytes (dueAfter due
     go true ih = omega (arith, gap-token due t (codes (dueAfter due t) ts))
     go false ih = omega arith
 
-pub never-full : (part old new : List ℕ) → length part ≤ 65536 → 32768 ≤ length old → Reads part old new Full → ⊥
+-- so many words at most are read of so many bytes
+pub half-as-many : (part : List ℕ) → 2 * gap strayCode (codes Due.Word (tokens part)) ≤ suc (length part)
 unfolding tokens
-never-full part old new h l r =
+half-as-many part = omega (arith, two-bytes Due.Word (parts space part), spread-parts space part)
+
+pub never-full : (part old new : List ℕ) → length part ≤ 2 * length old → Reads part old new Full → ⊥
+never-full part old new l r =
     let i = said-full (codes Due.Word (tokens part)) (length old) (r .answered) in
-    omega (arith, i, two-bytes Due.Word (parts space part), spread-parts space part)
+    omega (arith, i, half-as-many part)
 
 -- the words that were read, read back from their codes: `well_formed` of them is row 6
 pub words-read : (part old new : List ℕ) (n : ℕ) → sounds [] (tokens part) ≡ true → Reads part old new (Read n) → map wordOf (take n new) ≡ readWords (tokens part)
@@ -191,13 +195,3 @@ words-read part old new n h r =
     let i = read-all-words part old new n h r in
     let s = tokens-back [] (tokens part) (plain-by [] refl refl refl) h (i .free) in
     ap (map wordOf) (i .front) ∙ words-back (readWords (tokens part)) (s .ranged)
-
--- a text has no more words than `well_formed` takes, so that of these it says row 6
-pub formed-read : (part old new : List ℕ) (n : ℕ) → length part ≤ 65536 → sounds [] (tokens part) ≡ true → Reads part old new (Read n)
-    → (leb n 32768 && (leb n (length new) && not (lacks (readPred (map wordOf (take n new)))))) ≡ not (lacks (readPred (readWords (tokens part))))
-unfolding tokens
-formed-read part old new n l h r =
-    let i = said-read (codes Due.Word (tokens part)) (length old) n (r .answered) in
-    let few : n ≤ 32768 = omega (arith, i .0, two-bytes Due.Word (parts space part), spread-parts space part) in
-    let fit : n ≤ length new = omega (arith, i .1, r .long) in
-    rw (le-leb n 32768 few, le-leb n (length new) fit) (ap (λ (ws : List Word). not (lacks (readPred ws))) (words-read part old new n h r))

@@ -145,19 +145,19 @@ unfolding Below
 taken-low sorts sort k h r x e f = subst (Below h) (sym e ∙ f) (taken-below sorts sort k h)
 
 -- so there is room for one more
-module _ (sorts : List Bool) (sort : Bool) (k h : ℕ) (r : Height) (x : ℕ) (e : r ≡ takenFrom sorts sort k h) (f : r ≡ Of x) (l : h < 32768) where
-  pub room-once : (size : ℕ) → size ≡ 32768 → x ≤ size
-  room-once size z = let u : x ≤ h = taken-low sorts sort k h r x e f in omega arith
+module _ (sorts : List Bool) (sort : Bool) (k h : ℕ) (r : Height) (x : ℕ) (e : r ≡ takenFrom sorts sort k h) (f : r ≡ Of x) (size : ℕ) (l : h < size) where
+  pub room-once : x ≤ size
+  room-once = let u : x ≤ h = taken-low sorts sort k h r x e f in omega arith
 
   module _ (other : Bool) (j : ℕ) (s : Height) (y : ℕ) (g : s ≡ takenFrom sorts other j x) (i : s ≡ Of y) where
-    pub room-twice : (size : ℕ) → size ≡ 32768 → y < size
-    room-twice size z =
+    pub room-twice : y < size
+    room-twice =
         let u : x ≤ h = taken-low sorts sort k h r x e f in
         let v : y ≤ x = taken-low sorts other j x s y g i in
         omega arith
 
-    pub room-next : Fits w64 (y + 1)
-    room-next = record { fits = omega (arith, room-twice 32768 refl) }
+    pub room-next : Fits w64 size → Fits w64 (y + 1)
+    room-next g = record { fits = omega (arith, g .fits, room-twice) }
 
 taken-stack : (sorts : List Bool) (sort : Bool) (k h : ℕ) → stackAt sorts (takenFrom sorts sort k h) ≡ takeOff k sort (stacked sorts h)
 unfolding takenFrom stackAt takeOff stacked
@@ -209,7 +209,7 @@ module _ (a x : Arity) (e : x ≡ a) (old : List Bool) (h : ℕ) where
       unfolding stackAt onSome
       step-exprs z = off (pushed-on Off z)
 
-      module _ (top : ℕ) (z : t ≡ Of top) (room : h < 32768) (long : length old ≡ 32768) where
+      module _ (top : ℕ) (z : t ≡ Of top) (room : h < length old) where
         step-top : top ≤ h
         step-top =
             let u : b ≤ h = taken-low old true p h r b f g in
@@ -245,54 +245,68 @@ pub record Sorted (words : List ℕ) (n : ℕ) (sorts : List Bool) (height i : �
   pub stack : sortStack (map wordOf (drop i (take n words))) ≡ some (stacked sorts height)
   pub few : height + i ≤ n
 
--- what it answers
-abbrev formed : List ℕ → ℕ → Bool
-formed words n = leb n 32768 && (leb n (length words) && not (lacks (readPred (map wordOf (take n words)))))
+module _ (words : List ℕ) (n : ℕ) (b : n ≤ length words) where
+  pub formed-start : (sorts : List Bool) → Sorted words n sorts 0 n
+  unfolding sortStack stacked
+  formed-start sorts =
+      let z : length (take n words) ≤ n = omega (arith, length-take-le n words b) in
+      record { stack = rw (drop-of-length-le (take n words) z); few = omega arith }
 
-module _ (words : List ℕ) (n : ℕ) where
-  pub formed-many : 32768 < n → false ≡ formed words n
-  formed-many h = rw (lt-leb n 32768 h)
+  module _ (sorts : List Bool) (height i : ℕ) (inv : Sorted words n sorts height i) (z : i ≡ 0 → ⊥) (new : List Bool) (r : Height)
+      (p : Pushed (arityOf (wordOf (getD words (i - 1) 0))) sorts new height r) where
+    onward : sortStack (map wordOf (drop (i - 1) (take n words))) ≡ stackAt new r
+    unfolding sortStack onSome
+    onward =
+        let u : i - 1 < length (take n words) = omega (arith, length-take-le n words b, inv .few) in
+        let v : suc (i - 1) ≡ i = omega arith in
+        let w : i - 1 < n = omega (arith, inv .few) in
+        let d : drop (i - 1) (take n words) ≡ getD words (i - 1) 0 ∷ drop i (take n words) =
+        drop-cons (take n words) (i - 1) 0 u ∙ rw (getD-take n words (i - 1) 0 w, v) in
+        ap (λ (l : List ℕ). sortStack (map wordOf l)) d ∙ ap (onSome (pushSort (arityOf (wordOf (getD words (i - 1) 0))))) (inv .stack) ∙ sym (p .stack)
 
-  module _ (a : n ≤ 32768) where
-    pub formed-short : length words < n → false ≡ formed words n
-    formed-short h = rw (le-leb n 32768 a, lt-leb n (length words) h)
+    pub formed-on : (h : ℕ) → r ≡ Of h → Sorted words n new h (i - 1)
+    unfolding stackAt Below
+    formed-on h e =
+        let l : h ≤ height + 1 = subst (Below (height + 1)) e (p .low) in
+        record { stack = onward ∙ rw e; few = omega (arith, inv .few) }
+
+-- there is room for a sort of each word
+module _ (words : List ℕ) (n : ℕ) (old sorts : List Bool) (height i : ℕ) (a : n ≤ length old) (k : Scratch old sorts) (inv : Sorted words n sorts height i) where
+  pub formed-room : (i ≡ 0 → ⊥) → height < length sorts
+  formed-room z = omega (arith, inv .few, k .long)
+
+  pub formed-first : height ≡ 1 → 0 < length sorts
+  formed-first e = omega (arith, inv .few, k .long)
+
+-- what it answers, with room for so many sorts
+abbrev formed : List ℕ → (n room : ℕ) → Bool
+formed words n room = leb n room && (leb n (length words) && not (lacks (readPred (map wordOf (take n words)))))
+
+module _ (words : List ℕ) (n room : ℕ) where
+  pub formed-many : room < n → false ≡ formed words n room
+  formed-many h = rw (lt-leb n room h)
+
+  module _ (a : n ≤ room) where
+    pub formed-short : length words < n → false ≡ formed words n room
+    formed-short h = rw (le-leb n room a, lt-leb n (length words) h)
 
     module _ (b : n ≤ length words) where
-      by-sorts : (o : Option (List Bool)) → sortStack (map wordOf (take n words)) ≡ o → formed words n ≡ sole o
-      by-sorts o e = rw (le-leb n 32768 a, le-leb n (length words) b, formed-by-sorts (map wordOf (take n words)), e)
-
-      pub formed-start : (sorts : List Bool) → Sorted words n sorts 0 n
-      unfolding sortStack stacked
-      formed-start sorts =
-          let z : length (take n words) ≤ n = omega (arith, length-take-le n words b) in
-          record { stack = rw (drop-of-length-le (take n words) z); few = omega arith }
+      by-sorts : (o : Option (List Bool)) → sortStack (map wordOf (take n words)) ≡ o → formed words n room ≡ sole o
+      by-sorts o e = rw (le-leb n room a, le-leb n (length words) b, formed-by-sorts (map wordOf (take n words)), e)
 
       module _ (sorts : List Bool) (height i : ℕ) (inv : Sorted words n sorts height i) where
-        pub formed-room : (i ≡ 0 → ⊥) → height < 32768
-        formed-room z = omega (arith, inv .few)
+        pub formed-off : (z : i ≡ 0 → ⊥) (new : List Bool) (r : Height) → Pushed (arityOf (wordOf (getD words (i - 1) 0))) sorts new height r → r ≡ Off → false ≡ formed words n room
+        unfolding stackAt sole
+        formed-off z new r p e = sym (by-sorts none (sorts-none wordOf (i - 1) (take n words) (onward words n b sorts height i inv z new r p ∙ rw e)))
 
-        module _ (z : i ≡ 0 → ⊥) (new : List Bool) (r : Height) (p : Pushed (arityOf (wordOf (getD words (i - 1) 0))) sorts new height r) where
-          onward : sortStack (map wordOf (drop (i - 1) (take n words))) ≡ stackAt new r
-          unfolding sortStack onSome
-          onward =
-              let u : i - 1 < length (take n words) = omega (arith, length-take-le n words b, inv .few) in
-              let v : suc (i - 1) ≡ i = omega arith in
-              let w : i - 1 < n = omega (arith, inv .few) in
-              let d : drop (i - 1) (take n words) ≡ getD words (i - 1) 0 ∷ drop i (take n words) =
-              drop-cons (take n words) (i - 1) 0 u ∙ rw (getD-take n words (i - 1) 0 w, v) in
-              ap (λ (l : List ℕ). sortStack (map wordOf l)) d ∙ ap (onSome (pushSort (arityOf (wordOf (getD words (i - 1) 0))))) (inv .stack) ∙ sym (p .stack)
+        module _ (z : i ≡ 0) where
+          end-is : (eqb height 1 && getD sorts 0 false) ≡ formed words n room
+          end-is = sole-is sorts height ∙ sym (by-sorts _ (rw z at (inv .stack)))
 
-          pub formed-off : r ≡ Off → false ≡ formed words n
-          unfolding stackAt sole
-          formed-off e = sym (by-sorts none (sorts-none wordOf (i - 1) (take n words) (onward ∙ rw e)))
+          pub formed-more : (height ≡ 1 → ⊥) → false ≡ formed words n room
+          formed-more e = rw (ne-eqb height 1 e) at end-is
 
-          pub formed-on : (h : ℕ) → r ≡ Of h → Sorted words n new h (i - 1)
-          unfolding stackAt Below
-          formed-on h e =
-              let l : h ≤ height + 1 = subst (Below (height + 1)) e (p .low) in
-              record { stack = onward ∙ rw e; few = omega (arith, inv .few) }
+          pub formed-one : height ≡ 1 → getD sorts 0 false ≡ formed words n room
+          formed-one e = rw e at end-is
 
-        pub formed-end : i ≡ 0 → (eqb height 1 && getD sorts 0 false) ≡ formed words n
-        formed-end z = sole-is sorts height ∙ sym (by-sorts _ (rw z at (inv .stack)))
-
-pub ruleset formed-laws = (scratch-same, scratch-pushed, formed-many, formed-short, formed-start, formed-room, formed-off, formed-on, formed-end)
+pub ruleset formed-laws = (scratch-same, scratch-pushed, formed-many, formed-short, formed-start, formed-room, formed-off, formed-on, formed-more, formed-one, formed-first)

@@ -62,9 +62,9 @@ fn taken(sorts: &[bool], height: usize, count: usize, sort: bool) -> Height
     Height::Of(h)
 }
 
-// One word more: its operands off, itself on. The sorts are a slice: an array that is lent as one has a known length.
+// One word more: its operands off, itself on.
 fn step(word: u32, sorts: &mut [bool], height: usize) -> Height
-    requires { ⌜ (height < 32768) × (length (now sorts) ≡ 32768) ⌝ }
+    requires { ⌜ height < length (now sorts) ⌝ }
     ensures { λ r. ⌜ Pushed (arityOf (wordOf word)) (now (sorts .entry)) (now (sorts .exit)) height r ⌝ }
 {
     let Arity::Takes(preds, exprs, sort) = arity_of(word) else {
@@ -80,13 +80,14 @@ fn step(word: u32, sorts: &mut [bool], height: usize) -> Height
     Height::Of(top + 1)
 }
 
-// Do the first n words make one predicate? More than 32,768 make none that a text has room for. The sorts are scratch
-// memory, whatever stands in them: to clear as many would cost more than most predicates.
-pub fn well_formed(words: &[u32], n: usize, sorts: &mut [bool; 32768]) -> bool
-    ensures { λ r. ⌜ r ≡ (leb n 32768 && (leb n (length (now (words .entry))) && not (lacks (readPred (map wordOf (take n (now (words .entry)))))))) ⌝ }
+// Do the first n words make one predicate? There must be room for a sort of each. The sorts are scratch memory,
+// whatever stands in them: to clear as many would cost more than most predicates.
+pub fn well_formed(words: &[u32], n: usize, sorts: &mut [bool]) -> bool
+    ensures { λ r. ⌜ r ≡ (leb n (length (now (sorts .entry))) && (leb n (length (now (words .entry)))
+        && not (lacks (readPred (map wordOf (take n (now (words .entry)))))))) ⌝ }
     ensures { λ _. ⌜ Scratch (now (sorts .entry)) (now (sorts .exit)) ⌝ }
 {
-    if 32768 < n {
+    if sorts.len() < n {
         return false;
     }
     if words.len() < n {
@@ -101,5 +102,8 @@ pub fn well_formed(words: &[u32], n: usize, sorts: &mut [bool; 32768]) -> bool
         };
         height = h;
     }
-    (height == 1) & sorts[0]
+    if height != 1 {
+        return false;
+    }
+    sorts[0]
 }

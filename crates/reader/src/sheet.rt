@@ -52,14 +52,7 @@ fn stop_from(text: &[u8], byte: usize) -> usize
 }
 
 // The line at a place, which has this number.
-fn line(
-    text: &[u8],
-    number: usize,
-    place: Place,
-    words: &mut [u32; Model::WORDS],
-    scratch: &mut [u32; 32768],
-    sorts: &mut [bool; 32768],
-) -> Round
+fn line(text: &[u8], number: usize, place: Place, words: &mut [u32; Model::WORDS]) -> Round
     requires { ⌜ (place .byte < length (now text)) × (length (now text) ≤ maxBytes) ⌝ }
     ensures { λ r. ⌜ (r ≡ lineRound (now (text .entry)) number place (now (words .entry))) × (now (words .exit) ≡ lineRoundAfter (now (text .entry)) place (now (words .entry))) ⌝ }
 {
@@ -70,16 +63,7 @@ fn line(
     let key = due.key;
     let stop = stop_from(text, byte);
     let ended = stop < text.len();
-    let read = read_line::read(
-        &text[byte..stop],
-        ended,
-        key,
-        counts,
-        words,
-        at,
-        scratch,
-        sorts,
-    );
+    let read = read_line::read(&text[byte..stop], ended, key, counts, words, at);
     match read {
         LineRead::Fault(row) => Round::Done(ReadAnswer::Refused(row, number)),
         LineRead::Sound(count, nodes, next) => Round::On(place.after(count, nodes, next, stop)),
@@ -87,14 +71,7 @@ fn line(
 }
 
 // One round: no line is left, or none is due, or a line is read.
-fn round(
-    text: &[u8],
-    number: usize,
-    place: Place,
-    words: &mut [u32; Model::WORDS],
-    scratch: &mut [u32; 32768],
-    sorts: &mut [bool; 32768],
-) -> Round
+fn round(text: &[u8], number: usize, place: Place, words: &mut [u32; Model::WORDS]) -> Round
     requires { ⌜ (length (now text) ≤ maxBytes) ⌝ }
     ensures { λ r. ⌜ (r ≡ roundAt (now (text .entry)) number place (now (words .entry))) × (now (words .exit) ≡ roundAfter (now (text .entry)) place (now (words .entry))) ⌝ }
 {
@@ -111,7 +88,7 @@ fn round(
     if end {
         return Round::Done(ReadAnswer::Refused(2, number));
     }
-    line(text, number, place, words, scratch, sorts)
+    line(text, number, place, words)
 }
 
 // The text's lines into `words`, one after the other.
@@ -119,14 +96,12 @@ pub(crate) fn sheet(text: &[u8], words: &mut [u32; Model::WORDS]) -> ReadAnswer
     requires { ⌜ length (now text) ≤ maxBytes ⌝ }
     ensures { λ r. ⌜ (r ≡ sheetRead (now (text .entry)) (now (words .entry)) .answer) × (now (words .exit) ≡ sheetRead (now (text .entry)) (now (words .entry)) .words) ⌝ }
 {
-    let mut scratch = [0u32; 32768];
-    let mut sorts = [false; 32768];
     let mut place = Place::first();
     // Each line takes a byte at least, so the text has been read before the rounds are over; the last finds the end.
     let mut left = Model::BYTES + 1;
     let mut number: usize = 1;
     while left != 0 {
-        let next = round(text, number, place, words, &mut scratch, &mut sorts);
+        let next = round(text, number, place, words);
         match next {
             Round::Done(answer) => {
                 return answer;

@@ -1,6 +1,5 @@
 -- `edge` meets its contract: each way out is a law of EdgeLaws.
 use Rattle.read_line.proofs.EdgeLaws.{edge-laws}
-use Rattle.read_predicate.proofs.ScratchLaws.{scratch-laws}
 use borrow.Author.Needs.{needs}
 use Rattle.read_line.proofs.edge.edge.Statement.{statement}
 use Rattle.read_line.proofs.edge.edge.Tie as tie
@@ -12,7 +11,7 @@ misformed-requires : tie.Need-misformed-requires
 misformed-requires c κs = search needs
 
 returns : tie.Need-returns
-returns c = search (needs, edge-laws, scratch-laws)
+returns c = search (needs, edge-laws)
 
 slice-aggregate-value : tie.Need-slice-aggregate-value
 slice-aggregate-value c = search needs
@@ -23,8 +22,14 @@ value-requires c κs = search needs
 read-value-requires : tie.Need-read-value-requires
 read-value-requires c κs = search needs
 
+same-length : tie.Need-same-length
+same-length c = search needs
+
+same-length-2 : tie.Need-same-length-2
+same-length-2 c = search needs
+
 returns-2 : tie.Need-returns-2
-returns-2 c = search (needs, edge-laws, scratch-laws)
+returns-2 c = search (needs, edge-laws)
 
 pub edge-spec : {M : Type 1} → statement M
 edge-spec =
@@ -36,4 +41,6 @@ edge-spec =
     slice-aggregate-value
     value-requires
     read-value-requires
+    same-length
+    same-length-2
     returns-2)

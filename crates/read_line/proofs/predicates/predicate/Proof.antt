@@ -1,55 +1,24 @@
 -- `predicate` meets its contract: each way out is a law of PredicateLaws.
-use Rattle.read_line.proofs.PredicateLaws.{predicate-laws}
-use Rattle.read_predicate.proofs.ScratchLaws.{scratch-laws}
+use Rattle.read_line.proofs.PredicateLaws.{predicate-by}
 use borrow.Author.Needs.{needs}
 use Rattle.read_line.proofs.predicates.predicate.Statement.{statement}
 use Rattle.read_line.proofs.predicates.predicate.Tie as tie
 
-numbers-sound-requires : tie.Need-numbers-sound-requires
-numbers-sound-requires c κs = search needs
-
-returns : tie.Need-returns
-returns c = search (needs, predicate-laws, scratch-laws)
+ranges-requires : tie.Need-ranges-requires
+ranges-requires c κs = search needs
 
 read-requires : tie.Need-read-requires
 read-requires c κs = search needs
 
-enum-known-read : tie.Need-enum-known-read
-enum-known-read c = search needs
+same-length : tie.Need-same-length
+same-length c = search needs
 
-first-requires : tie.Need-first-requires
-first-requires c κs = search needs
+same-length-2 : tie.Need-same-length-2
+same-length-2 c = search needs
 
-judged-requires : tie.Need-judged-requires
-judged-requires c κs = search needs
-
-enum-told : tie.Need-enum-told
-enum-told c = search needs
-
-enum-told-2 : tie.Need-enum-told-2
-enum-told-2 c = search needs
-
-returns-2 : tie.Need-returns-2
-returns-2 c = (search (needs, predicate-laws), search (needs, scratch-laws))
-
-returns-3 : tie.Need-returns-3
-returns-3 c = search (needs, predicate-laws, scratch-laws)
-
-returns-4 : tie.Need-returns-4
-returns-4 c = search (needs, predicate-laws, scratch-laws)
+returns : tie.Need-returns
+returns c = search (needs, predicate-by)
 
 pub predicate-spec : {M : Type 1} → statement M
 predicate-spec =
-    tie.close
-    (tie.spec
-    numbers-sound-requires
-    returns
-    read-requires
-    enum-known-read
-    first-requires
-    judged-requires
-    enum-told
-    enum-told-2
-    returns-2
-    returns-3
-    returns-4)
+    tie.close (tie.spec ranges-requires read-requires same-length same-length-2 returns)

@@ -8,7 +8,7 @@ use Rattle.read_predicate.proofs.formed.well_formed.Statement.{statemen
 use Rattle.read_predicate.proofs.formed.well_formed.Tie as tie
 
 abbrev Inv-loop : tie.InvT-loop
-Inv-loop words n sorts₀ height₀ i₀ sorts height i = (n ≤ 32768) × (n ≤ length words) × Sorted words n sorts height i × Scratch sorts₀ sorts
+Inv-loop words n sorts₀ height₀ i₀ sorts height i = (n ≤ length sorts₀) × (n ≤ length words) × Sorted words n sorts height i × Scratch sorts₀ sorts
 
 abbrev μ-loop : tie.MeasureT-loop
 μ-loop words n sorts₀ height₀ i₀ sorts height i = i
@@ -23,22 +23,25 @@ loop-holds : tie.Need-loop-holds Inv-loop μ-loop
 loop-holds c = search (needs, formed-laws)
 
 sub-i : tie.Need-sub-i Inv-loop μ-loop
-sub-i c = search needs
+sub-i c = search (needs, formed-laws)
 
 mul-step : tie.Need-mul-step Inv-loop μ-loop
-mul-step c = search needs
+mul-step c = search (needs, formed-laws)
 
 shared-slice-read-step : tie.Need-shared-slice-read-step Inv-loop μ-loop
-shared-slice-read-step c = search needs
+shared-slice-read-step c = search (needs, formed-laws)
 
 step-requires : tie.Need-step-requires Inv-loop μ-loop
 step-requires c κs = search (needs, formed-laws)
 
 enum-known-h : tie.Need-enum-known-h Inv-loop μ-loop
-enum-known-h c = search needs
+enum-known-h c = search (needs, formed-laws)
 
 enum-told : tie.Need-enum-told Inv-loop μ-loop
-enum-told c = search needs
+enum-told c = search (needs, formed-laws)
+
+same-length : tie.Need-same-length Inv-loop μ-loop
+same-length c = search (needs, formed-laws)
 
 returns-3 : tie.Need-returns-3 Inv-loop μ-loop
 returns-3 c = search (needs, formed-laws)
@@ -49,11 +52,20 @@ loop-less c = search (needs, formed-laws)
 loop-again : tie.Need-loop-again Inv-loop μ-loop
 loop-again c = search (needs, formed-laws)
 
-element-copy-out-result : tie.Need-element-copy-out-result Inv-loop μ-loop
-element-copy-out-result c = search needs
+same-length-2 : tie.Need-same-length-2 Inv-loop μ-loop
+same-length-2 c = search (needs, formed-laws)
 
 returns-4 : tie.Need-returns-4 Inv-loop μ-loop
 returns-4 c = search (needs, formed-laws)
+
+slice-read-result : tie.Need-slice-read-result Inv-loop μ-loop
+slice-read-result c = search (needs, formed-laws)
+
+same-length-3 : tie.Need-same-length-3 Inv-loop μ-loop
+same-length-3 c = search (needs, formed-laws)
+
+returns-5 : tie.Need-returns-5 Inv-loop μ-loop
+returns-5 c = search (needs, formed-laws)
 
 pub well-formed-spec : {M : Type 1} → statement M
 well-formed-spec =
@@ -70,8 +82,12 @@ well-formed-spec =
     step-requires
     enum-known-h
     enum-told
+    same-length
     returns-3
     loop-less
     loop-again
-    element-copy-out-result
-    returns-4)
+    same-length-2
+    returns-4
+    slice-read-result
+    same-length-3
+    returns-5)

@@ -10,11 +10,11 @@ use Rattle.reader.proofs.sheet.sheet.Statement.{statement}
 use Rattle.reader.proofs.sheet.sheet.Tie as tie
 
 abbrev Inv-loop : tie.InvT-loop
-Inv-loop text words₀ scratch₀ sorts₀ place₀ left₀ number₀ words scratch sorts place left number =
+Inv-loop text words₀ place₀ left₀ number₀ words place left number =
     (readFrom text left number place words ≡ sheetRead text words₀) × (number + left ≡ maxBytes + 2) × (length text ≤ maxBytes)
 
 abbrev μ-loop : tie.MeasureT-loop
-μ-loop text words₀ scratch₀ sorts₀ place₀ left₀ number₀ words scratch sorts place left number = left
+μ-loop text words₀ place₀ left₀ number₀ words place left number = left
 
 first-requires : tie.Need-first-requires Inv-loop μ-loop
 first-requires c κs = search needs

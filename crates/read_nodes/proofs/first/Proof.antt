@@ -1,8 +1,8 @@
--- `first` meets its contract: each way out is a law of PredicateLaws.
-use Rattle.read_line.proofs.PredicateLaws.{first-laws}
+-- `first` meets its contract: each way out is a law of NodesLaws.
+use Rattle.read_nodes.proofs.NodesLaws.{first-laws}
 use borrow.Author.Needs.{needs}
-use Rattle.read_line.proofs.predicates.first.Statement.{statement}
-use Rattle.read_line.proofs.predicates.first.Tie as tie
+use Rattle.read_nodes.proofs.first.Statement.{statement}
+use Rattle.read_nodes.proofs.first.Tie as tie
 
 returns : tie.Need-returns
 returns c = search (needs, first-laws)
@@ -11,7 +11,7 @@ slice-aggregate-result : tie.Need-slice-aggregate-result
 slice-aggregate-result c = search (needs, first-laws)
 
 returns-2 : tie.Need-returns-2
-returns-2 c = search needs
+returns-2 c = search (needs, first-laws)
 
 pub first-spec : {M : Type 1} → statement M
 first-spec = tie.close (tie.spec returns slice-aggregate-result returns-2)

@@ -1,11 +1,8 @@
--- `extent` meets its contract: each way out is a law of PredicateLaws.
-use Rattle.read_line.proofs.PredicateLaws.{extent-laws}
+-- `extent` meets its contract: each way out is a law of NodesLaws.
+use Rattle.read_nodes.proofs.NodesLaws.{extent-laws}
 use borrow.Author.Needs.{needs}
-use Rattle.read_line.proofs.predicates.extent.Statement.{statement}
-use Rattle.read_line.proofs.predicates.extent.Tie as tie
-
-ranges-requires : tie.Need-ranges-requires
-ranges-requires c κs = search needs
+use Rattle.read_nodes.proofs.extent.Statement.{statement}
+use Rattle.read_nodes.proofs.extent.Tie as tie
 
 walk-requires : tie.Need-walk-requires
 walk-requires c κs = search needs
@@ -27,5 +24,4 @@ returns-4 c = search (needs, extent-laws)
 
 pub extent-spec : {M : Type 1} → statement M
 extent-spec =
-    tie.close
-    (tie.spec ranges-requires walk-requires returns returns-2 fits-requires returns-3 returns-4)
+    tie.close (tie.spec walk-requires returns returns-2 fits-requires returns-3 returns-4)
