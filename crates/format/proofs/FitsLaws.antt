@@ -1,26 +1,30 @@
--- The text of a model within the limits has at most 65,536 bytes.
-use Prim.Native.Nat.{ℕ, zero, suc, _+_, _*_, _/_, _%_, _^_, _≤_, _<_}
-use mathlib.Core.Path.{_≡_, refl, sym}
+-- The text of a model within the limits has at most 65,536 bytes: the longest numbers, lists and trees leave room to spare.
+use Prim.Native.Nat.{ℕ, zero, suc, _+_, _-_, _*_, _/_, _%_, _^_, _≤_, _<_}
+use mathlib.Core.Path.{_≡_, refl, sym, ap, _∙_}
 use mathlib.Core.Bool.{Bool, true, false, _&&_, true≢false, and-eq-true-iff}
 use mathlib.Core.List.{List, [], _∷_, _++_, append-assoc, map, flatMap, List·Memᴰ, List·Memᴰ·head, List·Memᴰ·tail}
+use mathlib.Core.Logic.{⊎-elim}
 use native.Mathlib.Omega.{arith}
 use borrow.Author.Tests.{lt-ltb, ltb-true, leb-true}
 use lib.ListN.{length, length-append}
 use lib.IntN.{ℤ, pos, negsuc}
 use lib.Dec.{leb, ltb}
-use Rattle.model.specs.Basic.{between, every, sum}
-use Rattle.model.specs.Bounds.{maxActions, maxLocations, maxEdges, maxBytes, leastNumber, greatestNumber}
-use Rattle.model.specs.Predicate.{Pred, Range, Word, words, nodeCount, allOf, anyOf, notWord, impWord, eqWord, leWord, numWord, oldWord, newWord, addWord, subWord, mulWord, ifWord, stray}
-use Rattle.model.specs.Composition.{Tree, par, syn, leaf, nodes, treeSize}
+use Rattle.model.specs.Basic.{between, every, sum, countUp}
+use Rattle.model.specs.Bounds.{maxActions, maxAutomata, maxLocations, maxEdges, maxOperands, maxBytes, leastNumber, greatestNumber}
+use Rattle.model.specs.Predicate as P
+use Rattle.model.specs.Predicate.{Pred, all, any, negate, imp, eq, le, Preds, more, operands, Expr, num, old, new, add, sub, mul, choose, Range, Word, words, wordsAll, wordsOf, nodeCount}
+use Rattle.model.specs.Composition.{Tree, par, syn, leaf, leaves, nodes, treeSize}
 use Rattle.model.specs.Model.{Location, Edge, Automaton, Model, edgeTotal}
 use Rattle.model.specs.Lines.{Entry, formatLine, actionsLine, variablesLine, variableLine, automataLine, syncLine, locationsLine, initLine, invLine, edgesLine, edgeLine, composeLine, keyOf, locationLines, automatonLines, lines}
 use Rattle.model.specs.Limits.{inRange, rises, treeRises, treeInRange}
-use Rattle.model.specs.Lawful.{locationNodes, automatonNodes, nodeTotal, LawfulRange, LawfulLocation, LawfulEdge, LawfulAutomaton, Lawful}
+use Rattle.model.specs.Lawful.{locationNodes, automatonNodes, nodeTotal, LawfulRange, LawfulLocation, LawfulEdge, LawfulAutomaton, LawfulTree, Lawful}
 use Rattle.model.proofs.LimitLines.{tree-ranged}
+use Rattle.model.proofs.Tests.{every-append}
 use Rattle.format.specs.Bytes.{LF, Bytes, bytes, ledBy, joined, space, comma, '0}
 use Rattle.format.specs.Number.{decimalIn, decimal, signed}
 use Rattle.format.specs.Spelling.{spelling, valueText, lineText, textOf, spelled, textOfPred, textOfList, spelledNode, textOfTree}
 use Rattle.format.proofs.BytesLaws.{flat-append}
+use Rattle.format.proofs.NumberLaws.{split}
 
 -- a number below 10 ^ (d + 1) takes at most d + 1 digits
 width : (d k n : ℕ) → n < 10 ^ suc d → length (decimalIn k n) ≤ suc d
@@ -37,10 +41,14 @@ pub decimal-width : (d n : ℕ) → n < 10 ^ suc d → length (decimal n) ≤ su
 unfolding decimal
 decimal-width d n h = width d (suc n) n h
 
-signed-width : (z : ℤ) → between leastNumber greatestNumber z ≡ true → length (signed z) ≤ 6
+-- a number of a sheet takes at most so many bytes
+abbrev longestNumber : ℕ
+longestNumber = 11
+
+signed-width : (z : ℤ) → between leastNumber greatestNumber z ≡ true → length (signed z) ≤ longestNumber
 unfolding signed between
-signed-width (pos n) h = let l = leb-true n _ h in let w = decimal-width 4 n (omega arith) in omega arith
-signed-width (negsuc n) h = let g = simp and-eq-true-iff at h in let l = leb-true n _ (g .0) in let w = decimal-width 4 (suc n) (omega arith) in omega arith
+signed-width (pos n) h = let l = leb-true n _ h in let w = decimal-width 9 n (omega arith) in omega arith
+signed-width (negsuc n) h = let g = simp and-eq-true-iff at h in let l = leb-true n _ (g .0) in let w = decimal-width 9 (suc n) (omega arith) in omega arith
 
 -- the bytes of parts, each with a byte before it
 abbrev size : List Bytes → ℕ
@@ -52,70 +60,99 @@ unfolding ledBy
 size-led c [] = refl
 size-led c (s ∷ ss) = let ih = size-led c ss in let e = length-append s (ledBy c ss) in omega arith
 
-size-joined : (c : ℕ) (ss : List Bytes) → length (joined c ss) ≤ size ss
+size-joined : (c : ℕ) (ss : List Bytes) → length (joined c ss) ≡ size ss - 1
 unfolding joined
-size-joined c [] = omega arith
+size-joined c [] = refl
 size-joined c (s ∷ ss) = let e = length-append s (ledBy c ss) in let l = size-led c ss in omega arith
 
 size-append : (a b : List Bytes) → size (a ++ b) ≡ size a + size b
 size-append [] b = omega arith
 size-append (s ∷ a) b = let ih = size-append a b in omega arith
 
--- a word of a predicate takes at most 8 bytes, with the space before it
-word-size : (w : Word) → inRange w ≡ true → size (spelled w) ≤ 8
-unfolding inRange spelled
-word-size (allOf k) h = let l = leb-true k _ h in let d = decimal-width 2 k (omega arith) in omega arith
-word-size (anyOf k) h = let l = leb-true k _ h in let d = decimal-width 2 k (omega arith) in omega arith
-word-size notWord h = omega arith
-word-size impWord h = omega arith
-word-size eqWord h = omega arith
-word-size leWord h = omega arith
-word-size (numWord z) h = let d = signed-width z h in omega arith
-word-size (oldWord k) h = let l = leb-true k _ h in let d = decimal-width 1 k (omega arith) in omega arith
-word-size (newWord k) h = let l = leb-true k _ h in let d = decimal-width 1 k (omega arith) in omega arith
-word-size addWord h = omega arith
-word-size subWord h = omega arith
-word-size mulWord h = omega arith
-word-size ifWord h = omega arith
-word-size stray h = omega arith
+-- Predicates. An expression may take more than 39 bytes for four nodes, as a number does; but two expressions need a
+-- predicate's word, which takes less. So what is over at an expression is owed by a predicate.
+abbrev cost : List Word → ℕ
+cost ws = size (flatMap spelled ws)
 
-words-size : (ws : List Word) → every inRange ws ≡ true → size (flatMap spelled ws) ≤ 8 * length ws
-unfolding every flatMap
-words-size [] h = omega arith
-words-size (w ∷ ws) h =
-    let g = simp and-eq-true-iff at h in
-    let p = word-size w (g .0) in
-    let ih = words-size ws (g .1) in
-    let e = size-append (spelled w) (flatMap spelled ws) in
-    omega arith
+record Parts (a b : List Word) : Type 0 where
+  first : every inRange a ≡ true
+  second : every inRange b ≡ true
+  bytes : cost (a ++ b) ≡ cost a + cost b
+  nodes : length (a ++ b) ≡ length a + length b
 
-pred-size : (p : Pred) → every inRange (words p) ≡ true → length (textOfPred p) ≤ 8 * nodeCount p
+parts : (a b : List Word) → every inRange (a ++ b) ≡ true → Parts a b
+parts a b h =
+    let g = simp (every-append inRange a b, and-eq-true-iff) at h in
+    record { first = g .0; second = g .1; bytes = ap size (flat-append spelled a b) ∙ size-append (flatMap spelled a) (flatMap spelled b); nodes = length-append a b }
+
+-- the K of `all` and `any` takes three digits only where there are operands
+count-width : (k : ℕ) → k ≤ maxOperands → 4 * length (decimal k) ≤ 10 + 9 * k
+count-width zero l = let d = decimal-width 0 0 (omega arith) in omega arith
+count-width (suc k) l = let d = decimal-width 2 (suc k) (omega arith) in omega arith
+
+mutual
+  unfolding words wordsAll wordsOf every inRange flatMap spelled operands
+
+  pred-cost : (p : Pred) → every inRange (words p) ≡ true → 4 * cost (words p) + 9 ≤ 39 * length (words p)
+  pred-cost (all ps) h =
+      let g = simp and-eq-true-iff at h in
+      omega (arith, count-width (operands ps) (leb-true (operands ps) maxOperands (g .0)), preds-cost ps (g .1))
+  pred-cost (any ps) h =
+      let g = simp and-eq-true-iff at h in
+      omega (arith, count-width (operands ps) (leb-true (operands ps) maxOperands (g .0)), preds-cost ps (g .1))
+  pred-cost (negate p) h = omega (arith, pred-cost p h)
+  pred-cost (imp p q) h = let g = parts (words p) (words q) h in omega (arith, g .bytes, g .nodes, pred-cost p (g .first), pred-cost q (g .second))
+  pred-cost (eq x y) h = let g = parts (wordsOf x) (wordsOf y) h in omega (arith, g .bytes, g .nodes, expr-cost x (g .first), expr-cost y (g .second))
+  pred-cost (le x y) h = let g = parts (wordsOf x) (wordsOf y) h in omega (arith, g .bytes, g .nodes, expr-cost x (g .first), expr-cost y (g .second))
+
+  preds-cost : (ps : Preds) → every inRange (wordsAll ps) ≡ true → 4 * cost (wordsAll ps) + 9 * operands ps ≤ 39 * length (wordsAll ps)
+  preds-cost P.none h = omega arith
+  preds-cost (more p ps) h = let g = parts (words p) (wordsAll ps) h in omega (arith, g .bytes, g .nodes, pred-cost p (g .first), preds-cost ps (g .second))
+
+  expr-cost : (x : Expr) → every inRange (wordsOf x) ≡ true → 4 * cost (wordsOf x) ≤ 39 * length (wordsOf x) + 9
+  expr-cost (num z) h = let g = simp and-eq-true-iff at h in omega (arith, signed-width z (g .0))
+  expr-cost (old k) h = let g = simp and-eq-true-iff at h in let l = leb-true k _ (g .0) in omega (arith, decimal-width 1 k (omega arith))
+  expr-cost (new k) h = let g = simp and-eq-true-iff at h in let l = leb-true k _ (g .0) in omega (arith, decimal-width 1 k (omega arith))
+  expr-cost (add x y) h = let g = parts (wordsOf x) (wordsOf y) h in omega (arith, g .bytes, g .nodes, expr-cost x (g .first), expr-cost y (g .second))
+  expr-cost (sub x y) h = let g = parts (wordsOf x) (wordsOf y) h in omega (arith, g .bytes, g .nodes, expr-cost x (g .first), expr-cost y (g .second))
+  expr-cost (mul x y) h = let g = parts (wordsOf x) (wordsOf y) h in omega (arith, g .bytes, g .nodes, expr-cost x (g .first), expr-cost y (g .second))
+  expr-cost (choose p x y) h =
+      let g = parts (words p) (wordsOf x ++ wordsOf y) h in
+      let k = parts (wordsOf x) (wordsOf y) (g .second) in
+      omega (arith, g .bytes, g .nodes, k .bytes, k .nodes, pred-cost p (g .first), expr-cost x (k .first), expr-cost y (k .second))
+
+pred-size : (p : Pred) → every inRange (words p) ≡ true → 4 * length (textOfPred p) + 13 ≤ 39 * nodeCount p
 unfolding textOfPred nodeCount
-pred-size p h = let w = words-size (words p) h in let j = size-joined space (flatMap spelled (words p)) in omega arith
+pred-size p h = omega (arith, pred-cost p h, size-joined space (flatMap spelled (words p)))
 
--- a list that rises to A takes at most 3 bytes for each number up to A
-rising-size : (A last : ℕ) (list : List ℕ) → A ≤ maxActions → last ≤ A → rises A last list ≡ true → 3 * last + size (map decimal list) ≤ 3 * A
+-- a list that rises to A takes at most 2 bytes for each number up to 9, and 3 for each from 10 on
+digits : (k : ℕ) → k ≤ maxActions → (length (decimal k) ≤ 2) × (length (decimal k) ≤ 1 + (k - 9))
+digits k h = (two, ⊎-elim (λ (l : k < 10). let d = decimal-width 0 k l in omega arith) (λ (l : 10 ≤ k). omega (arith, two)) (split k 10))
+  where
+    two : length (decimal k) ≤ 2
+    two = decimal-width 1 k (omega arith)
+
+rising-size : (A last : ℕ) (list : List ℕ) → A ≤ maxActions → last ≤ A → rises A last list ≡ true → 2 * last + (last - 9) + size (map decimal list) ≤ 2 * A + (A - 9)
 unfolding rises
 rising-size A last [] a l h = omega arith
 rising-size A last (k ∷ ks) a l h = go (ltb last k && leb k A) refl h (λ i j. rising-size A k ks a i j)
   where
-    go : (t : Bool) → (ltb last k && leb k A) ≡ t → elim t [ true ↦ rises A k ks | false ↦ false ] ≡ true → (k ≤ A → rises A k ks ≡ true → 3 * k + size (map decimal ks) ≤ 3 * A) → 3 * last + size (map decimal (k ∷ ks)) ≤ 3 * A
+    go : (t : Bool) → (ltb last k && leb k A) ≡ t → elim t [ true ↦ rises A k ks | false ↦ false ] ≡ true → (k ≤ A → rises A k ks ≡ true → 2 * k + (k - 9) + size (map decimal ks) ≤ 2 * A + (A - 9)) → 2 * last + (last - 9) + size (map decimal (k ∷ ks)) ≤ 2 * A + (A - 9)
     go true e h ih =
         let g = simp and-eq-true-iff at e in
         let i = ltb-true last k (g .0) in
         let j = leb-true k A (g .1) in
-        let d = decimal-width 1 k (omega arith) in
-        let w = ih j h in
-        omega arith
+        let d = digits k (omega arith) in
+        omega (arith, d .0, d .1, ih j h)
     go false e h ih = absurd (true≢false (sym h))
 
-list-size : (A : ℕ) (list : List ℕ) → A ≤ maxActions → rises A 0 list ≡ true → length (textOfList list) ≤ 189
+list-size : (A : ℕ) (list : List ℕ) → A ≤ maxActions → rises A 0 list ≡ true → length (textOfList list) ≤ 179
 unfolding textOfList
-list-size A list a h = let w = rising-size A 0 list a (omega arith) h in let j = size-joined comma (map decimal list) in omega arith
+list-size A list a h = omega (arith, rising-size A 0 list a (omega arith) h, size-joined comma (map decimal list))
 
--- a node of the tree takes at most 194 bytes, with the space before it
-nodes-size : (A : ℕ) (c : Tree) → A ≤ maxActions → treeRises A c ≡ true → treeInRange c ≡ true → size (flatMap spelledNode (nodes c)) ≤ 194 * length (nodes c)
-unfolding treeRises treeInRange nodes flatMap spelledNode
+-- A node of the tree takes at most 184 bytes, with the space before it; of a leaf with the `par` that it needs, 360 are left.
+nodes-size : (A : ℕ) (c : Tree) → A ≤ maxActions → treeRises A c ≡ true → treeInRange c ≡ true → size (flatMap spelledNode (nodes c)) + 360 * length (leaves c) ≤ 184 * length (nodes c) + 180
+unfolding treeRises treeInRange nodes leaves flatMap spelledNode
 nodes-size A (par c d) a h r =
     let g = simp and-eq-true-iff at h in
     let k = simp and-eq-true-iff at r in
@@ -123,6 +160,7 @@ nodes-size A (par c d) a h r =
     let q = nodes-size A d a (g .1) (k .1) in
     let e = size-append (flatMap spelledNode (nodes c)) (flatMap spelledNode (nodes d)) in
     let n = length-append (nodes c) (nodes d) in
+    let l = length-append (leaves c) (leaves d) in
     rw (flat-append spelledNode (nodes c) (nodes d)) (omega arith)
 nodes-size A (syn list c) a h r =
     let g = simp and-eq-true-iff at h in
@@ -132,9 +170,16 @@ nodes-size A (syn list c) a h r =
     omega arith
 nodes-size A (leaf k) a h r = let l = leb-true k _ r in let d = decimal-width 1 k (omega arith) in omega arith
 
-tree-size : (A : ℕ) (c : Tree) → A ≤ maxActions → treeRises A c ≡ true → treeInRange c ≡ true → length (textOfTree c) ≤ 194 * treeSize c
+count-length : (n count : ℕ) → length (countUp n count) ≡ count
+unfolding countUp
+count-length n zero = refl
+count-length n (suc count) = ap suc (count-length (suc n) count)
+
+tree-size : (A N : ℕ) (c : Tree) → A ≤ maxActions → N ≤ maxAutomata → LawfulTree A N c → length (textOfTree c) + 360 * N ≤ 184 * treeSize c + 180
 unfolding textOfTree treeSize
-tree-size A c a h r = let w = nodes-size A c a h r in let j = size-joined space (flatMap spelledNode (nodes c)) in omega arith
+tree-size A N c a n h =
+    let w = nodes-size A c a (h .lists) (tree-ranged A N c a n h) in
+    omega (arith, w, size-joined space (flatMap spelledNode (nodes c)), ap (length {A = ℕ}) (h .in-order), count-length 0 N)
 
 -- a line: its key, its value and LF
 line-size : (e : Entry) → length (lineText e) ≡ suc (length (spelling (keyOf e)) + length (valueText e))
@@ -158,7 +203,7 @@ total-append [] b = omega arith
 total-append (e ∷ a) b = let ih = total-append a b in omega arith
 
 -- the lines of some variables, locations and edges
-variables-total : (xs : List Range) → ((x : Range) → List·Memᴰ x xs → LawfulRange x) → total (map variableLine xs) ≤ 24 * length xs
+variables-total : (xs : List Range) → ((x : Range) → List·Memᴰ x xs → LawfulRange x) → total (map variableLine xs) ≤ (11 + 2 * longestNumber) * length xs
 unfolding valueText keyOf spelling
 variables-total [] h = omega arith
 variables-total (x ∷ xs) h =
@@ -171,7 +216,7 @@ variables-total (x ∷ xs) h =
     omega arith
 
 module _ (vs : List Range) where
-  locations-total : (xs : List Location) → ((l : Location) → List·Memᴰ l xs → LawfulLocation vs l) → total (flatMap locationLines xs) ≤ 11 * length xs + 8 * sum (map locationNodes xs)
+  locations-total : (xs : List Location) → ((l : Location) → List·Memᴰ l xs → LawfulLocation vs l) → 4 * total (flatMap locationLines xs) ≤ 18 * length xs + 39 * sum (map locationNodes xs)
   unfolding valueText keyOf spelling flatMap locationLines sum locationNodes
   locations-total [] h = omega arith
   locations-total (x ∷ xs) h =
@@ -183,7 +228,7 @@ module _ (vs : List Range) where
       let ih = locations-total xs (λ y m. h y (List·Memᴰ·tail m)) in
       omega arith
 
-  edges-total : (A L : ℕ) → A ≤ maxActions → L ≤ maxLocations → (xs : List Edge) → ((e : Edge) → List·Memᴰ e xs → LawfulEdge vs A L e) → total (map edgeLine xs) ≤ 16 * length xs + 8 * sum (map (λ e. nodeCount (e .update)) xs)
+  edges-total : (A L : ℕ) → A ≤ maxActions → L ≤ maxLocations → (xs : List Edge) → ((e : Edge) → List·Memᴰ e xs → LawfulEdge vs A L e) → 4 * total (map edgeLine xs) ≤ 47 * length xs + 39 * sum (map (λ e. nodeCount (e .update)) xs)
   unfolding valueText keyOf spelling sum
   edges-total A L a l [] h = omega arith
   edges-total A L a l (x ∷ xs) h =
@@ -197,7 +242,7 @@ module _ (vs : List Range) where
       let ih = edges-total A L a l xs (λ y m. h y (List·Memᴰ·tail m)) in
       omega arith
 
-  automaton-total : (A : ℕ) → A ≤ maxActions → (x : Automaton) → LawfulAutomaton vs A x → length (x .edges) ≤ maxEdges → total (automatonLines x) ≤ 570 + 16 * length (x .edges) + 8 * automatonNodes x
+  automaton-total : (A : ℕ) → A ≤ maxActions → (x : Automaton) → LawfulAutomaton vs A x → length (x .edges) ≤ maxEdges → 4 * total (automatonLines x) ≤ 1408 + 47 * length (x .edges) + 39 * automatonNodes x
   unfolding valueText keyOf spelling automatonLines automatonNodes
   automaton-total A a x h n =
       let e₁ = line-size (syncLine (x .sync)) in
@@ -211,7 +256,7 @@ module _ (vs : List Range) where
       let j = total-append (flatMap locationLines (x .locations)) (edgesLine (length (x .edges)) ∷ map edgeLine (x .edges)) in
       omega arith
 
-  automata-total : (A : ℕ) → A ≤ maxActions → (xs : List Automaton) → ((x : Automaton) → List·Memᴰ x xs → LawfulAutomaton vs A x) → edgeTotal xs ≤ maxEdges → total (flatMap automatonLines xs) ≤ 570 * length xs + 16 * edgeTotal xs + 8 * nodeTotal xs
+  automata-total : (A : ℕ) → A ≤ maxActions → (xs : List Automaton) → ((x : Automaton) → List·Memᴰ x xs → LawfulAutomaton vs A x) → edgeTotal xs ≤ maxEdges → 4 * total (flatMap automatonLines xs) ≤ 1408 * length xs + 47 * edgeTotal xs + 39 * nodeTotal xs
   unfolding flatMap edgeTotal nodeTotal sum
   automata-total A a [] h n = omega arith
   automata-total A a (x ∷ xs) h n =
@@ -220,9 +265,9 @@ module _ (vs : List Range) where
       let j = total-append (automatonLines x) (flatMap automatonLines xs) in
       omega arith
 
-pub text-fits : (m : Model) → Lawful m → length (textOf m) ≤ maxBytes
+text-size : (m : Model) → Lawful m → length (textOf m) ≤ 59538
 unfolding textOf lines valueText keyOf spelling
-text-fits m h =
+text-size m h =
     let e₁ = line-size (formatLine (m .format)) in
     let d₁ = decimal-width 0 (m .format) (omega arith) in
     let e₂ = line-size (actionsLine (m .actions)) in
@@ -232,10 +277,13 @@ text-fits m h =
     let e₄ = line-size (automataLine (length (m .automata))) in
     let d₄ = decimal-width 1 (length (m .automata)) (omega arith) in
     let e₅ = line-size (composeLine (m .tree)) in
-    let d₅ = tree-size (m .actions) (m .tree) (h .few-actions) (h .tree .lists) (tree-ranged (m .actions) (length (m .automata)) (m .tree) (h .few-actions) (h .few-automata) (h .tree)) in
+    let d₅ = tree-size (m .actions) (length (m .automata)) (m .tree) (h .few-actions) (h .few-automata) (h .tree) in
     let p = variables-total (m .variables) (h .ranges) in
     let q = automata-total (m .variables) (m .actions) (h .few-actions) (m .automata) (h .automata) (h .few-edges) in
     let j = total-append (map variableLine (m .variables)) (automataLine (length (m .automata)) ∷ (flatMap automatonLines (m .automata) ++ (composeLine (m .tree) ∷ []))) in
     let k = total-append (flatMap automatonLines (m .automata)) (composeLine (m .tree) ∷ []) in
     let i = total-is (lines m) in
     omega arith
+
+pub text-fits : (m : Model) → Lawful m → length (textOf m) ≤ maxBytes
+text-fits m h = omega (arith, text-size m h)
