@@ -215,12 +215,13 @@ pub record Least (masks : List ℕ) (from u all least i : ℕ) : Type 0 where
 pub least-first : (masks : List ℕ) (from u all : ℕ) → Least masks from u all all from
 least-first masks from u all = record { most = omega arith; each = λ j a b. absurd (omega arith) }
 
-pub least-more : (masks : List ℕ) (from u all least i x left next : ℕ) → Least masks from u all least i → x ≡ leftBy masks u i → left ≡ ones x → next ≤ least → next ≤ left
+pub least-more : (masks : List ℕ) (from u all least i left next : ℕ) → Least masks from u all least i → left ≡ ones (bitAnd u (getD masks i 0)) → next ≤ least → next ≤ left
     → Least masks from u all next (i + 1)
-least-more masks from u all least i x left next s ex el a b = record {
+unfolding leftBy
+least-more masks from u all least i left next s e a b = record {
   most = omega (arith, s .most);
   each = λ j l h. elim (other j i h) [
-    | inl z ↦ omega (arith, el, ap ones ex, ap (λ y. ones (leftBy masks u y)) z)
+    | inl z ↦ omega (arith, e, ap (λ y. ones (bitAnd u (getD masks y 0))) z)
     | inr z ↦ omega (arith, s .each j l z)
   ];
 }
@@ -229,6 +230,12 @@ pub gain-is : (masks : List ℕ) (from to u all least i : ℕ) → Least masks f
 gain-is masks from to u all least i s h e j l m = omega (arith, s .most, s .each j l (omega arith))
 
 pub ruleset gain-laws = (least-first, least-more, gain-is)
+
+pub gain-all : (masks : List ℕ) (from to u all : ℕ) → all ≡ ones u → CoversAtMost masks from to u all
+gain-all masks from to u all e j l m = omega (arith, e)
+
+pub gain-few : (u all : ℕ) → u < 2 ^ 64 → all ≡ ones u → all ≤ 64
+gain-few u all h e = omega (arith, ones-le 64 u h)
 
 pub gain-small : (u all least : ℕ) → u < 2 ^ 64 → all ≡ ones u → all - least ≤ 64
 gain-small u all least h e = omega (arith, ones-le 64 u h)
