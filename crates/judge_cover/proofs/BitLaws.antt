@@ -38,11 +38,11 @@ unfolding bit
 bit-and a b k = ap (λ n. eqb (n % 2) 1) (and-shr a b k) ∙ odd-and (a / 2 ^ k) (b / 2 ^ k)
 
 -- numbers with the same bits are equal
-bit-next : (a k : ℕ) → bit a (suc k) ≡ bit (a / 2) k
+pub bit-next : (a k : ℕ) → bit a (suc k) ≡ bit (a / 2) k
 unfolding bit
 bit-next a k = rw (pow-succ' 2 k, div-div-eq-div-mul)
 
-bit-first : (a : ℕ) → bit a 0 ≡ eqb (a % 2) 1
+pub bit-first : (a : ℕ) → bit a 0 ≡ eqb (a % 2) 1
 unfolding bit
 bit-first a = rw (div-one a)
 

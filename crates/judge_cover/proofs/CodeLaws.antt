@@ -6,10 +6,11 @@ use mathlib.Core.Logic.{_⊎_, inl, inr}
 use Prim.Native.Nat.{ℕ, zero, suc, _+_, _-_, _/_, _%_, _^_, _≤_, _<_}
 use native.Mathlib.Omega.{arith}
 use native.Mathlib.Numerals.{add-one}
+use native.Mathlib.Nat.{pow-succ'}
 use lib.ListN.{length, getD, set, replicate, length-set, length-replicate}
 use lib.Seq.{getD-set-same, getD-set-other}
 use lib.Bits.{bitAnd, and-self}
-use lib.Count.{ones, ones-le}
+use lib.Count.{ones, ones-le, trailingZeros, under}
 use lib.Dec.{eqb, leb, ltb}
 use borrow.Author.Tests.{eqb-true, eqb-false, eq-eqb, lt-ltb, le-ltb, ltb-true, ltb-false, le-leb, lt-leb, leb-true}
 use Rattle.model.specs.Basic.{every, exists, keep, countUp, sum}
@@ -18,7 +19,7 @@ use Rattle.model.specs.Table.{bit}
 use Rattle.table_tree.proofs.SetLaws.{both-ways}
 use Rattle.judge_cover.specs.Cover.{within, leftBy, dominated, skippedAt, worth, namedIn, useful, past, allFilled}
 use Rattle.judge_cover.specs.Steps.{advanced, Without, CoversAtMost, PartOf}
-use Rattle.judge_cover.proofs.BitLaws.{bit-and, same-bits, no-bits, and-assoc, and-swap}
+use Rattle.judge_cover.proofs.BitLaws.{bit-and, bit-next, bit-first, and-assoc, and-swap}
 use Rattle.judge_cover.proofs.CoverLaws.{within-is, is-within}
 
 -- sets and edges
@@ -214,12 +215,13 @@ pub record Least (masks : List ℕ) (from u all least i : ℕ) : Type 0 where
 pub least-first : (masks : List ℕ) (from u all : ℕ) → Least masks from u all all from
 least-first masks from u all = record { most = omega arith; each = λ j a b. absurd (omega arith) }
 
-pub least-more : (masks : List ℕ) (from u all least i x left next : ℕ) → Least masks from u all least i → x ≡ leftBy masks u i → left ≡ ones x → next ≤ least → next ≤ left
+pub least-more : (masks : List ℕ) (from u all least i left next : ℕ) → Least masks from u all least i → left ≡ ones (bitAnd u (getD masks i 0)) → next ≤ least → next ≤ left
     → Least masks from u all next (i + 1)
-least-more masks from u all least i x left next s ex el a b = record {
+unfolding leftBy
+least-more masks from u all least i left next s e a b = record {
   most = omega (arith, s .most);
   each = λ j l h. elim (other j i h) [
-    | inl z ↦ omega (arith, el, ap ones ex, ap (λ y. ones (leftBy masks u y)) z)
+    | inl z ↦ omega (arith, e, ap (λ y. ones (bitAnd u (getD masks y 0))) z)
     | inr z ↦ omega (arith, s .each j l z)
   ];
 }
@@ -228,6 +230,12 @@ pub gain-is : (masks : List ℕ) (from to u all least i : ℕ) → Least masks f
 gain-is masks from to u all least i s h e j l m = omega (arith, s .most, s .each j l (omega arith))
 
 pub ruleset gain-laws = (least-first, least-more, gain-is)
+
+pub gain-all : (masks : List ℕ) (from to u all : ℕ) → all ≡ ones u → CoversAtMost masks from to u all
+gain-all masks from to u all e j l m = omega (arith, e)
+
+pub gain-few : (u all : ℕ) → u < 2 ^ 64 → all ≡ ones u → all ≤ 64
+gain-few u all h e = omega (arith, ones-le 64 u h)
 
 pub gain-small : (u all least : ℕ) → u < 2 ^ 64 → all ≡ ones u → all - least ≤ 64
 gain-small u all least h e = omega (arith, ones-le 64 u h)
@@ -250,25 +258,15 @@ part-part w x u p q = record {
 
 pub ruleset part-laws = (part-self, part-and, part-part)
 
--- `first`: a set with no variable below 64 is empty
-pub record NoneBelow (u k : ℕ) : Type 0 where
-  pub none : (j : ℕ) → j < k → bit u j ≡ false
-
-pub first-start : (u : ℕ) → NoneBelow u 0
-first-start u = record { none = λ j l. absurd (omega arith) }
-
-pub first-more : (u k : ℕ) (b : Bool) → NoneBelow u k → b ≡ bit u k → b ≡ false → NoneBelow u (k + 1)
-first-more u k b s e f = record { none = λ j l. elim (other j k l) [ inl z ↦ ap (bit u) z ∙ sym e ∙ f | inr z ↦ s .none j z ] }
-
-pub first-here : (u k : ℕ) (b : Bool) → b ≡ bit u k → b ≡ true → 0 < u → bit u k ≡ true
-first-here u k b e h some = sym e ∙ h
-
-pub first-none : (u k : ℕ) → NoneBelow u k → 64 ≤ k → u < 2 ^ 64 → 0 < u → bit u 64 ≡ true
-first-none u k s h small some =
-    let z = same-bits 64 u 0 small (omega arith) (λ j l. s .none j (omega arith) ∙ sym (no-bits j)) in
-    absurd (omega arith)
-
-pub ruleset first-laws = (first-start, first-more, first-here, first-none)
+-- `first`
+pub first-is : (k u : ℕ) → u < 2 ^ k → 0 < u → bit u (trailingZeros k u) ≡ true
+unfolding trailingZeros
+first-is zero u small some = absurd (omega arith)
+first-is (suc k) u small some = go (first-is k (u / 2)) (u % 2) refl
+  where
+    go : (u / 2 < 2 ^ k → 0 < u / 2 → bit (u / 2) (trailingZeros k (u / 2)) ≡ true) → (d : ℕ) → u % 2 ≡ d → bit u (under d (trailingZeros k (u / 2))) ≡ true
+    go ih zero e = let p = pow-succ' 2 k in bit-next u (trailingZeros k (u / 2)) ∙ ih (omega arith) (omega arith)
+    go ih (suc d) e = bit-first u ∙ eq-eqb (u % 2) 1 (omega arith)
 
 pub chosen : (w u r : ℕ) → PartOf w u → (0 < w → bit w r ≡ true) → 0 < u → bit u r ≡ true
 chosen w u r p f h = go (bit u r) refl

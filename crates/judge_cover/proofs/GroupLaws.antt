@@ -12,6 +12,7 @@ use Rattle.model.specs.Basic.{keep, countUp, sum}
 use Rattle.model.specs.Bounds.{maxAutomata}
 use Rattle.model.specs.Table.{bit}
 use Rattle.model.proofs.Lists.{keep-append, keep-first, keep-skip}
+use Rattle.model.proofs.Tests.{not-false}
 use Rattle.judge_cover.specs.declared.sift.Room.{Room}
 use Rattle.judge_cover.specs.declared.sift.Room.the-variants.{At, Full}
 use Rattle.judge_cover.specs.Cover.{group, groups, groupsOf, useful, siftedGroup, siftedGroups}
@@ -53,28 +54,40 @@ pub record Sifting (masks : List ℕ) (from to u total gain : ℕ) (before : Lis
   pub size : length kept ≡ 512
   pub grown : count ≤ next
   pub room : next ≤ 512
+  pub fits : next + to ≤ 512 + i
+  pub inside : to ≤ length masks
   pub same : (j : ℕ) → j < count → getD kept j 0 ≡ getD before j 0
   pub edges : group kept count next ++ keep (useful u total gain) (group masks i to) ≡ siftedGroup masks from to u total gain
 
 module _ (masks : List ℕ) (from to u total gain : ℕ) (before : List ℕ) (count : ℕ) where
-  pub sifting-first : length before ≡ 512 → count ≤ 512 → Sifting masks from to u total gain before count before count from
+  pub sifting-first : length before ≡ 512 → count ≤ 512 → (b : Bool) → not b ≡ false
+      → (b ≡ true → (from ≤ to) × (to ≤ length masks) × (count + to ≤ 512 + from))
+      → Sifting masks from to u total gain before count before count from
   unfolding siftedGroup
-  sifting-first len h = record {
+  sifting-first len h b taken f = record {
     size = len;
     grown = omega arith;
     room = h;
+    fits = f (not-false b taken) .2;
+    inside = f (not-false b taken) .1;
     same = λ j l. refl;
     edges = ap (λ l. l ++ keep (useful u total gain) (group masks from to)) (group-none before count count (omega arith));
   }
 
   module _ (kept : List ℕ) (next i : ℕ) (s : Sifting masks from to u total gain before count kept next i) where
-    pub sifting-more : i < to → next < 512 → (r : ℕ) → r ≡ getD masks i 0 → (b : Bool) → b ≡ useful u total gain r → (n : ℕ) → n ≡ advanced next b
+    pub sifting-more : i < to → (r : ℕ) → r ≡ getD masks i 0 → (b : Bool) → b ≡ useful u total gain r → (n : ℕ) → n ≡ advanced next b
         → Sifting masks from to u total gain before count (set kept next r) n (i + 1)
     unfolding advanced
-    sifting-more l h r er b eb n en = go b eb n en
+    sifting-more l r er b eb n en = go b eb n en
       where
         grown : count ≤ next
         grown = s .grown
+
+        fits : next + to ≤ 512 + i
+        fits = s .fits
+
+        inside : to ≤ length masks
+        inside = s .inside
 
         size : length (set kept next r) ≡ 512
         size = length-set kept next r ∙ s .size
@@ -92,10 +105,12 @@ module _ (masks : List ℕ) (from to u total gain : ℕ) (before : List ℕ) (co
           size = size;
           grown = omega arith;
           room = omega arith;
+          fits = omega arith;
+          inside = inside;
           same = same;
           edges =
               ap (λ m. group (set kept next r) count m ++ keep (useful u total gain) (group masks (i + 1) to)) en
-              ∙ ap (λ l. l ++ keep (useful u total gain) (group masks (i + 1) to)) (group-last kept count next r grown (omega (arith, s .size)))
+              ∙ ap (λ l. l ++ keep (useful u total gain) (group masks (i + 1) to)) (group-last kept count next r grown (omega (arith, s .size, fits)))
               ∙ append-assoc (group kept count next) (r ∷ []) (keep (useful u total gain) (group masks (i + 1) to))
               ∙ ap (λ l. group kept count next ++ l) (sym (keep-first (useful u total gain) r (group masks (i + 1) to) (sym e))) ∙ whole;
         }
@@ -103,6 +118,8 @@ module _ (masks : List ℕ) (from to u total gain : ℕ) (before : List ℕ) (co
           size = size;
           grown = omega arith;
           room = omega arith;
+          fits = omega arith;
+          inside = inside;
           same = same;
           edges =
               ap (λ m. group (set kept next r) count m ++ keep (useful u total gain) (group masks (i + 1) to)) en

@@ -4,6 +4,7 @@ use crate::places::{self};
 ghost use mathlib.Core.Path.{_≡_};
 ghost use Prim.Native.Nat.{ℕ, _+_, _≤_, _<_};
 ghost use lib.Count.{ones};
+ghost use lib.ListN.{length};
 ghost use Rattle.judge_cover.specs.Steps.{CoversAtMost, BoundsOf};
 
 // For each group, how many variables of u an edge of it covers at most; and the sum of these.
@@ -18,8 +19,9 @@ fn smaller(a: u32, b: u32) -> u32
     if a < b { a } else { b }
 }
 
-// How many variables of u an edge between two places covers at most.
-fn gain(masks: &[u64], from: usize, to: usize, u: u64) -> u32
+// How many variables of u an edge between two places covers at most. The reads need no test, so several edges are counted at once.
+fn gain_within(masks: &[u64], from: usize, to: usize, u: u64) -> u32
+    requires { ⌜ to ≤ length (now masks) ⌝ }
     ensures { λ r. ⌜ CoversAtMost (now (masks .entry)) from to u r ⌝ }
     ensures { λ r. ⌜ r ≤ 64 ⌝ }
 {
@@ -27,11 +29,22 @@ fn gain(masks: &[u64], from: usize, to: usize, u: u64) -> u32
     let mut least = all;
     let mut i = from;
     while i < to {
-        let left = edges::size(edges::left_by(masks, u, i));
+        let left = edges::size(u & masks[i]);
         least = smaller(least, left);
         i += 1;
     }
     all - least
+}
+
+// Past the end of the list stands 0, an edge that covers all.
+fn gain(masks: &[u64], from: usize, to: usize, u: u64) -> u32
+    ensures { λ r. ⌜ CoversAtMost (now (masks .entry)) from to u r ⌝ }
+    ensures { λ r. ⌜ r ≤ 64 ⌝ }
+{
+    if to <= masks.len() {
+        return gain_within(masks, from, to, u);
+    }
+    edges::size(u)
 }
 
 pub(crate) fn find(masks: &[u64], starts: &[usize], ends: &[usize], n: usize, u: u64) -> Bounds

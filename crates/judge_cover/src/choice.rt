@@ -33,17 +33,17 @@ fn with(t: Tally, named: u64) -> Tally {
     }
 }
 
-fn tally_group(masks: &[u64], from: usize, to: usize, u: u64, start: Tally) -> Tally {
-    let mut t = start;
-    let mut i = from;
-    while i < to {
-        t = with(t, u ^ edges::left_by(masks, u, i));
-        i += 1;
+fn last(ends: &[usize], n: usize) -> usize {
+    if n == 0 {
+        0
+    } else {
+        places::place(ends, n - 1)
     }
-    t
 }
 
-fn count(masks: &[u64], starts: &[usize], ends: &[usize], n: usize, u: u64) -> Tally {
+// Counts the edges up to the end of the last group. Where other edges stand between the groups they are counted too, which may
+// make the choice a worse one.
+fn count(masks: &[u64], to: usize, u: u64) -> Tally {
     let mut t = Tally {
         ones: 0,
         twos: 0,
@@ -51,16 +51,10 @@ fn count(masks: &[u64], starts: &[usize], ends: &[usize], n: usize, u: u64) -> T
         eights: 0,
         sixteens: 0,
     };
-    let mut k = 0;
-    while k < n {
-        t = tally_group(
-            masks,
-            places::place(starts, k),
-            places::place(ends, k),
-            u,
-            t,
-        );
-        k += 1;
+    let mut i = 0;
+    while i < to {
+        t = with(t, u ^ edges::left_by(masks, u, i));
+        i += 1;
     }
     t
 }
@@ -87,18 +81,11 @@ fn rarest(u: u64, t: Tally) -> u64
 fn first(set: u64) -> u32
     ensures { λ r. ⌜ (0 < set → bit set r ≡ true) ⌝ }
 {
-    let mut k = 0;
-    while k < 64 {
-        if table_tree::in_word(set, k) {
-            return k;
-        }
-        k += 1;
-    }
-    64
+    u64::trailing_zeros(set)
 }
 
-pub(crate) fn choose(masks: &[u64], starts: &[usize], ends: &[usize], n: usize, u: u64) -> u32
+pub(crate) fn choose(masks: &[u64], ends: &[usize], n: usize, u: u64) -> u32
     ensures { λ r. ⌜ (0 < u → bit u r ≡ true) ⌝ }
 {
-    first(rarest(u, count(masks, starts, ends, n, u)))
+    first(rarest(u, count(masks, last(ends, n), u)))
 }

@@ -52,7 +52,7 @@ fn branch(masks: &[u64], starts: &[usize], ends: &[usize], n: usize, u: u64) -> 
     requires { ⌜ 0 < u ⌝ }
     ensures { λ r. ⌜ r ≡ coverable (groups (now (masks .entry)) (now (starts .entry)) (now (ends .entry)) n) u ⌝ }
 {
-    let v = choice::choose(masks, starts, ends, n, u);
+    let v = choice::choose(masks, ends, n, u);
     let mut k = 0;
     while k < n {
         let a = places::place(starts, k);

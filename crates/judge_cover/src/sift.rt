@@ -3,7 +3,7 @@ use crate::edges::{self};
 use crate::places::{self};
 ghost use mathlib.Core.Path.{_≡_};
 ghost use mathlib.Core.Bool.{true};
-ghost use Prim.Native.Nat.{_≤_};
+ghost use Prim.Native.Nat.{_+_, _≤_};
 ghost use lib.ListN.{length, getD};
 ghost use Rattle.judge_cover.specs.Cover.{groups, siftedGroups};
 ghost use Rattle.judge_cover.specs.Steps.{SiftedAs};
@@ -12,6 +12,23 @@ ghost use Rattle.judge_cover.specs.Steps.{SiftedAs};
 pub enum Room {
     At(usize),
     Full,
+}
+
+// Are these places in a list of this length, and would all their edges have room?
+fn fits(length: usize, from: usize, to: usize, count: usize) -> bool
+    requires { ⌜ count ≤ 512 ⌝ }
+    ensures { λ r. ⌜ (r ≡ true → (from ≤ to) × (to ≤ length) × (count + to ≤ 512 + from)) ⌝ }
+{
+    if to < from {
+        return false;
+    }
+    if length < to {
+        return false;
+    }
+    if 512 - count < to - from {
+        return false;
+    }
+    true
 }
 
 // Copies the useful edges between two places, from the place `count` on.
@@ -30,13 +47,13 @@ fn sift_group(
     ensures { λ _. ⌜ length (now (kept .exit)) ≡ 512 ⌝ }
     ensures { λ r. ⌜ SiftedAs (now (masks .entry)) from to u total gain (now (kept .entry)) (now (kept .exit)) count r ⌝ }
 {
+    if !fits(masks.len(), from, to, count) {
+        return Room::Full;
+    }
     let mut next = count;
     let mut i = from;
     while i < to {
-        if 512 <= next {
-            return Room::Full;
-        }
-        let r = places::mask_at(masks, i);
+        let r = masks[i];
         kept[next] = r;
         next = places::advanced(next, edges::useful(u, total, gain, r));
         i += 1;

@@ -1,39 +1,43 @@
-use Prim.Native.Nat.{_-_, _≤_, _<_}
+use Prim.Native.Nat.{_-_}
 use borrow.Author.Needs.{needs}
 use Rattle.judge_cover.proofs.choice.count.Statement.{statement}
 use Rattle.judge_cover.proofs.choice.count.Tie as tie
 use Rattle.judge_cover.proofs.choice.count.Reads as reads
 use Rattle.judge_cover.proofs.choice.count.Lts as lts
-use Rattle.judge_cover.proofs.choice.tally_group.Reads as tally-group-reads
-use Rattle.judge_cover.proofs.places.place.Reads as place-reads
+use Rattle.judge_cover.proofs.choice.with.Reads as with-reads
+use Rattle.judge_cover.proofs.edges.left_by.Reads as left-by-reads
 
 abbrev Inv-loop : tie.InvT-loop
-Inv-loop masks starts ends n u t₀ k₀ t k = Unit {0}
+Inv-loop masks to u t₀ i₀ t i = Unit {0}
 
 abbrev μ-loop : tie.MeasureT-loop
-μ-loop masks starts ends n u t₀ k₀ t k = n - k
+μ-loop masks to u t₀ i₀ t i = to - i
 
+-- src/choice.rt:51:5
 loop-holds : tie.Need-loop-holds Inv-loop μ-loop
 loop-holds c = search needs
 
-place-requires : tie.Need-place-requires Inv-loop μ-loop
-place-requires c κs = search needs
+-- src/choice.rt:52:25
+left-by-requires : tie.Need-left-by-requires Inv-loop μ-loop
+left-by-requires c κs = search needs
 
-place-requires-2 : tie.Need-place-requires-2 Inv-loop μ-loop
-place-requires-2 c κs = search needs
+-- src/choice.rt:52:9
+with-requires : tie.Need-with-requires Inv-loop μ-loop
+with-requires c κs = search needs
 
-tally-group-requires : tie.Need-tally-group-requires Inv-loop μ-loop
-tally-group-requires c κs = search needs
+-- src/choice.rt:53:9
+add-i : tie.Need-add-i Inv-loop μ-loop
+add-i c = search needs
 
-add-k : tie.Need-add-k Inv-loop μ-loop
-add-k c = search needs
-
+-- src/choice.rt:51:5
 loop-less : tie.Need-loop-less Inv-loop μ-loop
 loop-less c = search needs
 
+-- src/choice.rt:51:5
 loop-again : tie.Need-loop-again Inv-loop μ-loop
 loop-again c = search needs
 
+-- src/choice.rt:42:1
 returns : tie.Need-returns Inv-loop μ-loop
 returns c = search needs
 
@@ -44,10 +48,9 @@ count-spec =
     Inv-loop
     μ-loop
     loop-holds
-    place-requires
-    place-requires-2
-    tally-group-requires
-    add-k
+    left-by-requires
+    with-requires
+    add-i
     loop-less
     loop-again
     returns)

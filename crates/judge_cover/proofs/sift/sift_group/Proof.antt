@@ -7,7 +7,7 @@ use Rattle.judge_cover.proofs.sift.sift_group.Reads as reads
 use Rattle.judge_cover.proofs.sift.sift_group.Lts as lts
 use Rattle.judge_cover.proofs.edges.useful.Reads as useful-reads
 use Rattle.judge_cover.proofs.places.advanced.Reads as advanced-reads
-use Rattle.judge_cover.proofs.places.mask_at.Reads as mask-at-reads
+use Rattle.judge_cover.proofs.sift.fits.Reads as fits-reads
 
 abbrev Inv-loop : tie.InvT-loop
 Inv-loop masks from to u total gain kept₀ count next₀ i₀ kept next i = Sifting masks from to u total gain kept₀ count kept next i
@@ -15,14 +15,20 @@ Inv-loop masks from to u total gain kept₀ count next₀ i₀ kept next i = Sif
 abbrev μ-loop : tie.MeasureT-loop
 μ-loop masks from to u total gain kept₀ count next₀ i₀ kept next i = to - i
 
-loop-holds : tie.Need-loop-holds Inv-loop μ-loop
-loop-holds c = search (needs, sifting-laws)
+fits-requires : tie.Need-fits-requires Inv-loop μ-loop
+fits-requires c κs = search needs
 
 returns : tie.Need-returns Inv-loop μ-loop
 returns c = search (needs, sifting-laws)
 
-mask-at-requires : tie.Need-mask-at-requires Inv-loop μ-loop
-mask-at-requires c κs = search needs
+loop-holds : tie.Need-loop-holds Inv-loop μ-loop
+loop-holds c = search (needs, sifting-laws)
+
+mul-r : tie.Need-mul-r Inv-loop μ-loop
+mul-r c = search needs
+
+shared-slice-read-r : tie.Need-shared-slice-read-r Inv-loop μ-loop
+shared-slice-read-r c = search needs
 
 mul-kept : tie.Need-mul-kept Inv-loop μ-loop
 mul-kept c = search needs
@@ -54,9 +60,11 @@ sift-group-spec =
     (tie.spec
     Inv-loop
     μ-loop
-    loop-holds
+    fits-requires
     returns
-    mask-at-requires
+    loop-holds
+    mul-r
+    shared-slice-read-r
     mul-kept
     element-write-kept
     useful-requires
