@@ -28,7 +28,7 @@ use Rattle.merge_moves.proofs.CappingLaws.{cap-small}
 use Rattle.merge_moves.proofs.Plans.{Told}
 use Rattle.merge_moves.proofs.Whole.{plan-is, pick-is, pick-there}
 use Rattle.table_places.specs.Outline.{reach, afterPredicate, edgesAt, afterAutomaton, automatonAt, treeAt}
-use Rattle.table_places.proofs.OutlineLaws.{read, reached, wordsOf, edgeWords, automatonWords, words-append, after-predicate, edges-at, first-edge, after-automaton}
+use Rattle.table_places.proofs.OutlineLaws.{read, reached, wordsOf, edgeWords, automatonWords, words-append, after-predicate, edges-at, after-automaton}
 use Rattle.merge_words.specs.Append.{narrow}
 use Rattle.merge_words.specs.NodeWords.{most, capped}
 use Rattle.merge_words.specs.Head.{automataOf}
@@ -38,7 +38,7 @@ use Rattle.merge_words.specs.Sync.{ownSets}
 use Rattle.merge_words.proofs.NodeLaws.{capped-is}
 use Rattle.merge_words.proofs.EdgeLaws.{at-most-is}
 use Rattle.merge_words.proofs.AllEdgesLaws.{more-here, more-not}
-use Rattle.merge_table.proofs.Standing.{narrow-is, automata-cons}
+use Rattle.merge_table.proofs.Standing.{narrow-is, automata-cons, edges-stand}
 use Rattle.merge_table.proofs.HeadIs.{automata-are, automata-stand}
 use Rattle.merge_table.proofs.ClausesAre.{capped-most, capped-add}
 use Rattle.merge_table.proofs.EdgesAre.{noEdge, zeros, drop-zeros, under-yes, under-no, takerBy, takersFrom, Valid, edge-words}
@@ -119,7 +119,7 @@ counts-are t action (x ∷ xs) at rest few e =
     let small : countOf action x ≤ most = omega arith in
     let fits : countOf action x < 4294967296 = omega arith in
     let one : narrow (underFrom t action (getD t (edgesAt t at) 0) (reach t (edgesAt t at) 1) 0) ≡ countOf action x =
-    ap narrow (ap (λ c. underFrom t action c (reach t (edgesAt t at) 1) 0) n ∙ count-under t action (x .edges) (reach t (edgesAt t at) 1) 0 others (omega arith) (first-edge t others x at f) ∙
+    ap narrow (ap (λ c. underFrom t action c (reach t (edgesAt t at) 1) 0) n ∙ count-under t action (x .edges) (reach t (edgesAt t at) 1) 0 others (omega arith) (edges-stand t others x at f) ∙
     ap capped (zero-add (countOf action x)) ∙ sym (capped-is (countOf action x) small)) ∙ narrow-is (countOf action x) fits in
     ap₂ (λ (y : ℕ) (l : List ℕ). y ∷ l) one (counts-are t action xs (afterAutomaton t at) rest (λ y i. few y (List·Memᴰ·tail i)) (after-automaton t others x at f))
 
