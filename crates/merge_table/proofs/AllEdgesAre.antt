@@ -32,7 +32,8 @@ use Rattle.table_places.proofs.OutlineLaws.{read, reached, wordsOf, edgeWords, 
 use Rattle.merge_words.specs.Append.{narrow}
 use Rattle.merge_words.specs.NodeWords.{most, capped}
 use Rattle.merge_words.specs.Head.{automataOf}
-use Rattle.merge_words.specs.MergedEdge.{isUnder, atMost, edgeWordsAt}
+use Rattle.table_places.specs.AtMost.{atMost}
+use Rattle.merge_words.specs.MergedEdge.{isUnder, edgeWordsAt}
 use Rattle.merge_words.specs.MergedEdges.{oneMore, underFrom, underAt, countsFrom, countsOf, rootOf, cellsOf, moveTotal, picksOf, edgesFrom, edgesUnder, edgesOf}
 use Rattle.merge_words.specs.Sync.{ownSets}
 use Rattle.merge_words.proofs.NodeLaws.{capped-is}
@@ -42,7 +43,7 @@ use Rattle.merge_table.proofs.Standing.{narrow-is, automata-cons, edges
 use Rattle.merge_table.proofs.HeadIs.{automata-are, automata-stand}
 use Rattle.merge_table.proofs.ClausesAre.{capped-most, capped-add}
 use Rattle.merge_table.proofs.EdgesAre.{noEdge, zeros, drop-zeros, under-yes, under-no, takerBy, takersFrom, Valid, edge-words}
-use Rattle.merge_table.proofs.SyncIs.{own-agree, tree-stands}
+use Rattle.merge_table.proofs.SyncIs.{own-agree, root-stands}
 
 -- the first of some edges
 module _ (t : List ℕ) (at : ℕ) (x : Edge) (es : List Edge) (rest : List ℕ) (e : drop at t ≡ edgeWords (x ∷ es) ++ rest) where
@@ -152,7 +153,7 @@ module _ (m : Model) (lawful : Lawful m) (t rest : List ℕ) (e : t ≡ sheetWor
   pub total-is : (action : ℕ) → moveCount m action (m .tree) ≤ maxEdges → moveTotal t (ownSets t) action ≡ moveCount m action (m .tree)
   unfolding moveTotal
   total-is action few =
-      ap (λ (p : Planned). p .count) (plan-is t (ownSets t) (countsOf t action) m action (rootOf t) lawful (tree-stands m lawful t rest e) (told action)) ∙ sym (cap-small (moveCount m action (m .tree)) few)
+      ap (λ (p : Planned). p .count) (plan-is t (ownSets t) (countsOf t action) m action (rootOf t) lawful (root-stands m lawful t rest e) (told action)) ∙ sym (cap-small (moveCount m action (m .tree)) few)
 
   -- the takers that picks name, said in two ways
   same-takers : (action : ℕ) (picks : List ℕ) (xs : List Automaton) (i : ℕ) → drop i (m .automata) ≡ xs → takersIn m action picks (countUp i (length xs)) ≡ takersFrom action picks i xs
@@ -203,13 +204,13 @@ module _ (m : Model) (lawful : Lawful m) (t rest : List ℕ) (e : t ≡ sheetWor
     unfolding picksOf cellsOf takersOf
     move-named =
         sym (same-takers action picked (m .automata) 0 refl) ∙
-        pick-is t (ownSets t) (countsOf t action) m action (rootOf t) lawful (tree-stands m lawful t rest e) (told action) (replicate 192 0) refl k below few
+        pick-is t (ownSets t) (countsOf t action) m action (rootOf t) lawful (root-stands m lawful t rest e) (told action) (replicate 192 0) refl k below few
 
     pub move-valid : Valid action picked 0 (m .automata)
     unfolding picksOf cellsOf
     move-valid =
         valid-picks action picked
-        (pick-there t (ownSets t) (countsOf t action) m action (rootOf t) lawful (tree-stands m lawful t rest e) (told action) (replicate 192 0) refl k below few)
+        (pick-there t (ownSets t) (countsOf t action) m action (rootOf t) lawful (root-stands m lawful t rest e) (told action) (replicate 192 0) refl k below few)
         (m .automata) 0 (omega arith) refl
 
   module _ (action : ℕ) (few : moveCount m action (m .tree) ≤ maxEdges)

@@ -30,7 +30,8 @@ use Rattle.merge_words.specs.Runs.{nodesAt}
 use Rattle.merge_words.specs.NodeWords.{allNode, numberNode, oldNode, newNode, pointerOf, most, capped}
 use Rattle.merge_words.specs.Head.{variablesOf, automataOf}
 use Rattle.merge_words.specs.Depths.{updateDeep, updatesDeep}
-use Rattle.merge_words.specs.MergedEdge.{isUnder, still, edgeUnder, takenAt, takenFrom, atMost, takers, updateAt, moveAt, updatesAt, movesAt, takerNodes, takersNodes, takerOperands, takersOperands, edgeBy, edgeWordsAt}
+use Rattle.table_places.specs.AtMost.{atMost}
+use Rattle.merge_words.specs.MergedEdge.{isUnder, still, edgeUnder, takenAt, takenFrom, takers, updateAt, moveAt, updatesAt, movesAt, takerNodes, takersNodes, takerOperands, takersOperands, edgeBy, edgeWordsAt}
 use Rattle.merge_words.proofs.NodeLaws.{capped-is}
 use Rattle.merge_words.proofs.EdgeLaws.{at-most-is}
 use Rattle.merge_table.proofs.Standing.{narrow-is, run-length, nodes-stand, automata-cons, edges-stand}
