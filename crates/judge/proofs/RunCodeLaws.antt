@@ -13,7 +13,9 @@ use lib.Dec.{eqb, leb}
 use borrow.Author.Tests.{le-leb, lt-leb, leb-true, leb-false}
 use Rattle.model.specs.Runs.{phaseNumber}
 use Rattle.model.proofs.Tests.{and-left, and-right, not-true, not-false, eq-of, of-eq, not-eq}
-use Rattle.table_places.specs.Outline.{countAt}
+use Rattle.table_places.specs.declared.layout.Layout.{Layout}
+use Rattle.table_places.specs.Layout.{layoutOf, automataOf, variablesOf}
+use Rattle.table_places.specs.Own.{ownSets}
 use Rattle.table_check.specs.declared.Checked.{Checked}
 use Rattle.table_check.specs.declared.Checked.the-variants as C
 use Rattle.judge_call.specs.declared.Phase.{Phase}
@@ -21,6 +23,7 @@ use Rattle.judge_call.specs.declared.Phase.the-variants.{Start, Running}
 use Rattle.judge_call.specs.declared.State.{State}
 use Rattle.judge.specs.declared.Ran.{Ran}
 use Rattle.judge.specs.declared.Ran.the-variants.{Ended, Uneven, AnswersShort, EndShort}
+use Rattle.judge.specs.declared.Ran.the-variants as Refuses
 use Rattle.judge.specs.declared.runs.Turn.{Turn}
 use Rattle.judge_call.specs.declared.Admitted.{Admitted}
 use Rattle.judge_call.specs.declared.Admitted.the-variants.{In, Out}
@@ -28,14 +31,11 @@ use Rattle.judge_call.specs.declared.Answer.{Answer}
 use Rattle.judge_call.specs.declared.Answer.the-variants.{Yes, Marked, No, Refused}
 use Rattle.judge_call.specs.Answers.{answerOf, phaseIs, answerNumber}
 use Rattle.judge_call.specs.States.{stateOf}
-use Rattle.judge_call.specs.RowTests.{phaseRead, lengthsFit, locationsKnown, valuesKnown}
-use Rattle.judge_call.specs.Settled.{variablesShown}
-use Rattle.judge_call.specs.Taken.{automataShown}
-use Rattle.judge_call.proofs.CodeLaws.{shown-whole}
-use Rattle.judge_call.proofs.TakenLaws.{automata-whole}
-use Rattle.judge_call.specs.Calls.{thenLists, thenPhase, environmentOn, stepOn}
+use Rattle.judge_call.specs.RowTests.{phaseRead}
+use Rattle.judge_call.proofs.CodeLaws.{front-whole}
+use Rattle.judge_call.specs.Calls.{stateChecked, thenLists, thenPhase, environmentFrom, stepFrom, ownOf}
 use Rattle.judge.specs.RunAnswer.{environmentMark, inFront}
-use Rattle.judge.specs.RunWords.{listsFit, endFits, startChecked, begunOn, judgedOn, proposedOn, movedTo, onward, Gone, turnOn, goOn, Left, ranOn, listedOn, Leaves}
+use Rattle.judge.specs.RunWords.{listsFit, endFits, begunOn, judgedOn, proposedOn, movedTo, onward, Gone, turnOn, goOn, Left, ranOn, listedOn, overOn, Leaves}
 
 -- `times`
 pub times-none : (total n count : ℕ) → n ≡ 0 → eqb total 0 ≡ eqb total (n * count)
@@ -63,64 +63,27 @@ times-some total n count h = go (eqb (total / n) count) refl (eqb (total % n) 0)
 pub ruleset times-laws = (times-none, times-some)
 
 -- `lengths_for`
-pub lengths-for-is : (w : List ℕ) (count l v c a n : ℕ) (p q : Bool) → c ≡ countAt w → a ≡ getD w c 0 → n ≡ getD w 2 0
-    → p ≡ eqb l (a * count) → q ≡ eqb v (n * count) → (p && q) ≡ listsFit w count l v
+pub lengths-for-is : (x : Layout) (count l v : ℕ) (p q : Bool) → p ≡ eqb l (x .automata * count) → q ≡ eqb v (x .variables * count) → (p && q) ≡ listsFit x count l v
 unfolding listsFit
-lengths-for-is w count l v c a n p q e f g h i = rw (h, i, f, e, g)
+lengths-for-is x count l v p q h i = rw (h, i)
 
 -- `end_fits`
-pub end-fits-is : (w : List ℕ) (l v n k : ℕ) → n ≡ automataShown w → k ≡ variablesShown w → (leb n l && leb k v) ≡ endFits w l v
+pub end-fits-is : (x : Layout) (l v n k : ℕ) → n ≡ automataOf x → k ≡ variablesOf x → (leb n l && leb k v) ≡ endFits x l v
 unfolding endFits
-end-fits-is w l v n k e f = rw (e, f)
-
--- `start_checked`
-module _ (w l : List ℕ) (v : List ℤ) (a : Bool) (e : a ≡ lengthsFit w (length l) (length v)) where
-  pub start-21 : not a ≡ true → C.Refused 21 ≡ startChecked w l v
-  unfolding startChecked
-  start-21 h =
-      let x : lengthsFit w (length l) (length v) ≡ false = sym e ∙ not-true a h in
-      rw (x, startChecked)
-
-  module _ (h : not a ≡ false) (b : Bool) (f : b ≡ locationsKnown w l) where
-    fit : lengthsFit w (length l) (length v) ≡ true
-    fit = sym e ∙ not-false a h
-
-    pub start-22 : not b ≡ true → C.Refused 22 ≡ startChecked w l v
-    unfolding startChecked
-    start-22 i =
-        let x : locationsKnown w l ≡ false = sym f ∙ not-true b i in
-        rw (fit, startChecked, x, startChecked)
-
-    module _ (i : not b ≡ false) (c : Bool) (g : c ≡ valuesKnown w v) where
-      known : locationsKnown w l ≡ true
-      known = sym f ∙ not-false b i
-
-      pub start-23 : not c ≡ true → C.Refused 23 ≡ startChecked w l v
-      unfolding startChecked
-      start-23 j =
-          let x : valuesKnown w v ≡ false = sym g ∙ not-true c j in
-          rw (fit, startChecked, known, startChecked, x, startChecked)
-
-      pub start-passes : not c ≡ false → C.Good ≡ startChecked w l v
-      unfolding startChecked
-      start-passes j =
-          let x : valuesKnown w v ≡ true = sym g ∙ not-false c j in
-          rw (fit, startChecked, known, startChecked, x, startChecked)
-
-pub ruleset start-laws = (start-21, start-22, start-23, start-passes)
+end-fits-is x l v n k e f = rw (e, f)
 
 -- `begun`
-module _ (w l : List ℕ) (v : List ℤ) (phase : ℕ) (y : Admitted) (f : y ≡ phaseRead phase) where
-  pub not-in-phase : (row : ℕ) → y ≡ Out row → Out row ≡ begunOn w l v phase
+module _ (w : List ℕ) (x : Layout) (l : List ℕ) (v : List ℤ) (phase : ℕ) (y : Admitted) (f : y ≡ phaseRead phase) where
+  pub not-in-phase : (row : ℕ) → y ≡ Out row → Out row ≡ begunOn w x l v phase
   unfolding begunOn thenPhase
   not-in-phase row g = rw (sym f ∙ g)
 
-  module _ (p : Phase) (g : y ≡ In p) (z : Checked) (i : z ≡ startChecked w l v) where
-    pub not-begun : (row : ℕ) → z ≡ C.Refused row → Out row ≡ begunOn w l v phase
+  module _ (p : Phase) (g : y ≡ In p) (z : Checked) (i : z ≡ stateChecked w x l v) where
+    pub not-begun : (row : ℕ) → z ≡ C.Refused row → Out row ≡ begunOn w x l v phase
     unfolding begunOn thenPhase thenLists
     not-begun row j = rw (sym f ∙ g, sym i ∙ j)
 
-    pub begun-in : z ≡ C.Good → In p ≡ begunOn w l v phase
+    pub begun-in : z ≡ C.Good → In p ≡ begunOn w x l v phase
     unfolding begunOn thenPhase thenLists
     begun-in j = rw (sym f ∙ g, sym i ∙ j)
 
@@ -138,17 +101,17 @@ number-running p e = rw e
 pub ruleset phase-number-laws = (number-start, number-running)
 
 -- `judged`
-module _ (w : List ℕ) (s : State) (a : ℕ) (l' : List ℕ) (v' : List ℤ) (b : Bool) (h : b ≡ eqb a environmentMark) where
-  module _ (n v p : ℕ) (e : n ≡ automataShown w) (f : v ≡ variablesShown w) (g : p ≡ phaseNumber (phaseIs (s .phase))) (r : Answer) where
-    pub judged-environment : b ≡ true → r ≡ environmentOn w p (take n (s .locations)) (take v (s .values)) v' → r ≡ judgedOn w s a l' v'
-    unfolding judgedOn
-    judged-environment i j = rw (sym h ∙ i, judgedOn) (rw (e, f, g) at j)
+module _ (w : List ℕ) (x : Layout) (own : List ℕ) (s : State) (a : ℕ) (l' : List ℕ) (v' : List ℤ) (t : State) (b : Bool) (h : b ≡ eqb a environmentMark) (r : Answer) where
+  pub judged-environment : b ≡ true → r ≡ environmentFrom w x s v' t → r ≡ judgedOn w x own s a l' v' t
+  unfolding judgedOn
+  judged-environment i j = rw (sym h ∙ i, judgedOn) j
 
-    pub judged-step : b ≡ false → r ≡ stepOn w p (take n (s .locations)) (take v (s .values)) a l' v' → r ≡ judgedOn w s a l' v'
-    unfolding judgedOn
-    judged-step i j = rw (sym h ∙ i, judgedOn) (rw (e, f, g) at j)
+  pub judged-step : b ≡ false → r ≡ stepFrom w x own s a l' v' t → r ≡ judgedOn w x own s a l' v' t
+  unfolding judgedOn
+  judged-step i j = rw (sym h ∙ i, judgedOn) j
 
-  -- `proposed`
+-- `proposed`
+module _ (s : State) (a : ℕ) (l' : List ℕ) (v' : List ℤ) (b : Bool) (h : b ≡ eqb a environmentMark) where
   pub proposed-still : b ≡ true → (r : State) → r ≡ stateOf Running (s .locations) v' → r ≡ proposedOn s a l' v'
   unfolding proposedOn
   proposed-still i r j = rw (sym h ∙ i, proposedOn) j
@@ -182,11 +145,11 @@ module _ (x : Answer) (s t : State) where
 pub ruleset moved-laws = (moved-yes, moved-marked, moved-no, moved-refused)
 
 -- `put`
-pub turn-is : (w : List ℕ) (s : State) (a : ℕ) (l' : List ℕ) (v' : List ℤ) (x : Answer) (num : ℕ) (t r : State)
-    → x ≡ judgedOn w s a l' v' → num ≡ answerNumber (answerOf x) % 2 ^ 32 → t ≡ proposedOn s a l' v' → r ≡ movedTo x s t
-    → _≡_ {A = Turn} (record { number = num; state = r }) (turnOn w s a l' v')
+pub turn-is : (w : List ℕ) (x : Layout) (own : List ℕ) (s : State) (a : ℕ) (l' : List ℕ) (v' : List ℤ) (t : State) (y : Answer) (num : ℕ) (r : State)
+    → t ≡ proposedOn s a l' v' → y ≡ judgedOn w x own s a l' v' t → num ≡ answerNumber (answerOf y) % 2 ^ 32 → r ≡ movedTo y s t
+    → _≡_ {A = Turn} (record { number = num; state = r }) (turnOn w x own s a l' v')
 unfolding turnOn
-turn-is w s a l' v' x num t r e f g h = rw (f, h, g, e)
+turn-is w x own s a l' v' t y num r g e f h = rw (f, h, e, g)
 
 -- `onward`
 module _ (size at n : ℕ) where
@@ -227,9 +190,9 @@ module _ {A : Type 0} (l : List A) (at n : ℕ) (h : at ≤ length l) where
           rw (f, onward) (drop-length l ∙ sym (drop-drop n at l ∙ drop-of-length-le l past))
 
 -- `all`: k proposals are judged, and the run goes on to the same end
-module _ (w : List ℕ) (n v : ℕ) (actions ls : List ℕ) (vs : List ℤ) (old : List ℕ) (first : State) where
+module _ (w : List ℕ) (x : Layout) (own : List ℕ) (n v : ℕ) (actions ls : List ℕ) (vs : List ℤ) (old : List ℕ) (first : State) where
   pub record Going (answers : List ℕ) (s : State) (at from k : ℕ) : Type 0 where
-    pub goes : goOn w n v s answers k (drop k actions) (drop at ls) (drop from vs) ≡ goOn w n v first old 0 actions ls vs
+    pub goes : goOn w x own n v s answers k (drop k actions) (drop at ls) (drop from vs) ≡ goOn w x own n v first old 0 actions ls vs
     pub here : at ≤ length ls
     pub there : from ≤ length vs
     pub same : length answers ≡ length old
@@ -240,13 +203,13 @@ module _ (w : List ℕ) (n v : ℕ) (actions ls : List ℕ) (vs : List ℤ) (old
 
   module _ (answers : List ℕ) (s : State) (at from k : ℕ) (g : Going answers s at from k) where
     module _ (h : k < length actions) (end last : ℕ) (e : end ≡ onward (length ls) at n) (f : last ≡ onward (length vs) from v) where
-      pub going-on : (r : Turn) → r ≡ turnOn w s (getD actions k 0) (take (end - at) (drop at ls)) (take (last - from) (drop from vs))
+      pub going-on : (r : Turn) → r ≡ turnOn w x own s (getD actions k 0) (take (end - at) (drop at ls)) (take (last - from) (drop from vs))
           → end ≤ length ls → last ≤ length vs → Going (set answers k (r .number)) (r .state) end last (k + 1)
       unfolding goOn
       going-on r i o p =
-          let step : goOn w n v s answers k (getD actions k 0 ∷ drop (suc k) actions) (drop at ls) (drop from vs) ≡ goOn w n v first old 0 actions ls vs =
+          let step : goOn w x own n v s answers k (getD actions k 0 ∷ drop (suc k) actions) (drop at ls) (drop from vs) ≡ goOn w x own n v first old 0 actions ls vs =
           rw (← drop-cons actions k 0 h) (g .goes) in
-          let cut : r ≡ turnOn w s (getD actions k 0) (take n (drop at ls)) (take v (drop from vs)) = rw (i, e, f, part-is ls at n (g .here), part-is vs from v (g .there)) in
+          let cut : r ≡ turnOn w x own s (getD actions k 0) (take n (drop at ls)) (take v (drop from vs)) = rw (i, e, f, part-is ls at n (g .here), part-is vs from v (g .there)) in
           record {
             goes = rw (add-one k, cut, e, f, rest-is ls at n (g .here), rest-is vs from v (g .there)) step;
             here = o;
@@ -255,21 +218,21 @@ module _ (w : List ℕ) (n v : ℕ) (actions ls : List ℕ) (vs : List ℤ) (old
             room = g .room;
           }
 
-    pub going-ends : length actions ≤ k → record { state = s; answers = answers } ≡ goOn w n v first old 0 actions ls vs
+    pub going-ends : length actions ≤ k → record { state = s; answers = answers } ≡ goOn w x own n v first old 0 actions ls vs
     unfolding goOn
     going-ends h = rw (drop-of-length-le actions h) at (g .goes)
 
-pub all-state : (w : List ℕ) (n v : ℕ) (actions ls : List ℕ) (vs : List ℤ) (old : List ℕ) (first : State) (answers : List ℕ) (s : State) (at from k : ℕ)
-    → Going w n v actions ls vs old first answers s at from k → length actions ≤ k → n ≡ automataShown w → v ≡ variablesShown w
-    → s ≡ goOn w (automataShown w) (variablesShown w) first old 0 actions ls vs .state
-all-state w n v actions ls vs old first answers s at from k g h e f =
-    rw (← e, ← f) (ap (λ (x : Gone). x .state) (going-ends w n v actions ls vs old first answers s at from k g h))
+pub all-state : (w : List ℕ) (x : Layout) (own : List ℕ) (n v : ℕ) (actions ls : List ℕ) (vs : List ℤ) (old : List ℕ) (first : State) (answers : List ℕ) (s : State) (at from k : ℕ)
+    → Going w x own n v actions ls vs old first answers s at from k → length actions ≤ k → n ≡ automataOf x → v ≡ variablesOf x
+    → s ≡ goOn w x own (automataOf x) (variablesOf x) first old 0 actions ls vs .state
+all-state w x own n v actions ls vs old first answers s at from k g h e f =
+    rw (← e, ← f) (ap (λ (g : Gone). g .state) (going-ends w x own n v actions ls vs old first answers s at from k g h))
 
-pub all-answers : (w : List ℕ) (n v : ℕ) (actions ls : List ℕ) (vs : List ℤ) (old : List ℕ) (first : State) (answers : List ℕ) (s : State) (at from k : ℕ)
-    → Going w n v actions ls vs old first answers s at from k → length actions ≤ k → n ≡ automataShown w → v ≡ variablesShown w
-    → answers ≡ goOn w (automataShown w) (variablesShown w) first old 0 actions ls vs .answers
-all-answers w n v actions ls vs old first answers s at from k g h e f =
-    rw (← e, ← f) (ap (λ (x : Gone). x .answers) (going-ends w n v actions ls vs old first answers s at from k g h))
+pub all-answers : (w : List ℕ) (x : Layout) (own : List ℕ) (n v : ℕ) (actions ls : List ℕ) (vs : List ℤ) (old : List ℕ) (first : State) (answers : List ℕ) (s : State) (at from k : ℕ)
+    → Going w x own n v actions ls vs old first answers s at from k → length actions ≤ k → n ≡ automataOf x → v ≡ variablesOf x
+    → answers ≡ goOn w x own (automataOf x) (variablesOf x) first old 0 actions ls vs .answers
+all-answers w x own n v actions ls vs old first answers s at from k g h e f =
+    rw (← e, ← f) (ap (λ (g : Gone). g .answers) (going-ends w x own n v actions ls vs old first answers s at from k g h))
 
 pub ruleset all-laws = (going-first, going-on, all-state, all-answers)
 
@@ -319,76 +282,96 @@ pub ruleset put-laws = (putting-first, putting-on, putting-ends)
 pub ruleset put-values-laws = (putting-first, putting-value, putting-ends)
 
 -- `keep`: there is room
-module _ (w : List ℕ) (l v n : ℕ) (h : endFits w l v ≡ true) where
-  pub room-for-locations : n ≡ automataShown w → (list : List ℕ) → length list ≡ 16 → length (take n list) ≤ l
+module _ (x : Layout) (l v n : ℕ) (h : endFits x l v ≡ true) where
+  pub room-for-locations : n ≡ automataOf x → n ≤ 16 → (list : List ℕ) → length list ≡ 16 → length (take n list) ≤ l
   unfolding endFits
-  room-for-locations e list i =
-      let fits = leb-true (automataShown w) l (and-left (leb (automataShown w) l) _ h) in
-      rw (← automata-whole w list n i e, e) fits
+  room-for-locations e few list i =
+      let fits = leb-true (automataOf x) l (and-left (leb (automataOf x) l) _ h) in
+      rw (← front-whole 16 list n i few, e) fits
 
-  pub room-for-values : n ≡ variablesShown w → (list : List ℤ) → length list ≡ 48 → length (take n list) ≤ v
+  pub room-for-values : n ≡ variablesOf x → n ≤ 48 → (list : List ℤ) → length list ≡ 48 → length (take n list) ≤ v
   unfolding endFits
-  room-for-values e list i =
-      let fits = leb-true (variablesShown w) v (and-right (leb (automataShown w) l) _ h) in
-      rw (← shown-whole w list n i e, e) fits
+  room-for-values e few list i =
+      let fits = leb-true (variablesOf x) v (and-right (leb (automataOf x) l) _ h) in
+      rw (← front-whole 48 list n i few, e) fits
 
 -- and the items are those of the state
-pub kept-locations : (w : List ℕ) (n : ℕ) (list old new : List ℕ) → n ≡ automataShown w → new ≡ inFront (take n list) old
-    → new ≡ inFront (take (automataShown w) list) old
-kept-locations w n list old new e f = rw (← e) f
+pub kept-locations : (x : Layout) (n : ℕ) (list old new : List ℕ) → n ≡ automataOf x → new ≡ inFront (take n list) old
+    → new ≡ inFront (take (automataOf x) list) old
+kept-locations x n list old new e f = rw (← e) f
 
-pub kept-values : (w : List ℕ) (n : ℕ) (list old new : List ℤ) → n ≡ variablesShown w → new ≡ inFront (take n list) old
-    → new ≡ inFront (take (variablesShown w) list) old
-kept-values w n list old new e f = rw (← e) f
+pub kept-values : (x : Layout) (n : ℕ) (list old new : List ℤ) → n ≡ variablesOf x → new ≡ inFront (take n list) old
+    → new ≡ inFront (take (variablesOf x) list) old
+kept-values x n list old new e f = rw (← e) f
 
 pub ruleset keep-laws = (room-for-locations, room-for-values)
 
 -- `ended`
-pub ended-is : (w : List ℕ) (s : State) (actions ls : List ℕ) (vs : List ℤ) (answers locations : List ℕ) (values : List ℤ) (end : State) (new l : List ℕ)
-    (v : List ℤ) (p : Phase) → end ≡ goOn w (automataShown w) (variablesShown w) s answers 0 actions ls vs .state
-    → new ≡ goOn w (automataShown w) (variablesShown w) s answers 0 actions ls vs .answers → p ≡ end .phase
-    → l ≡ inFront (take (automataShown w) (end .locations)) locations → v ≡ inFront (take (variablesShown w) (end .values)) values
-    → Leaves (ranOn w s actions ls vs answers locations values) (Ended p) new l v
+pub ended-is : (w : List ℕ) (x : Layout) (own : List ℕ) (s : State) (actions ls : List ℕ) (vs : List ℤ) (answers locations : List ℕ) (values : List ℤ) (end : State) (new l : List ℕ)
+    (v : List ℤ) (p : Phase) → end ≡ goOn w x own (automataOf x) (variablesOf x) s answers 0 actions ls vs .state
+    → new ≡ goOn w x own (automataOf x) (variablesOf x) s answers 0 actions ls vs .answers → p ≡ end .phase
+    → l ≡ inFront (take (automataOf x) (end .locations)) locations → v ≡ inFront (take (variablesOf x) (end .values)) values
+    → Leaves (ranOn w x own s actions ls vs answers locations values) (Ended p) new l v
 unfolding ranOn
-ended-is w s actions ls vs answers locations values end new l v p e f g h i = record { is = rw (g, h, i, e, f) }
+ended-is w x own s actions ls vs answers locations values end new l v p e f g h i = record { is = rw (g, h, i, e, f) }
 
 -- `listed`
-pub end-has-room : (w : List ℕ) (l v : ℕ) (b : Bool) → b ≡ endFits w l v → not b ≡ false → endFits w l v ≡ true
-end-has-room w l v b f g = sym f ∙ not-false b g
+pub end-has-room : (x : Layout) (l v : ℕ) (b : Bool) → b ≡ endFits x l v → not b ≡ false → endFits x l v ≡ true
+end-has-room x l v b f g = sym f ∙ not-false b g
 
-module _ (w : List ℕ) (s : State) (actions ls : List ℕ) (vs : List ℤ) (answers locations : List ℕ) (values : List ℤ) where
+module _ (w : List ℕ) (x : Layout) (own : List ℕ) (s : State) (actions ls : List ℕ) (vs : List ℤ) (answers locations : List ℕ) (values : List ℤ) where
   abbrev left : Left
-  left = listedOn w s actions ls vs answers locations values
+  left = listedOn w x own s actions ls vs answers locations values
 
-  module _ (a : Bool) (e : a ≡ listsFit w (length actions) (length ls) (length vs)) where
+  module _ (a : Bool) (e : a ≡ listsFit x (length actions) (length ls) (length vs)) where
     pub listed-uneven : not a ≡ true → Leaves left Uneven answers locations values
     unfolding listedOn
     listed-uneven h =
-        let x : listsFit w (length actions) (length ls) (length vs) ≡ false = sym e ∙ not-true a h in
-        record { is = rw (x, listedOn) }
+        let y : listsFit x (length actions) (length ls) (length vs) ≡ false = sym e ∙ not-true a h in
+        record { is = rw (y, listedOn) }
 
     module _ (h : not a ≡ false) where
-      even : listsFit w (length actions) (length ls) (length vs) ≡ true
+      even : listsFit x (length actions) (length ls) (length vs) ≡ true
       even = sym e ∙ not-false a h
 
       pub listed-short : length answers < length actions → Leaves left AnswersShort answers locations values
       unfolding listedOn
       listed-short i = record { is = rw (even, listedOn, lt-leb (length actions) (length answers) i, listedOn) }
 
-      module _ (i : length actions ≤ length answers) (b : Bool) (f : b ≡ endFits w (length locations) (length values)) where
+      module _ (i : length actions ≤ length answers) (b : Bool) (f : b ≡ endFits x (length locations) (length values)) where
         room : leb (length actions) (length answers) ≡ true
         room = le-leb (length actions) (length answers) i
 
         pub listed-no-end : not b ≡ true → Leaves left EndShort answers locations values
         unfolding listedOn
         listed-no-end g =
-            let x : endFits w (length locations) (length values) ≡ false = sym f ∙ not-true b g in
-            record { is = rw (even, listedOn, room, listedOn, x, listedOn) }
+            let y : endFits x (length locations) (length values) ≡ false = sym f ∙ not-true b g in
+            record { is = rw (even, listedOn, room, listedOn, y, listedOn) }
 
-        pub listed-ran : not b ≡ false → (r : Ran) (new l : List ℕ) (v : List ℤ) → Leaves (ranOn w s actions ls vs answers locations values) r new l v
+        pub listed-ran : not b ≡ false → (r : Ran) (new l : List ℕ) (v : List ℤ) → Leaves (ranOn w x own s actions ls vs answers locations values) r new l v
             → Leaves left r new l v
         unfolding listedOn
         listed-ran g r new l v d =
-            record { is = rw (even, listedOn, room, listedOn, end-has-room w (length locations) (length values) b f g, listedOn) (d .is) }
+            record { is = rw (even, listedOn, room, listedOn, end-has-room x (length locations) (length values) b f g, listedOn) (d .is) }
 
 pub ruleset listed-laws = (listed-uneven, listed-short, listed-no-end, listed-ran)
+
+-- `over`
+module _ (w : List ℕ) (phase : ℕ) (l : List ℕ) (v : List ℤ) (actions ls : List ℕ) (vs : List ℤ) (answers locations : List ℕ) (values : List ℤ)
+    (x : Layout) (found : x ≡ layoutOf w) (y : Admitted) (i : y ≡ begunOn w x l v phase) where
+  begun-is : (z : Admitted) → y ≡ z → begunOn w (layoutOf w) l v phase ≡ z
+  begun-is z e = ap (λ (k : Layout). begunOn w k l v phase) (sym found) ∙ sym i ∙ e
+
+  pub over-out : (row : ℕ) → y ≡ Out row → Leaves (overOn w phase l v actions ls vs answers locations values) (Refuses.Refused row) answers locations values
+  unfolding overOn
+  over-out row e = record { is = rw (begun-is (Out row) e, overOn) }
+
+  pub over-in : (q : Phase) → y ≡ In q → (own : List ℕ) → own ≡ ownSets w (x .sets) → (s : State) → s ≡ stateOf q l v → (r : Ran) (new newl : List ℕ) (newv : List ℤ)
+      → Leaves (listedOn w x own s actions ls vs answers locations values) r new newl newv
+      → Leaves (overOn w phase l v actions ls vs answers locations values) r new newl newv
+  unfolding overOn
+  over-in q e own sets s o r new newl newv d =
+      let all : own ≡ ownOf w = sets ∙ ap (λ (k : Layout). ownSets w (k .sets)) found in
+      record { is = rw (begun-is (In q) e, overOn) (rw (o, all, found) at (d .is)) }
+
+pub ruleset over-laws = (over-out, over-in)

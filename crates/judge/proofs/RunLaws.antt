@@ -20,6 +20,10 @@ use Rattle.model.proofs.Tests.{and-left, and-right, not-false, eq-of, lt-of, le
 use Rattle.table_check.specs.Check.{answered}
 use Rattle.table_check.specs.declared.Checked.{Checked}
 use Rattle.table_check.specs.declared.Checked.the-variants as C
+use Rattle.table_places.specs.declared.layout.Layout.{Layout}
+use Rattle.table_places.specs.Layout.{layoutOf, automataOf, variablesOf}
+use Rattle.table_places.proofs.OutlineLaws.{automata-in, variables-in}
+use Rattle.table_places.proofs.LayoutLaws.{all-automata, all-variables}
 use Rattle.table_places.proofs.Opened.{Sheet, sheet-of}
 use Rattle.judge_call.specs.declared.Phase.{Phase}
 use Rattle.judge_call.specs.declared.Phase.the-variants.{Start, Running}
@@ -32,19 +36,18 @@ use Rattle.judge_call.specs.declared.Answer.{Answer}
 use Rattle.judge_call.specs.declared.Answer.the-variants.{Yes, Marked, No, Refused}
 use Rattle.judge_call.specs.Answers.{answerOf, phaseIs, phaseFor, answerNumber}
 use Rattle.judge_call.specs.States.{filled, stateOf, held}
-use Rattle.judge_call.specs.RowTests.{lengthsFit, locationsKnown, valuesKnown}
-use Rattle.judge_call.specs.Settled.{variablesShown}
-use Rattle.judge_call.specs.Taken.{automataShown}
-use Rattle.judge_call.specs.Calls.{thenLists, thenPhase}
+use Rattle.judge_call.specs.RowTests.{phaseRead, lengthsFit, locationsKnown, valuesKnown}
+use Rattle.judge_call.specs.Calls.{stateChecked, valuesChecked, thenLists, thenPhase, environmentFrom, stepFrom, ownOf}
 use Rattle.judge.specs.RunAnswer.{environmentMark, proposalOf, proposalsOf, RunAnswer, notRun, uneven, answersShort, endShort, ran, isUneven, lacksEnd, runFrom, runAnswer, ranOf, inFront, lentAfter, answersAfter, locationsAfter, valuesAfter}
-use Rattle.judge.specs.RunWords.{listsFit, endFits, startChecked, begunOn, judgedOn, proposedOn, movedTo, Gone, turnOn, goOn, Left, ranOn, listedOn, Leaves}
+use Rattle.judge.specs.RunWords.{listsFit, endFits, begunOn, judgedOn, proposedOn, movedTo, Gone, turnOn, goOn, Left, ranOn, listedOn, overOn, Leaves}
 use Rattle.judge_call.proofs.Filled.{filled-front, filled-twice}
-use Rattle.judge_call.proofs.RowLaws.{automata-in, variables-in, lengths-row, locations-row, values-row}
-use Rattle.judge_call.proofs.SettledLaws.{shown-is}
-use Rattle.judge_call.proofs.CallLaws.{stands, one-each, one-value, phase-read, environment-good}
-use Rattle.judge_call.proofs.TakenLaws.{automata-is, in-front}
+use Rattle.judge_call.proofs.RowLaws.{lengths-row, locations-row, values-row}
+use Rattle.judge_call.proofs.CallLaws.{stands, phase-read, environment-good}
+use Rattle.judge_call.proofs.JudgementLaws.{Known, known-passes, still-passes, step-from-on, environment-from-on, step-refused, environment-refused}
+use Rattle.judge_call.proofs.TakenLaws.{in-front}
 use Rattle.judge_call.proofs.StepLaws.{step-good}
 use Rattle.judge_call.proofs.NumberLaws.{unwrapped, judge-fits}
+use Rattle.judge.proofs.RunCodeLaws.{judged-environment, judged-step, proposed-new}
 
 phase-back : (p : R.Phase) → phaseIs (phaseFor p) ≡ p
 unfolding phaseIs phaseFor
@@ -55,6 +58,12 @@ phase-held : (q : Phase) → phaseFor (phaseIs q) ≡ q
 unfolding phaseIs phaseFor
 phase-held Start = refl
 phase-held Running = refl
+
+-- the code reads a phase back from its number
+read-back : (p : R.Phase) → phaseRead (phaseNumber p) ≡ In (phaseFor p)
+unfolding phaseRead phaseNumber phaseFor
+read-back R.start = refl
+read-back R.running = refl
 
 -- only a yes moves either
 moved-exact : (x : Answer) (u u' : R.State) → movedTo x (held u) (held u') ≡ held (goes (answerOf x) u u')
@@ -111,51 +120,117 @@ module _ (t : List ℕ) (m : Model) (e : openTable t ≡ opened m) where
   unfolding answered
   good = rw e
 
-  -- one location for each automaton, one value for each variable
+  -- what is found in the table once
+  abbrev x : Layout
+  x = layoutOf t
+
+  abbrev own : List ℕ
+  own = ownOf t
+
+  -- A state that has passed the rows: one location for each automaton, one value for each variable, each within its bounds.
   record Shaped (u : R.State) : Type 0 where
+    pub known : Known t x (u .locations) (u .values)
     pub locations : length (u .locations) ≡ n
     pub values : length (u .values) ≡ v
 
-  values-front : (k : List ℤ) → length k ≡ v → take (variablesShown t) (filled 48 (pos 0) k) ≡ k
-  values-front k h = rw (shown-is m (sheet .lawful) t (sheet .rest) (sheet .stands), ← h) (filled-front 48 (pos 0) k (rw h (sheet .lawful .few-variables)))
+  shaped-of : (u : R.State) → Known t x (u .locations) (u .values) → Shaped u
+  unfolding lengthsFit layoutOf
+  shaped-of u known =
+      let f = known .fits in
+      record {
+        known = known;
+        locations = eq-of (length (u .locations)) (x .automata) (and-left (eqb (length (u .locations)) (x .automata)) _ f) ∙ automata-in t (sheet .rest) m (sheet .stands);
+        values = eq-of (length (u .values)) (x .variables) (and-right (eqb (length (u .locations)) (x .automata)) _ f) ∙ variables-in t (sheet .rest) m (sheet .stands);
+      }
+
+  values-front : (k : List ℤ) → length k ≡ v → take (variablesOf x) (filled 48 (pos 0) k) ≡ k
+  values-front k h = rw (all-variables m (sheet .lawful) t (sheet .rest) (sheet .stands), ← h) (filled-front 48 (pos 0) k (rw h (sheet .lawful .few-variables)))
 
   -- one proposal
-  judged-exact : (u : R.State) → Shaped u → (a : ℕ) (l' : List ℕ) (v' : List ℤ) → answerOf (judgedOn t (held u) a l' v') ≡ tableJudge t u (proposalOf a l' v')
-  unfolding judgedOn proposalOf tableJudge callOf J.answerTo stateOf
-  judged-exact u shaped a l' v' = go (eqb a environmentMark) refl
-    where
-      p : phaseNumber (phaseIs (phaseFor (u .phase))) ≡ phaseNumber (u .phase)
-      p = ap phaseNumber (phase-back (u .phase))
-
-      ls : take (automataShown t) (filled 16 0 (u .locations)) ≡ u .locations
-      ls = in-front t m sheet (u .locations) (shaped .locations)
-
-      vs : take (variablesShown t) (filled 48 (pos 0) (u .values)) ≡ u .values
-      vs = values-front (u .values) (shaped .values)
-
-      go : (b : Bool) → eqb a environmentMark ≡ b → answerOf (judgedOn t (held u) a l' v') ≡ tableJudge t u (proposalOf a l' v')
-      go true f = rw (f, judgedOn, proposalOf, p, ls, vs) (environment-good t (phaseNumber (u .phase)) (u .locations) (u .values) v' C.Good good refl _ refl)
-      go false f = rw (f, judgedOn, proposalOf, p, ls, vs) (step-good t (phaseNumber (u .phase)) (u .locations) (u .values) a l' v' C.Good good refl _ refl)
-
   module _ (u : R.State) (shaped : Shaped u) (a : ℕ) (l' : List ℕ) (v' : List ℤ) where
-    turn-state : turnOn t (held u) a l' v' .state ≡ held (goes (tableJudge t u (proposalOf a l' v')) u (proposed u (proposalOf a l' v')))
+    abbrev to : State
+    to = proposedOn (held u) a l' v'
+
+    abbrev judged : Answer
+    judged = judgedOn t x own (held u) a l' v' to
+
+    abbrev asked : J.Answer
+    asked = tableJudge t u (proposalOf a l' v')
+
+    abbrev phase : ℕ
+    phase = phaseNumber (u .phase)
+
+    module _ (f : eqb a environmentMark ≡ true) where
+      to-environment : judged ≡ environmentFrom t x (held u) v' to
+      to-environment = sym (judged-environment t x own (held u) a l' v' to (eqb a environmentMark) refl _ f refl)
+
+      stays : to ≡ stateOf Running (u .locations) v'
+      unfolding proposedOn stateOf
+      stays = rw (f, proposedOn) (ap (λ (l : List ℕ). record { phase = Running; locations = l; values = filled 48 (pos 0) v' }) (filled-twice 16 0 (u .locations)))
+
+      asked-environment : asked ≡ J.environmentAnswer t phase (u .locations) (u .values) v'
+      unfolding proposalOf tableJudge callOf J.answerTo
+      asked-environment = rw (f, proposalOf)
+
+    module _ (f : eqb a environmentMark ≡ false) where
+      to-step : judged ≡ stepFrom t x own (held u) a l' v' to
+      to-step = sym (judged-step t x own (held u) a l' v' to (eqb a environmentMark) refl _ f refl)
+
+      moves : to ≡ stateOf Running l' v'
+      moves = sym (proposed-new (held u) a l' v' (eqb a environmentMark) refl f _ refl)
+
+      asked-step : asked ≡ J.stepAnswer t phase (u .locations) (u .values) a l' v'
+      unfolding proposalOf tableJudge callOf J.answerTo
+      asked-step = rw (f, proposalOf)
+
+    judged-exact : answerOf judged ≡ asked
+    judged-exact = go (eqb a environmentMark) refl
+      where
+        go : (b : Bool) → eqb a environmentMark ≡ b → answerOf judged ≡ asked
+        go true f =
+            ap answerOf (to-environment f ∙ ap (environmentFrom t x (held u) v') (stays f) ∙
+            environment-from-on t x (u .locations) (u .values) (shaped .known) phase (phaseFor (u .phase)) (read-back (u .phase)) v') ∙
+            environment-good t phase (u .locations) (u .values) v' C.Good good refl x refl _ refl ∙ sym (asked-environment f)
+        go false f =
+            ap answerOf (to-step f ∙ ap (stepFrom t x own (held u) a l' v') (moves f) ∙
+            step-from-on t x (u .locations) (u .values) (shaped .known) phase (phaseFor (u .phase)) (read-back (u .phase)) own a l' v') ∙
+            step-good t phase (u .locations) (u .values) a l' v' C.Good good refl x own refl refl _ refl ∙ sym (asked-step f)
+
+    turn-state : turnOn t x own (held u) a l' v' .state ≡ held (goes asked u (proposed u (proposalOf a l' v')))
     unfolding turnOn
     turn-state =
         let p = proposalOf a l' v' in
-        let x = judgedOn t (held u) a l' v' in
-        ap (movedTo x (held u)) (proposed-exact u a l' v') ∙ moved-exact x u (proposed u p) ∙ ap (λ (y : J.Answer). held (goes y u (proposed u p))) (judged-exact u shaped a l' v')
+        ap (movedTo judged (held u)) (proposed-exact u a l' v') ∙ moved-exact judged u (proposed u p) ∙ ap (λ (y : J.Answer). held (goes y u (proposed u p))) judged-exact
 
-    turn-number : turnOn t (held u) a l' v' .number ≡ answerNumber (tableJudge t u (proposalOf a l' v'))
+    turn-number : turnOn t x own (held u) a l' v' .number ≡ answerNumber asked
     unfolding turnOn
-    turn-number = unwrapped (judge-fits t u (proposalOf a l' v')) (judged-exact u shaped a l' v') refl
+    turn-number = unwrapped (judge-fits t u (proposalOf a l' v')) judged-exact refl
 
-    goes-shaped : length l' ≡ n → length v' ≡ v → Shaped (goes (tableJudge t u (proposalOf a l' v')) u (proposed u (proposalOf a l' v')))
+    -- a refusal leaves the state; and what is not refused is known
+    refused-stays : (row : ℕ) → judged ≡ Refused row → Shaped (goes asked u (proposed u (proposalOf a l' v')))
+    unfolding goes answerOf
+    refused-stays row e =
+        let r : asked ≡ J.refused row = sym judged-exact ∙ ap answerOf e in
+        rw r shaped
+
+    goes-shaped : Shaped (goes asked u (proposed u (proposalOf a l' v')))
     unfolding proposalOf proposed
-    goes-shaped h i = goes-to Shaped (tableJudge t u (proposalOf a l' v')) u (proposed u (proposalOf a l' v')) shaped (go (eqb a environmentMark) refl)
+    goes-shaped = go (eqb a environmentMark) refl
       where
-        go : (b : Bool) → eqb a environmentMark ≡ b → Shaped (proposed u (proposalOf a l' v'))
-        go true f = rw (f, proposalOf) (record { locations = shaped .locations; values = i })
-        go false f = rw (f, proposalOf) (record { locations = h; values = i })
+        to-known : Shaped (proposed u (proposalOf a l' v')) → Shaped (goes asked u (proposed u (proposalOf a l' v')))
+        to-known i = goes-to Shaped asked u (proposed u (proposalOf a l' v')) shaped i
+
+        by-values : (f : eqb a environmentMark ≡ true) (c : Checked) → c ≡ valuesChecked t x v' → Shaped (goes asked u (proposed u (proposalOf a l' v')))
+        by-values f C.Good e = to-known (rw (f, proposalOf) (shaped-of (record { phase = R.running; locations = u .locations; values = v' }) (still-passes t x (u .locations) (u .values) (shaped .known) v' (sym e))))
+        by-values f (C.Refused row) e = refused-stays row (to-environment f ∙ sym (environment-refused t x (held u) v' to (C.Refused row) e row refl))
+
+        by-lists : (f : eqb a environmentMark ≡ false) (c : Checked) → c ≡ stateChecked t x l' v' → Shaped (goes asked u (proposed u (proposalOf a l' v')))
+        by-lists f C.Good e = to-known (rw (f, proposalOf) (shaped-of (record { phase = R.running; locations = l'; values = v' }) (known-passes t x l' v' (sym e))))
+        by-lists f (C.Refused row) e = refused-stays row (to-step f ∙ sym (step-refused t x own (held u) a l' v' to (C.Refused row) e row refl))
+
+        go : (b : Bool) → eqb a environmentMark ≡ b → Shaped (goes asked u (proposed u (proposalOf a l' v')))
+        go true f = by-values f (valuesChecked t x v') refl
+        go false f = by-lists f (stateChecked t x l' v') refl
 
   -- the code's run ends where the definitions' does, and its answers from k on are those
   record Agrees (g : Gone) (old : List ℕ) (k count : ℕ) (r : Run J.Answer) : Type 0 where
@@ -165,7 +240,7 @@ module _ (t : List ℕ) (m : Model) (e : openTable t ≡ opened m) where
 
   go-on-exact : (actions ls : List ℕ) (vs : List ℤ) (u : R.State) → Shaped u → length ls ≡ n * length actions → length vs ≡ v * length actions
       → (old : List ℕ) (k : ℕ) → k + length actions ≤ length old
-      → Agrees (goOn t n v (held u) old k actions ls vs) old k (length actions) (run (tableJudge t) u (proposalsOf n v actions ls vs))
+      → Agrees (goOn t x own n v (held u) old k actions ls vs) old k (length actions) (run (tableJudge t) u (proposalsOf n v actions ls vs))
   unfolding goOn run andThen proposalsOf
   go-on-exact [] ls vs u shaped h i old k room = record { state = refl; answers = sym (take-append-drop k old) ∙ ap (λ (i : ℕ). take k old ++ drop i old) (sym (add-zero k)); shaped = shaped }
   go-on-exact (a ∷ actions) ls vs u shaped h i old k room =
@@ -174,12 +249,10 @@ module _ (t : List ℕ) (m : Model) (e : openTable t ≡ opened m) where
       let num = answerNumber (tableJudge t u p) in
       let sizes = mul-suc n (length actions) in
       let sizes' = mul-suc v (length actions) in
-      let one = length-take-le n ls (omega arith) in
-      let one' = length-take-le v vs (omega arith) in
       let others : length (drop n ls) ≡ n * length actions = length-drop n ls ∙ omega arith in
       let others' : length (drop v vs) ≡ v * length actions = length-drop v vs ∙ omega arith in
       let long : suc k + length actions ≤ length (set old k num) = rw (length-set old k num) (omega arith) in
-      let rest = go-on-exact actions (drop n ls) (drop v vs) u' (goes-shaped u shaped a (take n ls) (take v vs) one one') others others' (set old k num) (suc k) long in
+      let rest = go-on-exact actions (drop n ls) (drop v vs) u' (goes-shaped u shaped a (take n ls) (take v vs)) others others' (set old k num) (suc k) long in
       rw (turn-state u shaped a (take n ls) (take v vs), turn-number u shaped a (take n ls) (take v vs))
       (record { state = rest .state; answers = rest .answers ∙ joined old k num (map answerNumber (run (tableJudge t) u' (proposalsOf n v actions (drop n ls) (drop v vs)) .answers)) (length actions) (omega arith); shaped = rest .shaped })
     where
@@ -203,7 +276,7 @@ module _ (t : List ℕ) (m : Model) (e : openTable t ≡ opened m) where
 
     -- no row refuses it
     record Begun (q : Phase) : Type 0 where
-      pub fits : J.row21 m (stands q l k) ≡ false
+      pub known : Known t x l k
       pub is : called ≡ behind q
 
     -- what the rows say
@@ -215,35 +288,35 @@ module _ (t : List ℕ) (m : Model) (e : openTable t ≡ opened m) where
       abbrev u : R.State
       u = stands q l k
 
-      rows-told : runFrom t m u actions ls vs answers ends endv ≡ called → Told (thenLists (startChecked t l k) q)
-      rows-told f = rows (lengthsFit t (length l) (length k)) refl (locationsKnown t l) refl (valuesKnown t k) refl
+      rows-told : runFrom t m u actions ls vs answers ends endv ≡ called → Told (thenLists (stateChecked t x l k) q)
+      rows-told f = rows (lengthsFit x (length l) (length k)) refl (locationsKnown t x l) refl (valuesKnown t x k) refl
         where
-          r21 : (b : Bool) → lengthsFit t (length l) (length k) ≡ b → J.row21 m u ≡ not b
-          r21 b h = sym (lengths-row t (sheet .rest) m (sheet .stands) u) ∙ ap not h
+          r21 : (b : Bool) → lengthsFit x (length l) (length k) ≡ b → J.row21 m u ≡ not b
+          r21 b h = sym (lengths-row m (sheet .lawful) t (sheet .rest) (sheet .stands) u) ∙ ap not h
 
-          r22 : (b : Bool) → locationsKnown t l ≡ b → J.row22 m u ≡ not b
-          r22 b h = sym (locations-row t (sheet .rest) m (sheet .stands) u) ∙ ap not h
+          r22 : (b : Bool) → locationsKnown t x l ≡ b → J.row22 m u ≡ not b
+          r22 b h = sym (locations-row m (sheet .lawful) t (sheet .rest) (sheet .stands) u) ∙ ap not h
 
-          r23 : (b : Bool) → valuesKnown t k ≡ b → J.row23 m u ≡ not b
-          r23 b h = sym (values-row t (sheet .rest) m (sheet .stands) (sheet .lawful) u) ∙ ap not h
+          r23 : (b : Bool) → valuesKnown t x k ≡ b → J.row23 m u ≡ not b
+          r23 b h = sym (values-row m (sheet .lawful) t (sheet .rest) (sheet .stands) u) ∙ ap not h
 
-          rows : (a : Bool) → lengthsFit t (length l) (length k) ≡ a → (b : Bool) → locationsKnown t l ≡ b → (c : Bool) → valuesKnown t k ≡ c
-              → Told (thenLists (startChecked t l k) q)
-          rows false w b x c y = unfold Told startChecked thenLists runFrom in rw (w, startChecked) (sym (rw (r21 false w) at f))
-          rows true w false x c y = unfold Told startChecked thenLists runFrom in rw (w, startChecked, x, startChecked) (sym (rw (r21 true w, r22 false x) at f))
-          rows true w true x false y =
-              unfold Told startChecked thenLists runFrom in rw (w, startChecked, x, startChecked, y, startChecked) (sym (rw (r21 true w, r22 true x, r23 false y) at f))
-          rows true w true x true y =
-              unfold Told startChecked thenLists runFrom in
-              rw (w, startChecked, x, startChecked, y, startChecked) (record { fits = r21 true w; is = sym (rw (r21 true w, r22 true x, r23 true y) at f) })
+          rows : (a : Bool) → lengthsFit x (length l) (length k) ≡ a → (b : Bool) → locationsKnown t x l ≡ b → (c : Bool) → valuesKnown t x k ≡ c
+              → Told (thenLists (stateChecked t x l k) q)
+          rows false w b o c y = unfold Told stateChecked thenLists runFrom in rw (w, stateChecked) (sym (rw (r21 false w) at f))
+          rows true w false o c y = unfold Told stateChecked thenLists runFrom in rw (w, stateChecked, o, stateChecked) (sym (rw (r21 true w, r22 false o) at f))
+          rows true w true o false y =
+              unfold Told stateChecked thenLists runFrom in rw (w, stateChecked, o, stateChecked, y, stateChecked) (sym (rw (r21 true w, r22 true o, r23 false y) at f))
+          rows true w true o true y =
+              unfold Told stateChecked thenLists runFrom in
+              rw (w, stateChecked, o, stateChecked, y, stateChecked) (record { known = record { fits = w; located = o; valued = y }; is = sym (rw (r21 true w, r22 true o, r23 true y) at f) })
 
-    told : Told (begunOn t l k phase)
+    told : Told (begunOn t x l k phase)
     unfolding begunOn thenPhase
     told =
         phase-read phase
-        (λ x o.
+        (λ y o.
         elim o [ none ↦ notRun 20 | some p ↦ runFrom t m (record { phase = p; locations = l; values = k }) actions ls vs answers ends endv ] ≡ called
-        → Told (thenPhase x (startChecked t l k)))
+        → Told (thenPhase y (stateChecked t x l k)))
         (λ q f. rows-told q f)
         (λ f. unfold Told in sym f)
         (unfold runAnswer in rw (e, runAnswer))
@@ -256,20 +329,20 @@ module _ (t : List ℕ) (m : Model) (e : openTable t ≡ opened m) where
 
     end-locations : take n (held u .locations) ≡ u .locations
     unfolding stateOf
-    end-locations = rw (automata-is t m sheet) at (in-front t m sheet (u .locations) (shaped .locations))
+    end-locations = rw (all-automata m (sheet .lawful) t (sheet .rest) (sheet .stands)) at (in-front t m sheet (u .locations) (shaped .locations))
 
     end-values : take v (held u .values) ≡ u .values
     unfolding stateOf
-    end-values = rw (shown-is m (sheet .lawful) t (sheet .rest) (sheet .stands)) at (values-front (u .values) (shaped .values))
+    end-values = rw (all-variables m (sheet .lawful) t (sheet .rest) (sheet .stands)) at (values-front (u .values) (shaped .values))
 
   -- the list's own faults, over words
-  lists-even : (actions ls : List ℕ) (vs : List ℤ) → listsFit t (length actions) (length ls) (length vs) ≡ not (isUneven m actions ls vs)
-  unfolding listsFit isUneven
+  lists-even : (actions ls : List ℕ) (vs : List ℤ) → listsFit x (length actions) (length ls) (length vs) ≡ not (isUneven m actions ls vs)
+  unfolding listsFit layoutOf isUneven
   lists-even actions ls vs = rw (automata-in t (sheet .rest) m (sheet .stands), variables-in t (sheet .rest) m (sheet .stands)) (sym (not-not _))
 
-  end-room : (ends endv : ℕ) → endFits t ends endv ≡ not (lacksEnd m ends endv)
+  end-room : (ends endv : ℕ) → endFits x ends endv ≡ not (lacksEnd m ends endv)
   unfolding endFits lacksEnd
-  end-room ends endv = rw (automata-is t m sheet, shown-is m (sheet .lawful) t (sheet .rest) (sheet .stands)) (sym (not-not _))
+  end-room ends endv = rw (all-automata m (sheet .lawful) t (sheet .rest) (sheet .stands), all-variables m (sheet .lawful) t (sheet .rest) (sheet .stands)) (sym (not-not _))
 
 module _ (t : List ℕ) (phase : ℕ) (l : List ℕ) (k : List ℤ) (actions ls : List ℕ) (vs : List ℤ) (old oldl : List ℕ) (oldv : List ℤ) where
   abbrev whole : RunAnswer
@@ -285,28 +358,28 @@ module _ (t : List ℕ) (phase : ℕ) (l : List ℕ) (k : List ℤ) (actions ls 
 
     -- the code's run
     run-exact : isUneven m actions ls vs ≡ false → length actions ≤ length old
-        → ranOn t (stateOf q l k) actions ls vs old oldl oldv ≡ leftOf (ran run-of)
+        → ranOn t (layoutOf t) (ownOf t) (stateOf q l k) actions ls vs old oldl oldv ≡ leftOf (ran run-of)
     unfolding ranOn ranOf answersAfter locationsAfter valuesAfter lentAfter inFront isUneven
     run-exact even room =
         let u = stands q l k in
         let sizes = not-false _ even in
         let one = eq-of (length ls) (length (m .automata) * length actions) (and-left (eqb (length ls) (length (m .automata) * length actions)) _ sizes) in
         let one' = eq-of (length vs) (length (m .variables) * length actions) (and-right (eqb (length ls) (length (m .automata) * length actions)) _ sizes) in
-        let agrees = go-on-exact t m e actions ls vs u (record { locations = one-each m u (b .fits); values = one-value m u (b .fits) }) one one' old 0 (omega arith) in
+        let agrees = go-on-exact t m e actions ls vs u (shaped-of t m e u (b .known)) one one' old 0 (omega arith) in
         let count : length (map answerNumber (run-of .answers)) ≡ 0 + length actions =
         length-map (run-of .answers) answerNumber ∙ run-length (tableJudge t) u _ ∙ proposals-length _ _ actions ls vs ∙ sym (zero-add (length actions)) in
         let start : stateOf q l k ≡ held u = ap (λ (p : Phase). stateOf p l k) (sym (phase-held q)) in
         let end = run-of .end in
         let shaped = agrees .shaped in
-        rw (automata-is t m (sheet-of t m e), shown-is m (sheet-of t m e .lawful) t (sheet-of t m e .rest) (sheet-of t m e .stands), start, agrees .state, agrees .answers, count, end-phase t m e end shaped, end-locations t m e end shaped, end-values t m e end shaped)
+        rw (all-automata m (sheet-of t m e .lawful) t (sheet-of t m e .rest) (sheet-of t m e .stands), all-variables m (sheet-of t m e .lawful) t (sheet-of t m e .rest) (sheet-of t m e .stands), start, agrees .state, agrees .answers, count, end-phase t m e end shaped, end-locations t m e end shaped, end-values t m e end shaped)
 
     -- and the whole list
-    listed-exact : listedOn t (stateOf q l k) actions ls vs old oldl oldv ≡ leftOf whole
+    listed-exact : listedOn t (layoutOf t) (ownOf t) (stateOf q l k) actions ls vs old oldl oldv ≡ leftOf whole
     unfolding listedOn ranOf answersAfter locationsAfter valuesAfter lentAfter
     listed-exact = rw (b .is) (go (isUneven m actions ls vs) refl (ltb (length old) (length actions)) refl (lacksEnd m (length oldl) (length oldv)) refl)
       where
         go : (x : Bool) → isUneven m actions ls vs ≡ x → (y : Bool) → ltb (length old) (length actions) ≡ y → (z : Bool) → lacksEnd m (length oldl) (length oldv) ≡ z
-            → listedOn t (stateOf q l k) actions ls vs old oldl oldv ≡ leftOf (behind t m e phase l k actions ls vs (length old) (length oldl) (length oldv) q)
+            → listedOn t (layoutOf t) (ownOf t) (stateOf q l k) actions ls vs old oldl oldv ≡ leftOf (behind t m e phase l k actions ls vs (length old) (length oldl) (length oldv) q)
         go true f y g z h = rw (lists-even t m e actions ls vs ∙ ap not f, listedOn, f)
         go false f true g z h =
             let less = lt-leb (length actions) (length old) (lt-of (length old) (length actions) g) in
@@ -326,8 +399,8 @@ module _ (t : List ℕ) (phase : ℕ) (l : List ℕ) (k : List ℤ) (actions ls 
   by-row row e = rw e
 
   -- each way out of `run`
-  module _ (x : Checked) (e : x ≡ answered (openTable t)) where
-    table-out : (row : ℕ) → x ≡ C.Refused row → whole ≡ notRun row
+  module _ (z : Checked) (e : z ≡ answered (openTable t)) where
+    table-out : (row : ℕ) → z ≡ C.Refused row → whole ≡ notRun row
     unfolding answered runAnswer
     table-out row f = go (openTable t) refl
       where
@@ -340,7 +413,7 @@ module _ (t : List ℕ) (phase : ℕ) (l : List ℕ) (k : List ℤ) (actions ls 
             let never : C.Good ≡ C.Refused row = rw g at (sym e ∙ f) in
             cc
 
-    module _ (row : ℕ) (f : x ≡ C.Refused row) where
+    module _ (row : ℕ) (f : z ≡ C.Refused row) where
       bad : record { ran = Code.Refused row; answers = old; locations = oldl; values = oldv } ≡ leftOf whole
       bad = by-row row (table-out row f)
 
@@ -356,7 +429,7 @@ module _ (t : List ℕ) (phase : ℕ) (l : List ℕ) (k : List ℤ) (actions ls 
       pub bad-values : oldv ≡ valuesAfter whole oldv
       bad-values = ap (λ (y : Left). y .values) bad
 
-    module _ (h : x ≡ C.Good) where
+    module _ (h : z ≡ C.Good) where
       opens : (m : Model) × (openTable t ≡ opened m)
       unfolding answered
       opens = go (openTable t) refl
@@ -368,44 +441,28 @@ module _ (t : List ℕ) (phase : ℕ) (l : List ℕ) (k : List ℤ) (actions ls 
               absurd (true≢false clash)
           go (opened m) g = (m, g)
 
-      module _ (y : Admitted) (i : y ≡ begunOn t l k phase) where
-        said : Told t (opens .0) (opens .1) phase l k actions ls vs (length old) (length oldl) (length oldv) y
-        said = rw i (told t (opens .0) (opens .1) phase l k actions ls vs (length old) (length oldl) (length oldv))
+      over-exact : overOn t phase l k actions ls vs old oldl oldv ≡ leftOf whole
+      over-exact = go (begunOn t (layoutOf t) l k phase) refl
+        where
+          said : Told t (opens .0) (opens .1) phase l k actions ls vs (length old) (length oldl) (length oldv) (begunOn t (layoutOf t) l k phase)
+          said = told t (opens .0) (opens .1) phase l k actions ls vs (length old) (length oldl) (length oldv)
 
-        module _ (row : ℕ) (j : y ≡ Out row) where
-          out : record { ran = Code.Refused row; answers = old; locations = oldl; values = oldv } ≡ leftOf whole
-          unfolding Told
-          out = by-row row (rw j at said)
+          go : (y : Admitted) → begunOn t (layoutOf t) l k phase ≡ y → overOn t phase l k actions ls vs old oldl oldv ≡ leftOf whole
+          go (Out row) f = unfold overOn Told in rw (f, overOn) (by-row row (rw f at said))
+          go (In q) f = unfold overOn Told in rw (f, overOn) (listed-exact (opens .0) (opens .1) q (rw f at said))
 
-          pub run-out : Code.Refused row ≡ ranOf whole
-          run-out = ap (λ (z : Left). z .ran) out
+      module _ (r : Ran) (new newl : List ℕ) (newv : List ℤ) (d : Leaves (overOn t phase l k actions ls vs old oldl oldv) r new newl newv) where
+        done : record { ran = r; answers = new; locations = newl; values = newv } ≡ leftOf whole
+        done = d .is ∙ over-exact
 
-          pub out-answers : old ≡ answersAfter whole old
-          out-answers = ap (λ (z : Left). z .answers) out
+        pub run-done : r ≡ ranOf whole
+        run-done = ap (λ (o : Left). o .ran) done
 
-          pub out-locations : oldl ≡ locationsAfter whole oldl
-          out-locations = ap (λ (z : Left). z .locations) out
+        pub done-answers : new ≡ answersAfter whole old
+        done-answers = ap (λ (o : Left). o .answers) done
 
-          pub out-values : oldv ≡ valuesAfter whole oldv
-          out-values = ap (λ (z : Left). z .values) out
+        pub done-locations : newl ≡ locationsAfter whole oldl
+        done-locations = ap (λ (o : Left). o .locations) done
 
-        module _ (q : Phase) (j : y ≡ In q) (s : State) (o : s ≡ stateOf q l k) (r : Ran) (new newl : List ℕ) (newv : List ℤ)
-            (d : Leaves (listedOn t s actions ls vs old oldl oldv) r new newl newv) where
-          begun : Begun t (opens .0) (opens .1) phase l k actions ls vs (length old) (length oldl) (length oldv) q
-          unfolding Told
-          begun = rw j at said
-
-          done : record { ran = r; answers = new; locations = newl; values = newv } ≡ leftOf whole
-          done = d .is ∙ ap (λ (z : State). listedOn t z actions ls vs old oldl oldv) o ∙ listed-exact (opens .0) (opens .1) q begun
-
-          pub run-done : r ≡ ranOf whole
-          run-done = ap (λ (z : Left). z .ran) done
-
-          pub done-answers : new ≡ answersAfter whole old
-          done-answers = ap (λ (z : Left). z .answers) done
-
-          pub done-locations : newl ≡ locationsAfter whole oldl
-          done-locations = ap (λ (z : Left). z .locations) done
-
-          pub done-values : newv ≡ valuesAfter whole oldv
-          done-values = ap (λ (z : Left). z .values) done
+        pub done-values : newv ≡ valuesAfter whole oldv
+        done-values = ap (λ (o : Left). o .values) done

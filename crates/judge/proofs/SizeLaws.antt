@@ -2,15 +2,15 @@
 use mathlib.Core.Path.{_≡_, refl, sym, _∙_}
 use mathlib.Core.List.{List}
 use Prim.Native.Nat.{ℕ}
-use lib.ListN.{length, getD}
+use lib.ListN.{length}
 use Rattle.model.specs.Model.{Model}
 use Rattle.model.specs.Table.{Opened, unopened, opened, openTable}
 use Rattle.table_check.specs.Check.{answered}
 use Rattle.table_check.specs.declared.Checked.{Checked}
 use Rattle.table_check.specs.declared.Checked.the-variants as C
-use Rattle.table_places.specs.Outline.{countAt}
+use Rattle.table_places.specs.Outline.{actionsIn, variablesIn, automataIn}
+use Rattle.table_places.proofs.OutlineLaws.{actions-in, variables-in, automata-in}
 use Rattle.table_places.proofs.Opened.{Sheet, sheet-of}
-use Rattle.judge_call.proofs.RowLaws.{actions-in, variables-in, automata-in}
 use Rattle.judge.specs.declared.Counted.the-variants.{Counts, Refused}
 use Rattle.judge.specs.TableSize.{sizeOf}
 
@@ -28,9 +28,9 @@ module _ (t : List ℕ) (x : Checked) (e : x ≡ answered (openTable t)) where
           let never : C.Good ≡ C.Refused row = rw g at (sym e ∙ f) in
           cc
 
-  pub size-counts : x ≡ C.Good → (a v c n : ℕ) → a ≡ getD t 1 0 → v ≡ getD t 2 0 → c ≡ countAt t → n ≡ getD t c 0 → Counts a v n ≡ sizeOf (openTable t)
+  pub size-counts : x ≡ C.Good → (a v n : ℕ) → a ≡ actionsIn t → v ≡ variablesIn t → n ≡ automataIn t → Counts a v n ≡ sizeOf (openTable t)
   unfolding answered sizeOf
-  size-counts h a v c n i j k o = go (openTable t) refl
+  size-counts h a v n i j o = go (openTable t) refl
     where
       go : (q : Opened) → openTable t ≡ q → Counts a v n ≡ sizeOf (openTable t)
       go (unopened row) g =
@@ -38,6 +38,6 @@ module _ (t : List ℕ) (x : Checked) (e : x ≡ answered (openTable t)) where
           cc
       go (opened m) g =
           let sheet = sheet-of t m g in
-          rw (g, i, j, o, k, actions-in t (sheet .rest) m (sheet .stands), variables-in t (sheet .rest) m (sheet .stands), automata-in t (sheet .rest) m (sheet .stands))
+          rw (g, i, j, o, actions-in t (sheet .rest) m (sheet .stands), variables-in t (sheet .rest) m (sheet .stands), automata-in t (sheet .rest) m (sheet .stands))
 
 pub ruleset size-laws = (size-refused, size-counts)

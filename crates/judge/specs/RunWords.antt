@@ -1,4 +1,5 @@
--- A run over the words of a table, as the code does it. On a good table it is the definitions': the law run-exact.
+-- A run over the words of a table, a layout and the automata's own sets, as the code does it. On a good table and what is found in it, it
+-- is the definitions': the law run-exact.
 use mathlib.Core.Path.{_≡_}
 use mathlib.Core.Bool.{Bool, true, false, _&&_}
 use mathlib.Core.List.{List, [], _∷_}
@@ -6,60 +7,41 @@ use Prim.Native.Nat.{ℕ, suc, _+_, _*_, _%_, _^_}
 use lib.IntN.{ℤ}
 use lib.ListN.{length, take, drop, set}
 use lib.Dec.{eqb, leb}
-use Rattle.model.specs.Runs.{phaseNumber}
-use Rattle.table_check.specs.declared.Checked.{Checked}
-use Rattle.table_check.specs.declared.Checked.the-variants as C
+use Rattle.table_places.specs.declared.layout.Layout.{Layout}
+use Rattle.table_places.specs.Layout.{layoutOf, automataOf, variablesOf}
 use Rattle.judge_call.specs.declared.Phase.the-variants.{Running}
 use Rattle.judge_call.specs.declared.State.{State}
 use Rattle.judge.specs.declared.Ran.{Ran}
-use Rattle.judge.specs.declared.Ran.the-variants.{Ended, Uneven, AnswersShort, EndShort}
+use Rattle.judge.specs.declared.Ran.the-variants.{Ended, Refused, Uneven, AnswersShort, EndShort}
 use Rattle.judge.specs.declared.runs.Turn.{Turn}
 use Rattle.judge_call.specs.declared.Admitted.{Admitted}
+use Rattle.judge_call.specs.declared.Admitted.the-variants.{In, Out}
 use Rattle.judge_call.specs.declared.Answer.{Answer}
-use Rattle.judge_call.specs.declared.Answer.the-variants.{Yes, Marked, No, Refused}
-use Rattle.judge_call.specs.Answers.{answerOf, phaseIs, answerNumber}
+use Rattle.judge_call.specs.declared.Answer.the-variants as A
+use Rattle.judge_call.specs.Answers.{answerOf, answerNumber}
 use Rattle.judge_call.specs.States.{stateOf}
-use Rattle.judge_call.specs.Places.{variablesIn, automataIn}
-use Rattle.judge_call.specs.RowTests.{phaseRead, lengthsFit, locationsKnown, valuesKnown}
-use Rattle.judge_call.specs.Settled.{variablesShown}
-use Rattle.judge_call.specs.Taken.{automataShown}
-use Rattle.judge_call.specs.Calls.{thenPhase, environmentOn, stepOn}
+use Rattle.judge_call.specs.RowTests.{phaseRead}
+use Rattle.judge_call.specs.Calls.{stateChecked, thenPhase, environmentFrom, stepFrom, ownOf}
 use Rattle.judge.specs.RunAnswer.{environmentMark, inFront}
 
 -- the proposals' lists: so many locations and values for `count` actions
-unfoldable pub listsFit : (words : List ℕ) (count locations values : ℕ) → Bool
-listsFit words count locations values =
-    eqb locations (automataIn words * count) && eqb values (variablesIn words * count)
+unfoldable pub listsFit : Layout → (count locations values : ℕ) → Bool
+listsFit x count locations values = eqb locations (x .automata * count) && eqb values (x .variables * count)
 
 -- the places for the state at the end
-unfoldable pub endFits : (words : List ℕ) (locations values : ℕ) → Bool
-endFits words locations values = leb (automataShown words) locations && leb (variablesShown words) values
+unfoldable pub endFits : Layout → (locations values : ℕ) → Bool
+endFits x locations values = leb (automataOf x) locations && leb (variablesOf x) values
 
-module _ (words locations : List ℕ) (values : List ℤ) where
-  -- rows 21 to 23
-  unfoldable pub startChecked : Checked
-  startChecked =
-      elim (lengthsFit words (length locations) (length values)) [
-        | false ↦ C.Refused 21
-        | true ↦
-            elim (locationsKnown words locations) [
-              | false ↦ C.Refused 22
-              | true ↦ elim (valuesKnown words values) [ false ↦ C.Refused 23 | true ↦ C.Good ]
-            ]
-      ]
+-- rows 20 to 23 of the state that a run starts from
+unfoldable pub begunOn : (words : List ℕ) → Layout → (locations : List ℕ) (values : List ℤ) (phase : ℕ) → Admitted
+begunOn words x locations values phase = thenPhase (phaseRead phase) (stateChecked words x locations values)
 
-  unfoldable pub begunOn : (phase : ℕ) → Admitted
-  begunOn phase = thenPhase (phaseRead phase) startChecked
-
--- one proposal, from the state that the run is in
-unfoldable pub judgedOn : (words : List ℕ) → State → (action : ℕ) → List ℕ → List ℤ → Answer
-judgedOn words s action newLocations newValues =
-    let phase = phaseNumber (phaseIs (s .phase)) in
-    let locations = take (automataShown words) (s .locations) in
-    let values = take (variablesShown words) (s .values) in
+-- one proposal, from the state s that the run is in to the proposed state t
+unfoldable pub judgedOn : (words : List ℕ) → Layout → (own : List ℕ) → State → (action : ℕ) → List ℕ → List ℤ → State → Answer
+judgedOn words x own s action newLocations newValues t =
     elim (eqb action environmentMark) [
-      | true ↦ environmentOn words phase locations values newValues
-      | false ↦ stepOn words phase locations values action newLocations newValues
+      | true ↦ environmentFrom words x s newValues t
+      | false ↦ stepFrom words x own s action newLocations newValues t
     ]
 
 -- the state that is proposed
@@ -72,10 +54,10 @@ proposedOn s action newLocations newValues =
 
 -- only a yes moves the run
 unfoldable pub movedTo : Answer → (s t : State) → State
-movedTo Yes s t = t
-movedTo (Marked mark) s t = t
-movedTo No s t = s
-movedTo (Refused row) s t = s
+movedTo A.Yes s t = t
+movedTo (A.Marked mark) s t = t
+movedTo A.No s t = s
+movedTo (A.Refused row) s t = s
 
 -- the place n items on in a list of so many, or its end
 unfoldable pub onward : (size at n : ℕ) → ℕ
@@ -87,17 +69,18 @@ pub record Gone : Type 0 where
   pub answers : List ℕ
 
 -- one proposal: its answer's number, and the state after it
-unfoldable pub turnOn : (words : List ℕ) → State → (action : ℕ) → List ℕ → List ℤ → Turn
-turnOn words s action newLocations newValues =
-    let answer = judgedOn words s action newLocations newValues in
-    record { number = answerNumber (answerOf answer) % 2 ^ 32; state = movedTo answer s (proposedOn s action newLocations newValues) }
+unfoldable pub turnOn : (words : List ℕ) → Layout → (own : List ℕ) → State → (action : ℕ) → List ℕ → List ℤ → Turn
+turnOn words x own s action newLocations newValues =
+    let t = proposedOn s action newLocations newValues in
+    let answer = judgedOn words x own s action newLocations newValues t in
+    record { number = answerNumber (answerOf answer) % 2 ^ 32; state = movedTo answer s t }
 
 -- from state s on, with answer k the next one
-unfoldable pub goOn : (words : List ℕ) (n v : ℕ) → State → (answers : List ℕ) (k : ℕ) (actions locations : List ℕ) (values : List ℤ) → Gone
-goOn words n v s answers k [] locations values = record { state = s; answers = answers }
-goOn words n v s answers k (action ∷ actions) locations values =
-    let turn = turnOn words s action (take n locations) (take v values) in
-    goOn words n v (turn .state) (set answers k (turn .number)) (suc k) actions (drop n locations) (drop v values)
+unfoldable pub goOn : (words : List ℕ) → Layout → (own : List ℕ) (n v : ℕ) → State → (answers : List ℕ) (k : ℕ) (actions locations : List ℕ) (values : List ℤ) → Gone
+goOn words x own n v s answers k [] locations values = record { state = s; answers = answers }
+goOn words x own n v s answers k (action ∷ actions) locations values =
+    let turn = turnOn words x own s action (take n locations) (take v values) in
+    goOn words x own n v (turn .state) (set answers k (turn .number)) (suc k) actions (drop n locations) (drop v values)
 
 -- what a list leaves: its answer, and the memory lent for the answers and for the state at the end
 pub record Left : Type 0 where
@@ -106,36 +89,45 @@ pub record Left : Type 0 where
   pub locations : List ℕ
   pub values : List ℤ
 
-module _ (words : List ℕ) (s : State) (actions ls : List ℕ) (vs : List ℤ) (answers locations : List ℕ) (values : List ℤ) where
+module _ (words : List ℕ) (x : Layout) (own : List ℕ) (s : State) (actions ls : List ℕ) (vs : List ℤ) (answers locations : List ℕ) (values : List ℤ) where
   -- a fault: the memory as it was
   abbrev pub untouched : Ran → Left
   untouched r = record { ran = r; answers = answers; locations = locations; values = values }
 
   -- the run
   abbrev pub gone : Gone
-  gone = goOn words (automataShown words) (variablesShown words) s answers 0 actions ls vs
+  gone = goOn words x own (automataOf x) (variablesOf x) s answers 0 actions ls vs
 
   unfoldable pub ranOn : Left
   ranOn =
       record {
         ran = Ended (gone .state .phase);
         answers = gone .answers;
-        locations = inFront (take (automataShown words) (gone .state .locations)) locations;
-        values = inFront (take (variablesShown words) (gone .state .values)) values;
+        locations = inFront (take (automataOf x) (gone .state .locations)) locations;
+        values = inFront (take (variablesOf x) (gone .state .values)) values;
       }
 
   -- from state s: the list's own faults, or its run
   unfoldable pub listedOn : Left
   listedOn =
-      elim (listsFit words (length actions) (length ls) (length vs)) [
+      elim (listsFit x (length actions) (length ls) (length vs)) [
         | false ↦ untouched Uneven
         | true ↦
             elim (leb (length actions) (length answers)) [
               | false ↦ untouched AnswersShort
               | true ↦
-                  elim (endFits words (length locations) (length values)) [ false ↦ untouched EndShort | true ↦ ranOn ]
+                  elim (endFits x (length locations) (length values)) [ false ↦ untouched EndShort | true ↦ ranOn ]
             ]
       ]
+
+-- the whole call over a good table
+unfoldable pub overOn : (words : List ℕ) (phase : ℕ) (l : List ℕ) (v : List ℤ) (actions ls : List ℕ) (vs : List ℤ) (answers locations : List ℕ) (values : List ℤ) → Left
+overOn words phase l v actions ls vs answers locations values =
+    let x = layoutOf words in
+    elim (begunOn words x l v phase) [
+      | Out row ↦ record { ran = Refused row; answers = answers; locations = locations; values = values }
+      | In q ↦ listedOn words x (ownOf words) (stateOf q l v) actions ls vs answers locations values
+    ]
 
 -- the same of what a call leaves
 pub record Leaves (l : Left) (r : Ran) (answers locations : List ℕ) (values : List ℤ) : Type 0 where

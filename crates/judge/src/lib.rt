@@ -2,7 +2,6 @@
 // table.
 mod runs;
 
-use judge_call::Admitted;
 pub use judge_call::Answer;
 pub use judge_call::Phase;
 pub use judge_call::State;
@@ -28,7 +27,7 @@ pub enum Ran {
     EndShort,
 }
 
-// Puts a list of proposals to the judges, over one check of the table. For each: its action, or 4294967295 for the
+// Puts a list of proposals to the judges, over one check of the table and one walk over it. For each: its action, or 4294967295 for the
 // environment judge; its locations, which that judge does not read; its values. A yes moves the run to the proposed
 // state. The answers' numbers go into `answers`, the locations and values at the end into the other two, and what
 // follows them is as it was.
@@ -64,23 +63,18 @@ pub fn run(
     if let Checked::Refused(row) = table_check::check(table) {
         return Ran::Refused(row);
     }
-    let begun = runs::begun(table, phase, locations, values);
-    match begun {
-        Admitted::Out(row) => Ran::Refused(row),
-        Admitted::In(p) => {
-            let start = State::of(p, locations, values);
-            runs::listed(
-                table,
-                start,
-                actions,
-                new_locations,
-                new_values,
-                answers,
-                end_locations,
-                end_values,
-            )
-        }
-    }
+    runs::over(
+        table,
+        phase,
+        locations,
+        values,
+        actions,
+        new_locations,
+        new_values,
+        answers,
+        end_locations,
+        end_values,
+    )
 }
 
 // How many actions (the silent one not counted), variables and automata a table has; or the row that refuses it.
@@ -95,8 +89,8 @@ pub fn size(table: &[u32]) -> Counted
     if let Checked::Refused(row) = table_check::check(table) {
         return Counted::Refused(row);
     }
-    let actions = table_places::word(table, 1);
-    let variables = table_places::word(table, 2);
-    let automata = table_places::word(table, table_places::count_at(table));
+    let actions = table_places::actions(table);
+    let variables = table_places::variables(table);
+    let automata = table_places::automata(table);
     Counted::Counts(actions, variables, automata)
 }

@@ -1,10 +1,12 @@
-// A list of proposals over a table that is known to be good: what `run` does once it has checked the table.
+// A list of proposals over a table that is known to be good: what `run` does once it has checked the table. `x` is the table's layout
+// and `own` the automata's own sets, found once for the list; and a state that a yes led to is not checked again.
 use crate::Ran;
 use judge_call::Admitted;
 use judge_call::Answer;
 use judge_call::Phase;
 use judge_call::State;
 use table_check::Checked;
+use table_places::Layout;
 ghost use mathlib.Core.Path.{_≡_};
 ghost use Prim.Native.Nat.{_*_, _≤_, _<_};
 ghost use mathlib.Core.Bool.{true};
@@ -13,11 +15,10 @@ ghost use lib.ListN.{length, getD, take};
 ghost use lib.Dec.{eqb};
 ghost use Rattle.model.specs.Runs.{phaseNumber};
 ghost use Rattle.judge_call.specs.Answers.{phaseIs};
-ghost use Rattle.judge_call.specs.Settled.{variablesShown};
-ghost use Rattle.judge_call.specs.Taken.{automataShown};
+ghost use Rattle.table_places.specs.Layout.{automataOf, variablesOf};
 ghost use Rattle.judge.specs.declared.Ran.the-variants.{Ended};
 ghost use Rattle.judge.specs.RunAnswer.{environmentMark, inFront};
-ghost use Rattle.judge.specs.RunWords.{listsFit, endFits, startChecked, begunOn, judgedOn, proposedOn, movedTo, onward, turnOn, goOn, ranOn, listedOn, Leaves};
+ghost use Rattle.judge.specs.RunWords.{listsFit, endFits, begunOn, judgedOn, proposedOn, movedTo, onward, turnOn, goOn, ranOn, listedOn, overOn, Leaves};
 
 // Is the total n times the count? The product is not made: it might not fit.
 fn times(total: usize, n: usize, count: usize) -> bool
@@ -30,45 +31,27 @@ fn times(total: usize, n: usize, count: usize) -> bool
 }
 
 // So many locations and values are those of `count` proposals.
-fn lengths_for(words: &[u32], count: usize, locations: usize, values: usize) -> bool
-    ensures { λ r. ⌜ r ≡ listsFit (now (words .entry)) count locations values ⌝ }
+fn lengths_for(x: Layout, count: usize, locations: usize, values: usize) -> bool
+    ensures { λ r. ⌜ r ≡ listsFit x count locations values ⌝ }
 {
-    let automata = table_places::word(words, table_places::count_at(words));
-    let variables = table_places::word(words, 2);
-    times(locations, automata, count) & times(values, variables, count)
+    times(locations, x.automata, count) & times(values, x.variables, count)
 }
 
 // So many places for locations and values have room for a state.
-fn end_fits(words: &[u32], locations: usize, values: usize) -> bool
-    ensures { λ r. ⌜ r ≡ endFits (now (words .entry)) locations values ⌝ }
+fn end_fits(x: Layout, locations: usize, values: usize) -> bool
+    ensures { λ r. ⌜ r ≡ endFits x locations values ⌝ }
 {
-    (judge_call::automata(words) <= locations) & (judge_call::shown(words) <= values)
-}
-
-// Rows 21 to 23 of the state that a run starts from.
-fn start_checked(words: &[u32], locations: &[u32], values: &[i32]) -> Checked
-    ensures { λ r. ⌜ r ≡ startChecked (now (words .entry)) (now (locations .entry)) (now (values .entry)) ⌝ }
-{
-    if !judge_call::lengths(words, locations.len(), values.len()) {
-        return Checked::Refused(21);
-    }
-    if !judge_call::locations_known(words, locations) {
-        return Checked::Refused(22);
-    }
-    if !judge_call::values_known(words, values) {
-        return Checked::Refused(23);
-    }
-    Checked::Good
+    (table_places::automata_of(x) <= locations) & (table_places::variables_of(x) <= values)
 }
 
 // Rows 20 to 23: the phase that a run starts in, or the first row that refuses it.
-pub(crate) fn begun(words: &[u32], phase: u32, locations: &[u32], values: &[i32]) -> Admitted
-    ensures { λ r. ⌜ r ≡ begunOn (now (words .entry)) (now (locations .entry)) (now (values .entry)) phase ⌝ }
+fn begun(words: &[u32], x: Layout, phase: u32, locations: &[u32], values: &[i32]) -> Admitted
+    ensures { λ r. ⌜ r ≡ begunOn (now (words .entry)) x (now (locations .entry)) (now (values .entry)) phase ⌝ }
 {
     let read = judge_call::phase_of(phase);
     match read {
         Admitted::Out(row) => Admitted::Out(row),
-        Admitted::In(p) => match start_checked(words, locations, values) {
+        Admitted::In(p) => match judge_call::state_checked(words, x, locations, values) {
             Checked::Refused(row) => Admitted::Out(row),
             Checked::Good => Admitted::In(p),
         },
@@ -91,29 +74,24 @@ pub fn phase_number(phase: Phase) -> u32
     }
 }
 
-// The answer to one proposal, from the state that the run is in.
-fn judged(words: &[u32], s: State, action: u32, new_locations: &[u32], new_values: &[i32]) -> Answer
-    ensures { λ r. ⌜ r ≡ judgedOn (now (words .entry)) s action (now («new_locations» .entry))
-        (now («new_values» .entry)) ⌝ }
+// The answer to one proposal, from the state s that the run is in to the proposed state t.
+fn judged(
+    words: &[u32],
+    x: Layout,
+    own: &[u64],
+    s: State,
+    action: u32,
+    new_locations: &[u32],
+    new_values: &[i32],
+    t: State,
+) -> Answer
+    ensures { λ r. ⌜ r ≡ judgedOn (now (words .entry)) x (now (own .entry)) s action (now («new_locations» .entry))
+        (now («new_values» .entry)) t ⌝ }
 {
-    let n = judge_call::automata(words);
-    let v = judge_call::shown(words);
-    let p = s.phase;
-    let phase = phase_number(p);
-    let locations = s.locations;
-    let values = s.values;
     if for_environment(action) {
-        return judge_call::environment_on(words, phase, &locations[..n], &values[..v], new_values);
+        return judge_call::environment_from(words, x, s, new_values, t);
     }
-    judge_call::step_on(
-        words,
-        phase,
-        &locations[..n],
-        &values[..v],
-        action,
-        new_locations,
-        new_values,
-    )
+    judge_call::step_from(words, x, own, s, action, new_locations, new_values, t)
 }
 
 // The state that is proposed: for the environment judge the automata keep their locations.
@@ -145,13 +123,22 @@ struct Turn {
     state: State,
 }
 
-fn put(words: &[u32], s: State, action: u32, new_locations: &[u32], new_values: &[i32]) -> Turn
-    ensures { λ r. ⌜ r ≡ turnOn (now (words .entry)) s action (now («new_locations» .entry))
+fn put(
+    words: &[u32],
+    x: Layout,
+    own: &[u64],
+    s: State,
+    action: u32,
+    new_locations: &[u32],
+    new_values: &[i32],
+) -> Turn
+    ensures { λ r. ⌜ r ≡ turnOn (now (words .entry)) x (now (own .entry)) s action (now («new_locations» .entry))
         (now («new_values» .entry)) ⌝ }
 {
-    let answer = judged(words, s, action, new_locations, new_values);
+    let t = proposed(s, action, new_locations, new_values);
+    let answer = judged(words, x, own, s, action, new_locations, new_values, t);
     let number = judge_call::number(answer);
-    let state = moved(answer, s, proposed(s, action, new_locations, new_values));
+    let state = moved(answer, s, t);
     Turn { number, state }
 }
 
@@ -171,6 +158,8 @@ fn onward(size: usize, at: usize, n: usize) -> usize
 // Every proposal in its turn: its locations and values are the next ones. Gives the state at the end.
 fn all(
     words: &[u32],
+    x: Layout,
+    own: &[u64],
     start: State,
     actions: &[u32],
     new_locations: &[u32],
@@ -178,15 +167,14 @@ fn all(
     answers: &mut [u32],
 ) -> State
     requires { ⌜ length (now actions) ≤ length (now answers) ⌝ }
-    ensures { λ r. ⌜ r ≡ goOn (now (words .entry)) (automataShown (now (words .entry))) (variablesShown
-        (now (words .entry))) start (now (answers .entry)) 0 (now (actions .entry)) (now («new_locations» .entry))
+    ensures { λ r. ⌜ r ≡ goOn (now (words .entry)) x (now (own .entry)) (automataOf x) (variablesOf x) start (now (answers .entry)) 0 (now (actions .entry)) (now («new_locations» .entry))
         (now («new_values» .entry)) .state ⌝ }
-    ensures { λ _. ⌜ now (answers .exit) ≡ goOn (now (words .entry)) (automataShown (now (words .entry)))
-        (variablesShown (now (words .entry))) start (now (answers .entry)) 0 (now (actions .entry))
+    ensures { λ _. ⌜ now (answers .exit) ≡ goOn (now (words .entry)) x (now (own .entry)) (automataOf x)
+        (variablesOf x) start (now (answers .entry)) 0 (now (actions .entry))
         (now («new_locations» .entry)) (now («new_values» .entry)) .answers ⌝ }
 {
-    let n = judge_call::automata(words);
-    let v = judge_call::shown(words);
+    let n = table_places::automata_of(x);
+    let v = table_places::variables_of(x);
     let mut s = start;
     let mut at = 0;
     let mut from = 0;
@@ -196,7 +184,7 @@ fn all(
         let locations = &new_locations[at..end];
         let last = onward(new_values.len(), from, v);
         let values = &new_values[from..last];
-        let next = put(words, s, actions[k], locations, values);
+        let next = put(words, x, own, s, actions[k], locations, values);
         answers[k] = next.number;
         s = next.state;
         at = end;
@@ -237,16 +225,16 @@ fn put_values(list: &[i32], lent: &mut [i32])
 }
 
 // The locations and values of a state into the memory lent for them.
-fn keep(words: &[u32], s: State, end_locations: &mut [u32], end_values: &mut [i32]) -> Phase
-    requires { ⌜ endFits (now words) (length (now «end_locations»)) (length (now «end_values»)) ≡ true ⌝ }
+fn keep(x: Layout, s: State, end_locations: &mut [u32], end_values: &mut [i32]) -> Phase
+    requires { ⌜ endFits x (length (now «end_locations»)) (length (now «end_values»)) ≡ true ⌝ }
     ensures { λ r. ⌜ r ≡ s .phase ⌝ }
-    ensures { λ _. ⌜ now («end_locations» .exit) ≡ inFront (take (automataShown (now (words .entry))) (s .locations))
+    ensures { λ _. ⌜ now («end_locations» .exit) ≡ inFront (take (automataOf x) (s .locations))
         (now («end_locations» .entry)) ⌝ }
-    ensures { λ _. ⌜ now («end_values» .exit) ≡ inFront (take (variablesShown (now (words .entry))) (s .values))
+    ensures { λ _. ⌜ now («end_values» .exit) ≡ inFront (take (variablesOf x) (s .values))
         (now («end_values» .entry)) ⌝ }
 {
-    let n = judge_call::automata(words);
-    let v = judge_call::shown(words);
+    let n = table_places::automata_of(x);
+    let v = table_places::variables_of(x);
     let locations = s.locations;
     let values = s.values;
     put_words(&locations[..n], end_locations);
@@ -257,6 +245,8 @@ fn keep(words: &[u32], s: State, end_locations: &mut [u32], end_values: &mut [i3
 // The run of a list that has no fault: the phase at its end; the answers and the rest of the end are in lent memory.
 fn ended(
     words: &[u32],
+    x: Layout,
+    own: &[u64],
     start: State,
     actions: &[u32],
     new_locations: &[u32],
@@ -266,19 +256,30 @@ fn ended(
     end_values: &mut [i32],
 ) -> Phase
     requires { ⌜ length (now actions) ≤ length (now answers) ⌝ }
-    requires { ⌜ endFits (now words) (length (now «end_locations»)) (length (now «end_values»)) ≡ true ⌝ }
-    ensures { λ r. ⌜ Leaves (ranOn (now (words .entry)) start (now (actions .entry)) (now («new_locations» .entry))
+    requires { ⌜ endFits x (length (now «end_locations»)) (length (now «end_values»)) ≡ true ⌝ }
+    ensures { λ r. ⌜ Leaves (ranOn (now (words .entry)) x (now (own .entry)) start (now (actions .entry)) (now («new_locations» .entry))
         (now («new_values» .entry)) (now (answers .entry)) (now («end_locations» .entry)) (now («end_values» .entry)))
         (Ended r) (now (answers .exit)) (now («end_locations» .exit)) (now («end_values» .exit)) ⌝ }
 {
-    let end = all(words, start, actions, new_locations, new_values, answers);
-    keep(words, end, end_locations, end_values)
+    let end = all(
+        words,
+        x,
+        own,
+        start,
+        actions,
+        new_locations,
+        new_values,
+        answers,
+    );
+    keep(x, end, end_locations, end_values)
 }
 
 // A list from the state that its run starts in: a fault of its own; or the run, with the answers and the end in lent
 // memory.
-pub(crate) fn listed(
+fn listed(
     words: &[u32],
+    x: Layout,
+    own: &[u64],
     start: State,
     actions: &[u32],
     new_locations: &[u32],
@@ -287,21 +288,23 @@ pub(crate) fn listed(
     end_locations: &mut [u32],
     end_values: &mut [i32],
 ) -> Ran
-    ensures { λ r. ⌜ Leaves (listedOn (now (words .entry)) start (now (actions .entry)) (now («new_locations» .entry))
+    ensures { λ r. ⌜ Leaves (listedOn (now (words .entry)) x (now (own .entry)) start (now (actions .entry)) (now («new_locations» .entry))
         (now («new_values» .entry)) (now (answers .entry)) (now («end_locations» .entry)) (now («end_values» .entry)))
         r (now (answers .exit)) (now («end_locations» .exit)) (now («end_values» .exit)) ⌝ }
 {
-    if !lengths_for(words, actions.len(), new_locations.len(), new_values.len()) {
+    if !lengths_for(x, actions.len(), new_locations.len(), new_values.len()) {
         return Ran::Uneven;
     }
     if answers.len() < actions.len() {
         return Ran::AnswersShort;
     }
-    if !end_fits(words, end_locations.len(), end_values.len()) {
+    if !end_fits(x, end_locations.len(), end_values.len()) {
         return Ran::EndShort;
     }
     Ran::Ended(ended(
         words,
+        x,
+        own,
         start,
         actions,
         new_locations,
@@ -310,4 +313,45 @@ pub(crate) fn listed(
         end_locations,
         end_values,
     ))
+}
+
+// The whole call over a good table: rows 20 to 23 of the state that the run starts from, and then the list.
+pub(crate) fn over(
+    words: &[u32],
+    phase: u32,
+    locations: &[u32],
+    values: &[i32],
+    actions: &[u32],
+    new_locations: &[u32],
+    new_values: &[i32],
+    answers: &mut [u32],
+    end_locations: &mut [u32],
+    end_values: &mut [i32],
+) -> Ran
+    ensures { λ r. ⌜ Leaves (overOn (now (words .entry)) phase (now (locations .entry)) (now (values .entry))
+        (now (actions .entry)) (now («new_locations» .entry)) (now («new_values» .entry)) (now (answers .entry))
+        (now («end_locations» .entry)) (now («end_values» .entry)))
+        r (now (answers .exit)) (now («end_locations» .exit)) (now («end_values» .exit)) ⌝ }
+{
+    let x = table_places::layout_of(words);
+    let begun = begun(words, x, phase, locations, values);
+    match begun {
+        Admitted::Out(row) => Ran::Refused(row),
+        Admitted::In(p) => {
+            let own = table_places::own_sets(words, x);
+            let start = State::of(p, locations, values);
+            listed(
+                words,
+                x,
+                &own,
+                start,
+                actions,
+                new_locations,
+                new_values,
+                answers,
+                end_locations,
+                end_values,
+            )
+        }
+    }
 }

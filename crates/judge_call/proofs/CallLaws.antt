@@ -15,6 +15,8 @@ use Rattle.model.specs.Table.{Opened, unopened, opened, openTable}
 use Rattle.model.specs.Rules as R
 use Rattle.model.specs.Judge as J
 use Rattle.model.proofs.Tests.{and-left, and-right, lt-of, not-false, eq-of, each-elim, or-none-left, or-none-right, or-same}
+use Rattle.table_places.specs.declared.layout.Layout.{Layout}
+use Rattle.table_places.specs.Layout.{layoutOf}
 use Rattle.table_places.proofs.Opened.{Sheet, sheet-of}
 use Rattle.table_check.specs.Check.{answered}
 use Rattle.table_check.specs.declared.Checked.{Checked}
@@ -30,7 +32,7 @@ use Rattle.judge_call.specs.Answers.{answerOf, phaseIs}
 use Rattle.judge_call.specs.States.{stateOf}
 use Rattle.judge_call.specs.RowTests.{phaseRead, lengthsFit, locationsKnown, valuesKnown}
 use Rattle.judge_call.specs.Settled.{settledAt}
-use Rattle.judge_call.specs.Calls.{listsChecked, thenLists, thenPhase, admittedOn, thenRules, thenWords, environmentIn, environmentOn, environmentAt}
+use Rattle.judge_call.specs.Calls.{listsChecked, thenLists, thenPhase, admittedOn, thenRules, thenAnswer, environmentBy, environmentIn, environmentOn, environmentAt}
 use Rattle.judge_call.proofs.Filled.{filled-front, filled-at}
 use Rattle.judge_call.proofs.RowLaws.{lengths-row, locations-row, values-row}
 use Rattle.judge_call.proofs.SettledLaws.{Shows, settled-is}
@@ -95,22 +97,22 @@ module _ (t : List ℕ) (phase : ℕ) (l : List ℕ) (v : List ℤ) (l' : List �
     abbrev u' : R.State
     u' = stands Running l' v'
 
-    lists-exact : (Pass m u u' → answerOf (rules q) ≡ last) → answerOf (thenRules (thenLists (listsChecked t l v l' v') q) rules) ≡ listRows m u u' last
+    lists-exact : (Pass m u u' → answerOf (rules q) ≡ last) → answerOf (thenRules (thenLists (listsChecked t (layoutOf t) l v l' v') q) rules) ≡ listRows m u u' last
     unfolding phaseIs
     lists-exact h =
         rows (J.row21 m u || J.row21 m u') refl (J.row22 m u || J.row22 m u') refl (J.row23 m u || J.row23 m u') refl
       where
-        r21 : (not (lengthsFit t (length l) (length v)) || not (lengthsFit t (length l') (length v'))) ≡ (J.row21 m u || J.row21 m u')
-        r21 = or-same (lengths-row t (sheet .rest) m (sheet .stands) u) (lengths-row t (sheet .rest) m (sheet .stands) u')
+        r21 : (not (lengthsFit (layoutOf t) (length l) (length v)) || not (lengthsFit (layoutOf t) (length l') (length v'))) ≡ (J.row21 m u || J.row21 m u')
+        r21 = or-same (lengths-row m (sheet .lawful) t (sheet .rest) (sheet .stands) u) (lengths-row m (sheet .lawful) t (sheet .rest) (sheet .stands) u')
 
-        r22 : (not (locationsKnown t l) || not (locationsKnown t l')) ≡ (J.row22 m u || J.row22 m u')
-        r22 = or-same (locations-row t (sheet .rest) m (sheet .stands) u) (locations-row t (sheet .rest) m (sheet .stands) u')
+        r22 : (not (locationsKnown t (layoutOf t) l) || not (locationsKnown t (layoutOf t) l')) ≡ (J.row22 m u || J.row22 m u')
+        r22 = or-same (locations-row m (sheet .lawful) t (sheet .rest) (sheet .stands) u) (locations-row m (sheet .lawful) t (sheet .rest) (sheet .stands) u')
 
-        r23 : (not (valuesKnown t v) || not (valuesKnown t v')) ≡ (J.row23 m u || J.row23 m u')
-        r23 = or-same (values-row t (sheet .rest) m (sheet .stands) (sheet .lawful) u) (values-row t (sheet .rest) m (sheet .stands) (sheet .lawful) u')
+        r23 : (not (valuesKnown t (layoutOf t) v) || not (valuesKnown t (layoutOf t) v')) ≡ (J.row23 m u || J.row23 m u')
+        r23 = or-same (values-row m (sheet .lawful) t (sheet .rest) (sheet .stands) u) (values-row m (sheet .lawful) t (sheet .rest) (sheet .stands) u')
 
         rows : (a : Bool) → (J.row21 m u || J.row21 m u') ≡ a → (b : Bool) → (J.row22 m u || J.row22 m u') ≡ b → (c : Bool) → (J.row23 m u || J.row23 m u') ≡ c
-            → answerOf (thenRules (thenLists (listsChecked t l v l' v') q) rules) ≡ listRows m u u' last
+            → answerOf (thenRules (thenLists (listsChecked t (layoutOf t) l v l' v') q) rules) ≡ listRows m u u' last
         rows true x b y c z = unfold listRows listsChecked thenLists thenRules answerOf in rw (r21 ∙ x, listsChecked, x)
         rows false x true y c z = unfold listRows listsChecked thenLists thenRules answerOf in rw (r21 ∙ x, listsChecked, r22 ∙ y, listsChecked, x, y)
         rows false x false y true z = unfold listRows listsChecked thenLists thenRules answerOf in rw (r21 ∙ x, listsChecked, r22 ∙ y, listsChecked, r23 ∙ z, listsChecked, x, y, z)
@@ -122,16 +124,16 @@ module _ (t : List ℕ) (phase : ℕ) (l : List ℕ) (v : List ℤ) (l' : List �
   pub call-exact : (rules : Phase → Answer) (judge : Model → R.State → J.Answer) (last : Model → Phase → J.Answer)
       → ((m : Model) (q : Phase) → judge m (stands q l v) ≡ listRows m (stands q l v) (stands Running l' v') (last m q))
       → ((m : Model) → Sheet t m → (q : Phase) → Pass m (stands q l v) (stands Running l' v') → answerOf (rules q) ≡ last m q)
-      → answerOf (thenWords (answered (openTable t)) (thenRules (admittedOn t phase l v l' v') rules)) ≡ J.judgeAt t phase l v judge
-  unfolding admittedOn answered thenWords thenPhase thenRules answerOf J.judgeAt
+      → answerOf (thenAnswer (answered (openTable t)) (thenRules (admittedOn t (layoutOf t) phase l v l' v') rules)) ≡ J.judgeAt t phase l v judge
+  unfolding admittedOn answered thenAnswer thenPhase thenRules answerOf J.judgeAt
   call-exact rules judge last rows passed = go (openTable t) refl
     where
-      go : (o : Opened) → openTable t ≡ o → answerOf (thenWords (answered (openTable t)) (thenRules (admittedOn t phase l v l' v') rules)) ≡ J.judgeAt t phase l v judge
+      go : (o : Opened) → openTable t ≡ o → answerOf (thenAnswer (answered (openTable t)) (thenRules (admittedOn t (layoutOf t) phase l v l' v') rules)) ≡ J.judgeAt t phase l v judge
       go (unopened row) e = rw (e, J.judgeAt)
       go (opened m) e =
           rw (e, J.judgeAt)
           (phase-read phase
-          (λ x o. answerOf (thenRules (thenPhase x (listsChecked t l v l' v')) rules) ≡ elim o [ none ↦ J.refused 20 | some p ↦ judge m (record { phase = p; locations = l; values = v }) ])
+          (λ x o. answerOf (thenRules (thenPhase x (listsChecked t (layoutOf t) l v l' v')) rules) ≡ elim o [ none ↦ J.refused 20 | some p ↦ judge m (record { phase = p; locations = l; values = v }) ])
           (λ q. lists-exact m (sheet-of t m e) q rules (last m q) (passed m (sheet-of t m e) q) ∙ sym (rows m q))
           refl)
 
@@ -158,7 +160,7 @@ module _ (t : List ℕ) (phase : ℕ) (l : List ℕ) (v v' : List ℤ) where
   pub environment-exact : answerOf (environmentAt t phase l v v') ≡ J.environmentAnswer t phase l v v'
   unfolding environmentAt environmentOn J.environmentAnswer
   environment-exact =
-      call-exact t phase l v l v' (environmentIn t l v v') (λ m s. J.judgeEnvironment m s v') (λ m q. cond (J.settled m (stands q l v) (stands Running l v')) J.yes J.no)
+      call-exact t phase l v l v' (environmentIn t (layoutOf t) l v v') (λ m s. J.judgeEnvironment m s v') (λ m q. cond (J.settled m (stands q l v) (stands Running l v')) J.yes J.no)
       rows passed
     where
       rows : (m : Model) (q : Phase) → J.judgeEnvironment m (stands q l v) v' ≡ listRows m (stands q l v) (stands Running l v') (cond (J.settled m (stands q l v) (stands Running l v')) J.yes J.no)
@@ -173,41 +175,24 @@ module _ (t : List ℕ) (phase : ℕ) (l : List ℕ) (v v' : List ℤ) where
       ends true c e = unfold answerOf in rw (← e)
       ends false c e = unfold answerOf in rw (← e)
 
-      passed : (m : Model) → Sheet t m → (q : Phase) → Pass m (stands q l v) (stands Running l v') → answerOf (environmentIn t l v v' q) ≡ cond (J.settled m (stands q l v) (stands Running l v')) J.yes J.no
+      passed : (m : Model) → Sheet t m → (q : Phase) → Pass m (stands q l v) (stands Running l v') → answerOf (environmentIn t (layoutOf t) l v v' q) ≡ cond (J.settled m (stands q l v) (stands Running l v')) J.yes J.no
       passed m sheet q p =
           let e = settled-is m (sheet .lawful) t (sheet .rest) (sheet .stands) (stateOf q l v) (stateOf Running l v') (stands q l v) (stands Running l v')
           (shows-old m (sheet .lawful) q Running l v l v' p) (shows-new m (sheet .lawful) q Running l v l v' p) in
-          unfold environmentIn in ends (settledAt t (stateOf q l v) (stateOf Running l v')) _ e
-
-  -- each way out of the code over a good table
-  module _ (x : Admitted) (e : x ≡ admittedOn t phase l v l v') where
-    pub environment-out : (row : ℕ) → x ≡ Out row → Refused row ≡ environmentOn t phase l v v'
-    unfolding environmentOn thenRules
-    environment-out row f = rw (sym e ∙ f)
-
-    module _ (q : Phase) (f : x ≡ In q) (s s' : State) (g : s ≡ stateOf q l v) (h : s' ≡ stateOf Running l v') (r : Bool) (i : r ≡ settledAt t s s') where
-      pub environment-yes : r ≡ true → Yes ≡ environmentOn t phase l v v'
-      unfolding environmentOn thenRules environmentIn
-      environment-yes j = rw (sym e ∙ f, rw (g, h) at (sym i ∙ j), environmentIn)
-
-      pub environment-no : r ≡ false → No ≡ environmentOn t phase l v v'
-      unfolding environmentOn thenRules environmentIn
-      environment-no j = rw (sym e ∙ f, rw (g, h) at (sym i ∙ j), environmentIn)
+          unfold environmentBy in ends (settledAt t (layoutOf t) (stateOf q l v) (stateOf Running l v')) _ e
 
   -- and over any
   module _ (x : Checked) (e : x ≡ answered (openTable t)) where
     pub environment-bad : (row : ℕ) → x ≡ C.Refused row → answerOf (Refused row) ≡ J.environmentAnswer t phase l v v'
-    unfolding environmentAt thenWords
+    unfolding environmentAt thenAnswer
     environment-bad row f =
         let out : Refused row ≡ environmentAt t phase l v v' = rw (sym e ∙ f) in
         ap answerOf out ∙ environment-exact
 
-    pub environment-good : x ≡ C.Good → (r : Answer) → r ≡ environmentOn t phase l v v' → answerOf r ≡ J.environmentAnswer t phase l v v'
-    unfolding environmentAt thenWords
-    environment-good f r g =
-        let out : r ≡ environmentAt t phase l v v' = rw (sym e ∙ f) g in
+    pub environment-good : x ≡ C.Good → (y : Layout) → y ≡ layoutOf t → (r : Answer) → r ≡ environmentOn t y phase l v v' → answerOf r ≡ J.environmentAnswer t phase l v v'
+    unfolding environmentAt thenAnswer
+    environment-good f y h r g =
+        let out : r ≡ environmentAt t phase l v v' = rw (sym e ∙ f) (rw h at g) in
         ap answerOf out ∙ environment-exact
-
-pub ruleset environment-on-laws = (environment-out, environment-yes, environment-no)
 
 pub ruleset environment-laws = (environment-bad, environment-good)

@@ -1,5 +1,5 @@
 -- Each way out of the code of src/.
-use mathlib.Core.Path.{_≡_, refl, sym, _∙_}
+use mathlib.Core.Path.{_≡_, refl, sym, ap, _∙_}
 use mathlib.Core.Bool.{Bool, true, false, not, _&&_, _||_}
 use mathlib.Core.List.{List}
 use Prim.Native.Nat.{ℕ, _-_, _≤_, _<_}
@@ -16,7 +16,9 @@ use mir.ValLaws.{toZ-ofZ}
 use Rattle.model.specs.Basic.{between}
 use Rattle.model.proofs.Tests.{not-true, not-false}
 use Rattle.evaluator.specs.Evaluate.{evaluate}
-use Rattle.table_places.specs.Outline.{reach, countAt, afterAutomaton, locationAt, afterPredicate}
+use Rattle.table_places.specs.declared.layout.Layout.{Layout}
+use Rattle.table_places.specs.Outline.{nodesPlace, firstLocation, locationCount, locationAt, afterPredicate}
+use Rattle.table_places.specs.Layout.{automataOf, variablesOf}
 use Rattle.table_check.specs.declared.Checked.{Checked}
 use Rattle.table_check.specs.declared.Checked.the-variants as C
 use Rattle.judge_call.specs.declared.Phase.{Phase}
@@ -27,11 +29,10 @@ use Rattle.judge_call.specs.declared.settled.Part.the-variants.{Init, In
 use Rattle.judge_call.specs.declared.Admitted.{Admitted}
 use Rattle.judge_call.specs.declared.Admitted.the-variants.{In, Out}
 use Rattle.judge_call.specs.States.{filled, stateOf}
-use Rattle.judge_call.specs.Places.{eachFrom}
-use Rattle.judge_call.specs.RowTests.{phaseRead, lengthsFit, locationKnown, locationsKnown, rangeHas, valuesKnown, actionKnown}
-use Rattle.judge_call.specs.Settled.{variablesShown, partAt, partHolds, locationHolds, allHold, startedIn, settledAt}
-use Rattle.judge_call.specs.Calls.{listsChecked, thenLists, thenPhase, admittedOn}
-use Rattle.judge_call.proofs.WalkLaws.{automata-first, ranges-first}
+use Rattle.judge_call.specs.Each.{eachFrom}
+use Rattle.judge_call.specs.RowTests.{phaseRead, lengthsFit, locationKnown, knownAt, locationsKnown, rangeHas, valuesKnown, actionKnown}
+use Rattle.judge_call.specs.Settled.{partAt, partHolds, locationHolds, holdsAt, allHold, startedIn, settledAt}
+use Rattle.judge_call.specs.Calls.{stateChecked, valuesChecked, listsChecked, thenLists, thenPhase, admittedOn}
 
 -- `State::of`
 pub state-is : (phase : Phase) (l a : List ℕ) (v b : List ℤ) → a ≡ filled 16 0 l → b ≡ filled 48 (pos 0) v → _≡_ {A = State} (record { phase = phase; locations = a; values = b }) (stateOf phase l v)
@@ -54,20 +55,20 @@ phase-none p a b = rw (ne-eqb p 0 a, phaseRead, ne-eqb p 1 b, phaseRead)
 pub ruleset phase-laws = (phase-start, phase-running, phase-none)
 
 -- `lengths`
-pub lengths-is : (w : List ℕ) (l v c a n : ℕ) → c ≡ countAt w → a ≡ getD w c 0 → n ≡ getD w 2 0 → (eqb l a && eqb v n) ≡ lengthsFit w l v
+pub lengths-is : (x : Layout) (l v : ℕ) → (eqb l (x .automata) && eqb v (x .variables)) ≡ lengthsFit x l v
 unfolding lengthsFit
-lengths-is w l v c a n e f g = rw (f, e, g)
+lengths-is x l v = refl
 
 -- `location_known`
-pub location-known-is : (w locations : List ℕ) (at k j p n : ℕ) → j ≡ getD locations k 0 → p ≡ reach w at 2 → n ≡ getD w p 0 → ltb j n ≡ locationKnown w locations at k
+pub location-known-is : (w locations : List ℕ) (at k j n : ℕ) → j ≡ getD locations k 0 → n ≡ locationCount w at → ltb j n ≡ locationKnown w locations at k
 unfolding locationKnown
-location-known-is w locations at k j p n e f g = rw (e, g, f)
+location-known-is w locations at k j n e g = rw (e, g)
 
 -- `locations_known`
-pub locations-first : (w locations : List ℕ) (c n at : ℕ) → c ≡ countAt w → n ≡ getD w c 0 → at ≡ reach w c 1
-    → eachFrom (afterAutomaton w) (locationKnown w locations) at 0 (n - 0) ≡ locationsKnown w locations
+pub locations-walked : (w : List ℕ) (x : Layout) (locations : List ℕ) (n : ℕ) (r : Bool) → n ≡ automataOf x
+    → r ≡ eachFrom (knownAt w locations (x .sets)) 0 n → r ≡ locationsKnown w x locations
 unfolding locationsKnown
-locations-first w locations c n at e f g = automata-first w (locationKnown w locations) c n at e f g
+locations-walked w x locations n r e f = f ∙ ap (eachFrom (knownAt w locations (x .sets)) 0) e
 
 -- `within`
 pub within-is : (low high z : ℤ) → SFits w64 low → SFits w64 high → SFits w64 z
@@ -76,45 +77,30 @@ unfolding between
 within-is low high z a b c = rw (toZ-ofZ w64 low a, toZ-ofZ w64 high b, toZ-ofZ w64 z c)
 
 -- `values_known`
-pub values-first : (w : List ℕ) (values : List ℤ) (n at : ℕ) → n ≡ getD w 2 0 → at ≡ reach w 0 3
-    → eachFrom (λ a. reach w a 2) (rangeHas w values) at 0 (n - 0) ≡ valuesKnown w values
+pub values-walked : (w : List ℕ) (x : Layout) (values : List ℤ) (r : Bool) → r ≡ eachFrom (rangeHas w values) 0 (x .variables) → r ≡ valuesKnown w x values
 unfolding valuesKnown
-values-first w values n at e f = ranges-first w (rangeHas w values) n at e f
+values-walked w x values r e = e
 
 -- `action_known`
-pub action-known-is : (w : List ℕ) (action i n : ℕ) → i ≡ action → n ≡ getD w 1 0 → leb i n ≡ actionKnown w action
+pub action-known-is : (x : Layout) (action i : ℕ) → i ≡ action → leb i (x .actions) ≡ actionKnown x action
 unfolding actionKnown
-action-known-is w action i n e f = rw (e, f)
+action-known-is x action i e = rw e
 
--- `shown`
-pub shown-all : (w : List ℕ) (n : ℕ) → n ≡ getD w 2 0 → n ≤ 48 → n ≡ variablesShown w
-unfolding variablesShown
-shown-all w n e h = rw (e, le-leb (getD w 2 0) 48 (rw e at h), variablesShown)
+-- so many of a state's locations, or values, are within its array
+pub front-fits : {A : Type 0} (most : ℕ) (l : List A) (n : ℕ) → length l ≡ most → n ≤ most → n ≤ length l
+front-fits most l n size h = rw size h
 
-pub shown-cut : (w : List ℕ) (n : ℕ) → n ≡ getD w 2 0 → 48 < n → 48 ≡ variablesShown w
-unfolding variablesShown
-shown-cut w n e h = rw (lt-leb (getD w 2 0) 48 (rw e at h), variablesShown)
+pub front-whole : {A : Type 0} (most : ℕ) (l : List A) (n : ℕ) → length l ≡ most → n ≤ most → n ≡ length (take n l)
+front-whole most l n size h = sym (length-take-le n l (front-fits most l n size h))
 
--- and it is within the array
-pub shown-fits : (w : List ℕ) (values : List ℤ) (n : ℕ) → length values ≡ 48 → n ≡ variablesShown w → n ≤ length values
-unfolding variablesShown
-shown-fits w values n size e = rw (e, size) (go (leb (getD w 2 0) 48) refl)
-  where
-    go : (b : Bool) → leb (getD w 2 0) 48 ≡ b → variablesShown w ≤ 48
-    go true f = rw (f, variablesShown) (leb-true (getD w 2 0) 48 f)
-    go false f = rw (f, variablesShown) (omega arith)
-
-pub shown-whole : (w : List ℕ) (values : List ℤ) (n : ℕ) → length values ≡ 48 → n ≡ variablesShown w → n ≡ length (take n values)
-shown-whole w values n size e = sym (length-take-le n values (shown-fits w values n size e))
-
-pub ruleset shown-laws = (shown-all, shown-cut)
+pub ruleset front-laws = (front-fits, front-whole)
 
 -- `location`
 pub location-past : (l : List ℕ) (k : ℕ) → length l ≡ 16 → 16 ≤ k → 0 ≡ getD l k 0
 location-past l k e h = sym (List·getD-eq-default l 0 (rw e h))
 
 -- `part_at`
-module _ (w : List ℕ) (part : Part) (at j a init : ℕ) (e : a ≡ reach w at 3) (f : init ≡ locationAt w a j) where
+module _ (w : List ℕ) (part : Part) (at j a init : ℕ) (e : a ≡ firstLocation w at) (f : init ≡ locationAt w a j) where
   pub part-init : part ≡ Init → init ≡ partAt w part at j
   unfolding partAt
   part-init g = rw (g, f, e)
@@ -126,92 +112,149 @@ module _ (w : List ℕ) (part : Part) (at j a init : ℕ) (e : a ≡ reach w at 
 pub ruleset part-laws = (part-init, part-inv)
 
 -- `part_holds`
-pub part-holds-is : (w : List ℕ) (values : List ℤ) (at n p : ℕ) (r : Bool) → n ≡ variablesShown w → p ≡ reach w at 1 → r ≡ evaluate w (take n values) (take n values) p → r ≡ partHolds w values at
+pub part-holds-is : (w : List ℕ) (x : Layout) (values : List ℤ) (at n p : ℕ) (r : Bool) → n ≡ variablesOf x → p ≡ nodesPlace w at → r ≡ evaluate w (take n values) (take n values) p → r ≡ partHolds w x values at
 unfolding partHolds
-part-holds-is w values at n p r e f g = rw (g, e, f)
+part-holds-is w x values at n p r e f g = rw (g, e, f)
 
 -- `location_holds`
-pub location-holds-is : (w : List ℕ) (part : Part) (s : State) (at k j p : ℕ) (r : Bool) → j ≡ getD (s .locations) k 0 → p ≡ partAt w part at j → r ≡ partHolds w (s .values) p → r ≡ locationHolds w part s at k
+pub location-holds-is : (w : List ℕ) (x : Layout) (part : Part) (s : State) (at k j p : ℕ) (r : Bool) → j ≡ getD (s .locations) k 0 → p ≡ partAt w part at j → r ≡ partHolds w x (s .values) p → r ≡ locationHolds w x part s at k
 unfolding locationHolds
-location-holds-is w part s at k j p r e f g = rw (g, f, e)
+location-holds-is w x part s at k j p r e f g = rw (g, f, e)
 
 -- `all_hold`
-pub all-first : (w : List ℕ) (part : Part) (s : State) (c n at : ℕ) → c ≡ countAt w → n ≡ getD w c 0 → at ≡ reach w c 1
-    → eachFrom (afterAutomaton w) (locationHolds w part s) at 0 (n - 0) ≡ allHold w part s
+pub all-walked : (w : List ℕ) (x : Layout) (part : Part) (s : State) (n : ℕ) (r : Bool) → n ≡ automataOf x
+    → r ≡ eachFrom (holdsAt w x part s (x .sets)) 0 n → r ≡ allHold w x part s
 unfolding allHold
-all-first w part s c n at e f g = automata-first w (locationHolds w part s) c n at e f g
+all-walked w x part s n r e f = f ∙ ap (eachFrom (holdsAt w x part s (x .sets)) 0) e
 
 -- `started`
-module _ (w : List ℕ) (s : State) (phase : Phase) where
-  pub started-start : phase ≡ Start → (r : Bool) → r ≡ allHold w Init s → r ≡ startedIn w s phase
+module _ (w : List ℕ) (x : Layout) (s : State) (phase : Phase) where
+  pub started-start : phase ≡ Start → (r : Bool) → r ≡ allHold w x Init s → r ≡ startedIn w x s phase
   unfolding startedIn
   started-start e r f = rw (e, f)
 
-  pub started-running : phase ≡ Running → true ≡ startedIn w s phase
+  pub started-running : phase ≡ Running → true ≡ startedIn w x s phase
   unfolding startedIn
   started-running e = rw e
 
 pub ruleset started-laws = (started-start, started-running)
 
 -- `settled`
-module _ (w : List ℕ) (s t : State) (a : Bool) (e : a ≡ startedIn w s (s .phase)) where
-  pub settled-start : not a ≡ true → false ≡ settledAt w s t
+module _ (w : List ℕ) (x : Layout) (s t : State) (a : Bool) (e : a ≡ startedIn w x s (s .phase)) where
+  pub settled-start : not a ≡ true → false ≡ settledAt w x s t
   unfolding settledAt
   settled-start h =
-      let f : startedIn w s (s .phase) ≡ false = sym e ∙ not-true a h in
+      let f : startedIn w x s (s .phase) ≡ false = sym e ∙ not-true a h in
       rw (f, settledAt)
 
-  module _ (h : not a ≡ false) (b : Bool) (g : b ≡ allHold w Inv s) where
-    pub settled-before : not b ≡ true → false ≡ settledAt w s t
+  module _ (h : not a ≡ false) (b : Bool) (g : b ≡ allHold w x Inv s) where
+    pub settled-before : not b ≡ true → false ≡ settledAt w x s t
     unfolding settledAt
     settled-before i =
-        let f : startedIn w s (s .phase) ≡ true = sym e ∙ not-false a h in
-        let j : allHold w Inv s ≡ false = sym g ∙ not-true b i in
+        let f : startedIn w x s (s .phase) ≡ true = sym e ∙ not-false a h in
+        let j : allHold w x Inv s ≡ false = sym g ∙ not-true b i in
         rw (f, settledAt, j, settledAt)
 
-    pub settled-after : not b ≡ false → (r : Bool) → r ≡ allHold w Inv t → r ≡ settledAt w s t
+    pub settled-after : not b ≡ false → (r : Bool) → r ≡ allHold w x Inv t → r ≡ settledAt w x s t
     unfolding settledAt
     settled-after i r k =
-        let f : startedIn w s (s .phase) ≡ true = sym e ∙ not-false a h in
-        let j : allHold w Inv s ≡ true = sym g ∙ not-false b i in
+        let f : startedIn w x s (s .phase) ≡ true = sym e ∙ not-false a h in
+        let j : allHold w x Inv s ≡ true = sym g ∙ not-false b i in
         rw (f, settledAt, j, settledAt) k
 
 pub ruleset settled-laws = (settled-start, settled-before, settled-after)
 
+-- `state_checked`
+module _ (w : List ℕ) (x : Layout) (l : List ℕ) (v : List ℤ) (a : Bool) (e : a ≡ lengthsFit x (length l) (length v)) where
+  pub state-21 : not a ≡ true → C.Refused 21 ≡ stateChecked w x l v
+  unfolding stateChecked
+  state-21 h =
+      let y : lengthsFit x (length l) (length v) ≡ false = sym e ∙ not-true a h in
+      rw (y, stateChecked)
+
+  module _ (h : not a ≡ false) (b : Bool) (f : b ≡ locationsKnown w x l) where
+    fit : lengthsFit x (length l) (length v) ≡ true
+    fit = sym e ∙ not-false a h
+
+    pub state-22 : not b ≡ true → C.Refused 22 ≡ stateChecked w x l v
+    unfolding stateChecked
+    state-22 i =
+        let y : locationsKnown w x l ≡ false = sym f ∙ not-true b i in
+        rw (fit, stateChecked, y, stateChecked)
+
+    module _ (i : not b ≡ false) (c : Bool) (g : c ≡ valuesKnown w x v) where
+      known : locationsKnown w x l ≡ true
+      known = sym f ∙ not-false b i
+
+      pub state-23 : not c ≡ true → C.Refused 23 ≡ stateChecked w x l v
+      unfolding stateChecked
+      state-23 j =
+          let y : valuesKnown w x v ≡ false = sym g ∙ not-true c j in
+          rw (fit, stateChecked, known, stateChecked, y, stateChecked)
+
+      pub state-passes : not c ≡ false → C.Good ≡ stateChecked w x l v
+      unfolding stateChecked
+      state-passes j =
+          let y : valuesKnown w x v ≡ true = sym g ∙ not-false c j in
+          rw (fit, stateChecked, known, stateChecked, y, stateChecked)
+
+pub ruleset state-laws = (state-21, state-22, state-23, state-passes)
+
+-- `values_checked`
+module _ (w : List ℕ) (x : Layout) (v : List ℤ) where
+  pub values-21 : (length v ≡ x .variables → ⊥) → C.Refused 21 ≡ valuesChecked w x v
+  unfolding valuesChecked
+  values-21 h = rw (ne-eqb (length v) (x .variables) h, valuesChecked)
+
+  module _ (h : length v ≡ x .variables) (c : Bool) (g : c ≡ valuesKnown w x v) where
+    pub values-23 : not c ≡ true → C.Refused 23 ≡ valuesChecked w x v
+    unfolding valuesChecked
+    values-23 j =
+        let y : valuesKnown w x v ≡ false = sym g ∙ not-true c j in
+        rw (eq-eqb (length v) (x .variables) h, valuesChecked, y, valuesChecked)
+
+    pub values-pass : not c ≡ false → C.Good ≡ valuesChecked w x v
+    unfolding valuesChecked
+    values-pass j =
+        let y : valuesKnown w x v ≡ true = sym g ∙ not-false c j in
+        rw (eq-eqb (length v) (x .variables) h, valuesChecked, y, valuesChecked)
+
+pub ruleset values-laws = (values-21, values-23, values-pass)
+
 -- `lists`
-module _ (w l : List ℕ) (v : List ℤ) (l' : List ℕ) (v' : List ℤ) (a b : Bool) (e : a ≡ lengthsFit w (length l) (length v)) (f : b ≡ lengthsFit w (length l') (length v')) where
-  pub lists-21 : (not a || not b) ≡ true → C.Refused 21 ≡ listsChecked w l v l' v'
+module _ (w : List ℕ) (x : Layout) (l : List ℕ) (v : List ℤ) (l' : List ℕ) (v' : List ℤ) (a b : Bool) (e : a ≡ lengthsFit x (length l) (length v)) (f : b ≡ lengthsFit x (length l') (length v')) where
+  pub lists-21 : (not a || not b) ≡ true → C.Refused 21 ≡ listsChecked w x l v l' v'
   unfolding listsChecked
   lists-21 h = rw (rw (e, f) at h, listsChecked)
 
-  module _ (h : (not a || not b) ≡ false) (c d : Bool) (g : c ≡ locationsKnown w l) (i : d ≡ locationsKnown w l') where
-    pub lists-22 : (not c || not d) ≡ true → C.Refused 22 ≡ listsChecked w l v l' v'
+  module _ (h : (not a || not b) ≡ false) (c d : Bool) (g : c ≡ locationsKnown w x l) (i : d ≡ locationsKnown w x l') where
+    pub lists-22 : (not c || not d) ≡ true → C.Refused 22 ≡ listsChecked w x l v l' v'
     unfolding listsChecked
     lists-22 j = rw (rw (e, f) at h, listsChecked, rw (g, i) at j, listsChecked)
 
-    module _ (j : (not c || not d) ≡ false) (p q : Bool) (k : p ≡ valuesKnown w v) (m : q ≡ valuesKnown w v') where
-      pub lists-23 : (not p || not q) ≡ true → C.Refused 23 ≡ listsChecked w l v l' v'
+    module _ (j : (not c || not d) ≡ false) (p q : Bool) (k : p ≡ valuesKnown w x v) (m : q ≡ valuesKnown w x v') where
+      pub lists-23 : (not p || not q) ≡ true → C.Refused 23 ≡ listsChecked w x l v l' v'
       unfolding listsChecked
       lists-23 o = rw (rw (e, f) at h, listsChecked, rw (g, i) at j, listsChecked, rw (k, m) at o, listsChecked)
 
-      pub lists-good : (not p || not q) ≡ false → C.Good ≡ listsChecked w l v l' v'
+      pub lists-good : (not p || not q) ≡ false → C.Good ≡ listsChecked w x l v l' v'
       unfolding listsChecked
       lists-good o = rw (rw (e, f) at h, listsChecked, rw (g, i) at j, listsChecked, rw (k, m) at o, listsChecked)
 
 pub ruleset lists-laws = (lists-21, lists-22, lists-23, lists-good)
 
 -- `admitted`
-module _ (w : List ℕ) (phase : ℕ) (l : List ℕ) (v : List ℤ) (l' : List ℕ) (v' : List ℤ) (y : Admitted) (f : y ≡ phaseRead phase) where
-  pub out-of-phase : (row : ℕ) → y ≡ Out row → Out row ≡ admittedOn w phase l v l' v'
+module _ (w : List ℕ) (x : Layout) (phase : ℕ) (l : List ℕ) (v : List ℤ) (l' : List ℕ) (v' : List ℤ) (y : Admitted) (f : y ≡ phaseRead phase) where
+  pub out-of-phase : (row : ℕ) → y ≡ Out row → Out row ≡ admittedOn w x phase l v l' v'
   unfolding admittedOn thenPhase
   out-of-phase row g = rw (sym f ∙ g)
 
-  module _ (p : Phase) (g : y ≡ In p) (z : Checked) (i : z ≡ listsChecked w l v l' v') where
-    pub out-of-lists : (row : ℕ) → z ≡ C.Refused row → Out row ≡ admittedOn w phase l v l' v'
+  module _ (p : Phase) (g : y ≡ In p) (z : Checked) (i : z ≡ listsChecked w x l v l' v') where
+    pub out-of-lists : (row : ℕ) → z ≡ C.Refused row → Out row ≡ admittedOn w x phase l v l' v'
     unfolding admittedOn thenPhase thenLists
     out-of-lists row j = rw (sym f ∙ g, sym i ∙ j)
 
-    pub admitted-in : z ≡ C.Good → In p ≡ admittedOn w phase l v l' v'
+    pub admitted-in : z ≡ C.Good → In p ≡ admittedOn w x phase l v l' v'
     unfolding admittedOn thenPhase thenLists
     admitted-in j = rw (sym f ∙ g, sym i ∙ j)
 

@@ -1,6 +1,5 @@
 pub mod Filled
 pub mod WalkLaws
-pub mod PlacesLaws
 pub mod CodeLaws
 pub mod Items
 pub mod RowLaws
@@ -8,4 +7,5 @@ pub mod SettledLaws
 pub mod CallLaws
 pub mod TakenLaws
 pub mod StepLaws
+pub mod JudgementLaws
 pub mod NumberLaws

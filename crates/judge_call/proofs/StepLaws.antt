@@ -11,6 +11,9 @@ use Rattle.model.proofs.Tests.{not-true, not-false}
 use Rattle.table_check.specs.Check.{answered}
 use Rattle.table_check.specs.declared.Checked.{Checked}
 use Rattle.table_check.specs.declared.Checked.the-variants as C
+use Rattle.table_places.specs.declared.layout.Layout.{Layout}
+use Rattle.table_places.specs.Layout.{layoutOf}
+use Rattle.table_places.specs.Own.{ownSets}
 use Rattle.table_places.proofs.Opened.{Sheet}
 use Rattle.judge_call.specs.declared.Phase.{Phase}
 use Rattle.judge_call.specs.declared.Phase.the-variants.{Running}
@@ -24,7 +27,7 @@ use Rattle.judge_call.specs.States.{stateOf}
 use Rattle.judge_call.specs.RowTests.{actionKnown}
 use Rattle.judge_call.specs.Settled.{settledAt}
 use Rattle.judge_call.specs.Taken.{takenAt, markAt}
-use Rattle.judge_call.specs.Calls.{admittedOn, thenRules, thenWords, stepIn, stepOn, stepAt}
+use Rattle.judge_call.specs.Calls.{thenAnswer, stepBy, stepIn, stepOn, ownOf, stepAt}
 use Rattle.judge_call.proofs.RowLaws.{action-row}
 use Rattle.judge_call.proofs.SettledLaws.{settled-is}
 use Rattle.judge_call.proofs.TakenLaws.{taken-is, mark-is}
@@ -44,88 +47,44 @@ module _ (t : List ℕ) (phase : ℕ) (l : List ℕ) (v : List ℤ) (a : ℕ) (l
   ends true false k = refl
   ends false x k = refl
 
-  step-passed : (m : Model) → Sheet t m → (q : Phase) → Pass m (stands q l v) (stands Running l' v') → answerOf (stepIn t l v a l' v' q) ≡ last m q
-  unfolding stepIn J.stepHolds answerOf
-  step-passed m sheet q p = go (actionKnown t a) refl
+  step-passed : (m : Model) → Sheet t m → (q : Phase) → Pass m (stands q l v) (stands Running l' v') → answerOf (stepIn t (layoutOf t) (ownOf t) l v a l' v' q) ≡ last m q
+  unfolding stepBy J.stepHolds answerOf
+  step-passed m sheet q p = go (actionKnown (layoutOf t) a) refl
     where
-      known : not (actionKnown t a) ≡ J.row24 m a
-      known = action-row t (sheet .rest) m (sheet .stands) a
+      known : not (actionKnown (layoutOf t) a) ≡ J.row24 m a
+      known = action-row m (sheet .lawful) t (sheet .rest) (sheet .stands) a
 
-      go : (b : Bool) → actionKnown t a ≡ b → answerOf (stepIn t l v a l' v' q) ≡ last m q
+      go : (b : Bool) → actionKnown (layoutOf t) a ≡ b → answerOf (stepIn t (layoutOf t) (ownOf t) l v a l' v' q) ≡ last m q
       go false e =
           let refused : J.row24 m a ≡ true = sym known ∙ ap not e in
-          rw (e, stepIn, refused)
+          rw (e, stepBy, refused)
       go true e =
           let passes : J.row24 m a ≡ false = sym known ∙ ap not e in
           let u = stands q l v in
           let u' = stands Running l' v' in
           let f = settled-is m (sheet .lawful) t (sheet .rest) (sheet .stands) (stateOf q l v) (stateOf Running l' v') u u'
           (shows-old m (sheet .lawful) q Running l v l' v' p) (shows-new m (sheet .lawful) q Running l v l' v' p) in
-          rw (e, stepIn, passes)
-          (ends (settledAt t (stateOf q l v) (stateOf Running l' v')) (takenAt t a (stateOf q l v) (stateOf Running l' v')) (markAt t a)
+          rw (e, stepBy, passes)
+          (ends (settledAt t (layoutOf t) (stateOf q l v) (stateOf Running l' v')) (takenAt t (layoutOf t) (ownOf t) a (stateOf q l v) (stateOf Running l' v')) (markAt t (layoutOf t) (ownOf t) a)
           ∙ rw (f, taken-is t m sheet q l v l' v' a p, mark-is t m sheet a))
 
   pub step-exact : answerOf (stepAt t phase l v a l' v') ≡ J.stepAnswer t phase l v a l' v'
   unfolding stepAt stepOn J.stepAnswer
-  step-exact = call-exact t phase l v l' v' (stepIn t l v a l' v') (λ m s. J.judgeStep m s a l' v') last step-rows step-passed
-
-  -- each way out of the code over a good table
-  module _ (x : Admitted) (e : x ≡ admittedOn t phase l v l' v') where
-    pub step-out : (row : ℕ) → x ≡ Out row → Refused row ≡ stepOn t phase l v a l' v'
-    unfolding stepOn thenRules
-    step-out row f = rw (sym e ∙ f)
-
-    module _ (q : Phase) (f : x ≡ In q) (k : Bool) (g : k ≡ actionKnown t a) where
-      by-rules : (y : Answer) → y ≡ stepIn t l v a l' v' q → y ≡ stepOn t phase l v a l' v'
-      unfolding stepOn thenRules
-      by-rules y h = rw (sym e ∙ f) h
-
-      pub step-24 : not k ≡ true → Refused 24 ≡ stepOn t phase l v a l' v'
-      unfolding stepIn
-      step-24 h =
-          let unknown : actionKnown t a ≡ false = sym g ∙ not-true k h in
-          by-rules (Refused 24) (rw (unknown, stepIn))
-
-      module _ (h : not k ≡ false) (s s' : State) (i : s ≡ stateOf q l v) (j : s' ≡ stateOf Running l' v') (b : Bool) (o : b ≡ settledAt t s s') where
-        acts : actionKnown t a ≡ true
-        acts = sym g ∙ not-false k h
-
-        pub step-unsettled : not b ≡ true → No ≡ stepOn t phase l v a l' v'
-        unfolding stepIn
-        step-unsettled n =
-            let unsettled : settledAt t (stateOf q l v) (stateOf Running l' v') ≡ false = rw (i, j) at (sym o ∙ not-true b n) in
-            by-rules No (rw (acts, stepIn, unsettled, stepIn))
-
-        module _ (n : not b ≡ false) (c : Bool) (w : c ≡ takenAt t a s s') where
-          is-settled : settledAt t (stateOf q l v) (stateOf Running l' v') ≡ true
-          is-settled = rw (i, j) at (sym o ∙ not-false b n)
-
-          pub step-untaken : not c ≡ true → No ≡ stepOn t phase l v a l' v'
-          unfolding stepIn
-          step-untaken y =
-              let none : takenAt t a (stateOf q l v) (stateOf Running l' v') ≡ false = rw (i, j) at (sym w ∙ not-true c y) in
-              by-rules No (rw (acts, stepIn, is-settled, stepIn, none, stepIn))
-
-          pub step-taken : not c ≡ false → (r : Bool) → r ≡ markAt t a → Marked r ≡ stepOn t phase l v a l' v'
-          unfolding stepIn
-          step-taken y r z =
-              let some-move : takenAt t a (stateOf q l v) (stateOf Running l' v') ≡ true = rw (i, j) at (sym w ∙ not-false c y) in
-              by-rules (Marked r) (rw (acts, stepIn, is-settled, stepIn, some-move, stepIn) (ap Marked z))
+  step-exact = call-exact t phase l v l' v' (stepIn t (layoutOf t) (ownOf t) l v a l' v') (λ m s. J.judgeStep m s a l' v') last step-rows step-passed
 
   -- and over any
   module _ (x : Checked) (e : x ≡ answered (openTable t)) where
     pub step-bad : (row : ℕ) → x ≡ C.Refused row → answerOf (Refused row) ≡ J.stepAnswer t phase l v a l' v'
-    unfolding stepAt thenWords
+    unfolding stepAt thenAnswer
     step-bad row f =
         let out : Refused row ≡ stepAt t phase l v a l' v' = rw (sym e ∙ f) in
         ap answerOf out ∙ step-exact
 
-    pub step-good : x ≡ C.Good → (r : Answer) → r ≡ stepOn t phase l v a l' v' → answerOf r ≡ J.stepAnswer t phase l v a l' v'
-    unfolding stepAt thenWords
-    step-good f r g =
-        let out : r ≡ stepAt t phase l v a l' v' = rw (sym e ∙ f) g in
+    pub step-good : x ≡ C.Good → (y : Layout) (own : List ℕ) → y ≡ layoutOf t → own ≡ ownSets t (y .sets) → (r : Answer) → r ≡ stepOn t y own phase l v a l' v' → answerOf r ≡ J.stepAnswer t phase l v a l' v'
+    unfolding stepAt thenAnswer
+    step-good f y own h i r g =
+        let o : own ≡ ownOf t = i ∙ ap (λ (z : Layout). ownSets t (z .sets)) h in
+        let out : r ≡ stepAt t phase l v a l' v' = rw (sym e ∙ f) (rw (h, o) at g) in
         ap answerOf out ∙ step-exact
-
-pub ruleset step-on-laws = (step-out, step-24, step-unsettled, step-untaken, step-taken)
 
 pub ruleset step-laws = (step-bad, step-good)

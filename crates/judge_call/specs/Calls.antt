@@ -1,15 +1,20 @@
--- The rows of a call, in their order, and then the rules.
+-- The rows of a call, in their order, and then the rules. `own` is the automata's own sets.
 use mathlib.Core.Bool.{true, false, not, _||_}
 use mathlib.Core.List.{List}
 use Prim.Native.Nat.{ℕ}
 use lib.IntN.{ℤ}
 use lib.ListN.{length}
+use lib.Dec.{eqb}
 use Rattle.model.specs.Table.{openTable}
+use Rattle.table_places.specs.declared.layout.Layout.{Layout}
+use Rattle.table_places.specs.Layout.{layoutOf}
+use Rattle.table_places.specs.Own.{ownSets}
 use Rattle.table_check.specs.Check.{answered}
 use Rattle.table_check.specs.declared.Checked.{Checked}
 use Rattle.table_check.specs.declared.Checked.the-variants as C
 use Rattle.judge_call.specs.declared.Phase.{Phase}
 use Rattle.judge_call.specs.declared.Phase.the-variants.{Running}
+use Rattle.judge_call.specs.declared.State.{State}
 use Rattle.judge_call.specs.declared.Admitted.{Admitted}
 use Rattle.judge_call.specs.declared.Admitted.the-variants.{In, Out}
 use Rattle.judge_call.specs.declared.Answer.{Answer}
@@ -19,17 +24,37 @@ use Rattle.judge_call.specs.RowTests.{phaseRead, lengthsFit, locationsKn
 use Rattle.judge_call.specs.Settled.{settledAt}
 use Rattle.judge_call.specs.Taken.{takenAt, markAt}
 
-module _ (words : List ℕ) (locations : List ℕ) (values : List ℤ) (newLocations : List ℕ) (newValues : List ℤ) where
-  -- rows 21 to 23
-  unfoldable pub listsChecked : Checked
-  listsChecked =
-      elim (not (lengthsFit words (length locations) (length values)) || not (lengthsFit words (length newLocations) (length newValues))) [
+module _ (words : List ℕ) (x : Layout) where
+  -- rows 21 to 23 of one state
+  unfoldable pub stateChecked : (locations : List ℕ) (values : List ℤ) → Checked
+  stateChecked locations values =
+      elim (lengthsFit x (length locations) (length values)) [
+        | false ↦ C.Refused 21
+        | true ↦
+            elim (locationsKnown words x locations) [
+              | false ↦ C.Refused 22
+              | true ↦ elim (valuesKnown words x values) [ false ↦ C.Refused 23 | true ↦ C.Good ]
+            ]
+      ]
+
+  -- of values, for locations that have passed
+  unfoldable pub valuesChecked : (values : List ℤ) → Checked
+  valuesChecked values =
+      elim (eqb (length values) (x .variables)) [
+        | false ↦ C.Refused 21
+        | true ↦ elim (valuesKnown words x values) [ false ↦ C.Refused 23 | true ↦ C.Good ]
+      ]
+
+  -- of the states before and after
+  unfoldable pub listsChecked : (locations : List ℕ) (values : List ℤ) (newLocations : List ℕ) (newValues : List ℤ) → Checked
+  listsChecked locations values newLocations newValues =
+      elim (not (lengthsFit x (length locations) (length values)) || not (lengthsFit x (length newLocations) (length newValues))) [
         | true ↦ C.Refused 21
         | false ↦
-            elim (not (locationsKnown words locations) || not (locationsKnown words newLocations)) [
+            elim (not (locationsKnown words x locations) || not (locationsKnown words x newLocations)) [
               | true ↦ C.Refused 22
               | false ↦
-                  elim (not (valuesKnown words values) || not (valuesKnown words newValues)) [ true ↦ C.Refused 23 | false ↦ C.Good ]
+                  elim (not (valuesKnown words x values) || not (valuesKnown words x newValues)) [ true ↦ C.Refused 23 | false ↦ C.Good ]
             ]
       ]
 
@@ -42,49 +67,68 @@ unfoldable pub thenPhase : Admitted → Checked → Admitted
 thenPhase (Out row) lists = Out row
 thenPhase (In phase) lists = thenLists lists phase
 
--- rows 20 to 23, over the words of a table
-unfoldable pub admittedOn : (words : List ℕ) (phase : ℕ) (locations : List ℕ) (values : List ℤ) (newLocations : List ℕ) (newValues : List ℤ) → Admitted
-admittedOn words phase locations values newLocations newValues = thenPhase (phaseRead phase) (listsChecked words locations values newLocations newValues)
-
 -- the refusal, or what the rules answer in the phase
 unfoldable pub thenRules : Admitted → (Phase → Answer) → Answer
 thenRules (Out row) rules = Refused row
 thenRules (In phase) rules = rules phase
 
--- the refusal of a table, or the answer over its words
-unfoldable pub thenWords : Checked → Answer → Answer
-thenWords (C.Refused row) answer = Refused row
-thenWords C.Good answer = answer
+-- the refusal by a check, or the answer behind it
+unfoldable pub thenAnswer : Checked → Answer → Answer
+thenAnswer (C.Refused row) answer = Refused row
+thenAnswer C.Good answer = answer
 
--- the environment judge: every automaton is still
-unfoldable pub environmentIn : (table locations : List ℕ) (values newValues : List ℤ) → Phase → Answer
-environmentIn table locations values newValues phase =
-    elim (settledAt table (stateOf phase locations values) (stateOf Running locations newValues)) [ true ↦ Yes | false ↦ No ]
+module _ (words : List ℕ) (x : Layout) where
+  -- rows 20 to 23
+  unfoldable pub admittedOn : (phase : ℕ) (locations : List ℕ) (values : List ℤ) (newLocations : List ℕ) (newValues : List ℤ) → Admitted
+  admittedOn phase locations values newLocations newValues = thenPhase (phaseRead phase) (listsChecked words x locations values newLocations newValues)
 
-unfoldable pub environmentOn : (table : List ℕ) (phase : ℕ) (locations : List ℕ) (values newValues : List ℤ) → Answer
-environmentOn table phase locations values newValues =
-    thenRules (admittedOn table phase locations values locations newValues) (environmentIn table locations values newValues)
+  -- the environment judge, from state s to state t: every automaton is still
+  unfoldable pub environmentBy : (s t : State) → Answer
+  environmentBy s t = elim (settledAt words x s t) [ true ↦ Yes | false ↦ No ]
+
+  abbrev pub environmentIn : (locations : List ℕ) (values newValues : List ℤ) → Phase → Answer
+  environmentIn locations values newValues phase = environmentBy (stateOf phase locations values) (stateOf Running locations newValues)
+
+  unfoldable pub environmentOn : (phase : ℕ) (locations : List ℕ) (values newValues : List ℤ) → Answer
+  environmentOn phase locations values newValues =
+      thenRules (admittedOn phase locations values locations newValues) (environmentIn locations values newValues)
+
+  -- where s has passed the rows
+  unfoldable pub environmentFrom : (s : State) (newValues : List ℤ) (t : State) → Answer
+  environmentFrom s newValues t = thenAnswer (valuesChecked words x newValues) (environmentBy s t)
+
+  -- the step judge: row 24; then what holds of every automaton; then whether some of them can take the action, and its mark
+  module _ (own : List ℕ) where
+    unfoldable pub stepBy : (s : State) (action : ℕ) (t : State) → Answer
+    stepBy s action t =
+        elim (actionKnown x action) [
+          | false ↦ Refused 24
+          | true ↦
+              elim (settledAt words x s t) [
+                | false ↦ No
+                | true ↦ elim (takenAt words x own action s t) [ false ↦ No | true ↦ Marked (markAt words x own action) ]
+              ]
+        ]
+
+    abbrev pub stepIn : (locations : List ℕ) (values : List ℤ) (action : ℕ) (newLocations : List ℕ) (newValues : List ℤ) → Phase → Answer
+    stepIn locations values action newLocations newValues phase =
+        stepBy (stateOf phase locations values) action (stateOf Running newLocations newValues)
+
+    unfoldable pub stepOn : (phase : ℕ) (locations : List ℕ) (values : List ℤ) (action : ℕ) (newLocations : List ℕ) (newValues : List ℤ) → Answer
+    stepOn phase locations values action newLocations newValues =
+        thenRules (admittedOn phase locations values newLocations newValues) (stepIn locations values action newLocations newValues)
+
+    unfoldable pub stepFrom : (s : State) (action : ℕ) (newLocations : List ℕ) (newValues : List ℤ) (t : State) → Answer
+    stepFrom s action newLocations newValues t = thenAnswer (stateChecked words x newLocations newValues) (stepBy s action t)
+
+-- over any table: the check, and then by its layout
+abbrev pub ownOf : (table : List ℕ) → List ℕ
+ownOf table = ownSets table (layoutOf table .sets)
 
 unfoldable pub environmentAt : (table : List ℕ) (phase : ℕ) (locations : List ℕ) (values newValues : List ℤ) → Answer
 environmentAt table phase locations values newValues =
-    thenWords (answered (openTable table)) (environmentOn table phase locations values newValues)
-
--- the step judge: row 24; then what holds of every automaton; then whether some of them can take the action, and its mark
-unfoldable pub stepIn : (table locations : List ℕ) (values : List ℤ) (action : ℕ) (newLocations : List ℕ) (newValues : List ℤ) → Phase → Answer
-stepIn table locations values action newLocations newValues phase =
-    elim (actionKnown table action) [
-      | false ↦ Refused 24
-      | true ↦
-          elim (settledAt table (stateOf phase locations values) (stateOf Running newLocations newValues)) [
-            | false ↦ No
-            | true ↦ elim (takenAt table action (stateOf phase locations values) (stateOf Running newLocations newValues)) [ false ↦ No | true ↦ Marked (markAt table action) ]
-          ]
-    ]
-
-unfoldable pub stepOn : (table : List ℕ) (phase : ℕ) (locations : List ℕ) (values : List ℤ) (action : ℕ) (newLocations : List ℕ) (newValues : List ℤ) → Answer
-stepOn table phase locations values action newLocations newValues =
-    thenRules (admittedOn table phase locations values newLocations newValues) (stepIn table locations values action newLocations newValues)
+    thenAnswer (answered (openTable table)) (environmentOn table (layoutOf table) phase locations values newValues)
 
 unfoldable pub stepAt : (table : List ℕ) (phase : ℕ) (locations : List ℕ) (values : List ℤ) (action : ℕ) (newLocations : List ℕ) (newValues : List ℤ) → Answer
 stepAt table phase locations values action newLocations newValues =
-    thenWords (answered (openTable table)) (stepOn table phase locations values action newLocations newValues)
+    thenAnswer (answered (openTable table)) (stepOn table (layoutOf table) (ownOf table) phase locations values action newLocations newValues)

@@ -1,8 +1,7 @@
 pub mod Answers
 pub mod States
-pub mod Places
+pub mod Each
 pub mod RowTests
 pub mod Settled
 pub mod Taken
 pub mod Calls
-pub mod AutomataPlaces

@@ -1,7 +1,6 @@
 // States from the lists of a call.
 use crate::Phase;
 use crate::State;
-use crate::rows::{self};
 ghost use mathlib.Core.Path.{_≡_};
 ghost use lib.IntN.{pos};
 ghost use Rattle.judge_call.specs.States.{filled, stateOf};
@@ -12,7 +11,7 @@ fn locations_of(locations: &[u32]) -> [u32; 16]
     let mut all = [0u32; 16];
     let mut i = 0;
     while i < 16 {
-        all[i] = rows::word(locations, i);
+        all[i] = table_places::word32(locations, i);
         i += 1;
     }
     all

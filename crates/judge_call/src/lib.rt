@@ -1,23 +1,20 @@
 // One call of a judge: is a proposed step of the composition allowed? The judges know a checked table, and nothing of how a text spells it.
 mod call;
 mod fill;
-mod places;
+mod judgement;
 mod rows;
 mod settled;
 mod taken;
 
-pub use rows::lengths;
-pub use rows::locations_known;
+pub use call::state_checked;
+pub use judgement::environment_from;
+pub use judgement::step_from;
 pub use rows::phase_of;
-pub use rows::values_known;
-pub use settled::shown;
 use table_check::Checked;
-pub use taken::automata;
 ghost use mathlib.Core.Path.{_≡_};
 ghost use Prim.Native.Nat.{_%_, _^_};
 ghost use Rattle.model.specs.Judge.{stepAnswer, environmentAnswer};
 ghost use Rattle.judge_call.specs.Answers.{answerOf, answerNumber};
-ghost use Rattle.judge_call.specs.Calls.{environmentOn, stepOn};
 
 // Phase 0 is Start, phase 1 Running.
 pub enum Phase {
@@ -59,42 +56,8 @@ pub fn environment(
     if let Checked::Refused(row) = table_check::check(table) {
         return Answer::Refused(row);
     }
-    environment_on(table, phase, locations, values, new_values)
-}
-
-// The same over a table that is known to be good.
-pub fn environment_on(
-    table: &[u32],
-    phase: u32,
-    locations: &[u32],
-    values: &[i32],
-    new_values: &[i32],
-) -> Answer
-    ensures { λ r. ⌜ r ≡ environmentOn (now (table .entry)) phase (now (locations .entry)) (now (values .entry)) (now («new_values» .entry)) ⌝ }
-{
-    let places = places::find(table);
-    // The automata keep their locations.
-    let admitted = call::admitted(
-        table,
-        &places,
-        phase,
-        locations,
-        values,
-        locations,
-        new_values,
-    );
-    match admitted {
-        Admitted::Out(row) => Answer::Refused(row),
-        Admitted::In(p) => {
-            let s = State::of(p, locations, values);
-            let t = State::of(Phase::Running, locations, new_values);
-            if settled::settled(table, &places, s, t) {
-                Answer::Yes
-            } else {
-                Answer::No
-            }
-        }
-    }
+    let x = table_places::layout_of(table);
+    judgement::environment_on(table, x, phase, locations, values, new_values)
 }
 
 // May the composition take the action, from the locations and values to the new ones? Yes comes with the mark.
@@ -112,8 +75,12 @@ pub fn step(
     if let Checked::Refused(row) = table_check::check(table) {
         return Answer::Refused(row);
     }
-    step_on(
+    let x = table_places::layout_of(table);
+    let own = table_places::own_sets(table, x);
+    judgement::step_on(
         table,
+        x,
+        &own,
         phase,
         locations,
         values,
@@ -121,47 +88,6 @@ pub fn step(
         new_locations,
         new_values,
     )
-}
-
-// The same over a table that is known to be good.
-pub fn step_on(
-    table: &[u32],
-    phase: u32,
-    locations: &[u32],
-    values: &[i32],
-    action: u32,
-    new_locations: &[u32],
-    new_values: &[i32],
-) -> Answer
-    ensures { λ r. ⌜ r ≡ stepOn (now (table .entry)) phase (now (locations .entry)) (now (values .entry)) action (now («new_locations» .entry)) (now («new_values» .entry)) ⌝ }
-{
-    let places = places::find(table);
-    let admitted = call::admitted(
-        table,
-        &places,
-        phase,
-        locations,
-        values,
-        new_locations,
-        new_values,
-    );
-    match admitted {
-        Admitted::Out(row) => Answer::Refused(row),
-        Admitted::In(p) => {
-            if !rows::action_known(table, action) {
-                return Answer::Refused(24);
-            }
-            let s = State::of(p, locations, values);
-            let t = State::of(Phase::Running, new_locations, new_values);
-            if !settled::settled(table, &places, s, t) {
-                return Answer::No;
-            }
-            if !taken::taken(table, &places, s, action, t) {
-                return Answer::No;
-            }
-            Answer::Marked(taken::mark(table, &places, action))
-        }
-    }
 }
 
 // An answer as one number: 0 no, 1 yes, 2 yes with the mark true; 100 + row refused. The sum wraps on no answer that a judge gives.

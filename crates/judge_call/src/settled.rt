@@ -1,28 +1,15 @@
 // What holds of every automaton, whether it takes an edge or is still: its location's init (in phase Start) and inv.
 use crate::Phase;
 use crate::State;
-use crate::places::{self};
+use table_places::Layout;
 ghost use mathlib.Core.Path.{_≡_};
 ghost use lib.ListN.{getD};
-ghost use Rattle.judge_call.specs.AutomataPlaces.{placesOf};
-ghost use Rattle.judge_call.specs.Settled.{variablesShown, partAt, partHolds, locationHolds, allHold, started, settledAt};
+ghost use Rattle.judge_call.specs.Settled.{partAt, partHolds, locationHolds, allHold, started, settledAt};
 
 // Which of a location's two predicates.
 pub enum Part {
     Init,
     Inv,
-}
-
-// V, as far as a state has values.
-pub fn shown(words: &[u32]) -> usize
-    ensures { λ r. ⌜ r ≡ variablesShown (now (words .entry)) ⌝ }
-{
-    let n = table_places::word(words, 2);
-    if n <= model::Model::VARIABLES {
-        n
-    } else {
-        model::Model::VARIABLES
-    }
 }
 
 // Automaton k's location; there is none past the end, and the definitions read 0 there.
@@ -41,7 +28,7 @@ fn location(s: State, k: usize) -> usize
 fn part_at(words: &[u32], part: Part, at: usize, j: usize) -> usize
     ensures { λ r. ⌜ r ≡ partAt (now (words .entry)) part at j ⌝ }
 {
-    let init = table_places::location_at(words, table_places::step(words, at, 3), j);
+    let init = table_places::location_at(words, table_places::first_location(words, at), j);
     match part {
         Part::Init => init,
         Part::Inv => table_places::after_predicate(words, init),
@@ -49,64 +36,59 @@ fn part_at(words: &[u32], part: Part, at: usize, j: usize) -> usize
 }
 
 // The predicate at `at`, its count first, holds of the state's values.
-fn part_holds(words: &[u32], at: usize, s: State) -> bool
-    ensures { λ r. ⌜ r ≡ partHolds (now (words .entry)) (s .values) at ⌝ }
+fn part_holds(words: &[u32], x: Layout, at: usize, s: State) -> bool
+    ensures { λ r. ⌜ r ≡ partHolds (now (words .entry)) x (s .values) at ⌝ }
 {
-    let n = shown(words);
-    let nodes = table_places::step(words, at, 1);
+    let n = table_places::variables_of(x);
+    let nodes = table_places::nodes_at(words, at);
     let values = s.values;
     let known = &values[..n];
     evaluator::holds(words, nodes, known, known)
 }
 
 // The predicate of automaton k's location holds, where `at` is the automaton's place.
-fn location_holds(words: &[u32], part: Part, s: State, at: usize, k: usize) -> bool
-    ensures { λ r. ⌜ r ≡ locationHolds (now (words .entry)) part s at k ⌝ }
+fn location_holds(words: &[u32], x: Layout, part: Part, s: State, at: usize, k: usize) -> bool
+    ensures { λ r. ⌜ r ≡ locationHolds (now (words .entry)) x part s at k ⌝ }
 {
-    part_holds(words, part_at(words, part, at, location(s, k)), s)
+    part_holds(words, x, part_at(words, part, at, location(s, k)), s)
 }
 
 // The predicate of each automaton's location holds.
-fn all_hold(words: &[u32], places: &[usize; 17], part: Part, s: State) -> bool
-    requires { ⌜ now places ≡ placesOf (now words) ⌝ }
-    ensures { λ r. ⌜ r ≡ allHold (now (words .entry)) part s ⌝ }
+fn all_hold(words: &[u32], x: Layout, part: Part, s: State) -> bool
+    ensures { λ r. ⌜ r ≡ allHold (now (words .entry)) x part s ⌝ }
 {
-    let count = table_places::count_at(words);
-    let n = table_places::word(words, count);
-    let mut at = table_places::step(words, count, 1);
+    let n = table_places::automata_of(x);
+    let places = x.sets;
     let mut k = 0;
     while k < n {
-        if !location_holds(words, part, s, at, k) {
+        if !location_holds(words, x, part, s, places[k], k) {
             return false;
         }
-        at = places::next(words, places, n, at, k);
         k += 1;
     }
     true
 }
 
 // In phase Start every init holds; in phase Running they play no part.
-fn started(words: &[u32], places: &[usize; 17], s: State) -> bool
-    requires { ⌜ now places ≡ placesOf (now words) ⌝ }
-    ensures { λ r. ⌜ r ≡ started (now (words .entry)) s ⌝ }
+fn started(words: &[u32], x: Layout, s: State) -> bool
+    ensures { λ r. ⌜ r ≡ started (now (words .entry)) x s ⌝ }
 {
     let phase = s.phase;
     match phase {
-        Phase::Start => all_hold(words, places, Part::Init, s),
+        Phase::Start => all_hold(words, x, Part::Init, s),
         Phase::Running => true,
     }
 }
 
 // For a step or a change from s to t: the inits and invs that s needs, and the invs of t.
-pub(crate) fn settled(words: &[u32], places: &[usize; 17], s: State, t: State) -> bool
-    requires { ⌜ now places ≡ placesOf (now words) ⌝ }
-    ensures { λ r. ⌜ r ≡ settledAt (now (words .entry)) s t ⌝ }
+pub(crate) fn settled(words: &[u32], x: Layout, s: State, t: State) -> bool
+    ensures { λ r. ⌜ r ≡ settledAt (now (words .entry)) x s t ⌝ }
 {
-    if !started(words, places, s) {
+    if !started(words, x, s) {
         return false;
     }
-    if !all_hold(words, places, Part::Inv, s) {
+    if !all_hold(words, x, Part::Inv, s) {
         return false;
     }
-    all_hold(words, places, Part::Inv, t)
+    all_hold(words, x, Part::Inv, t)
 }

@@ -1,40 +1,27 @@
 // Can some automata take the action so that the step is theirs? And is the action marked?
 use crate::State;
-use crate::places::{self};
-use crate::settled::{self};
+use table_places::Layout;
 ghost use mathlib.Core.Path.{_≡_};
-ghost use Rattle.judge_call.specs.AutomataPlaces.{placesOf};
-ghost use Rattle.judge_call.specs.Taken.{automataShown, takenIn, takenAt, markAt};
-
-// N, as far as a state has locations.
-pub fn automata(words: &[u32]) -> usize
-    ensures { λ r. ⌜ r ≡ automataShown (now (words .entry)) ⌝ }
-{
-    let n = table_places::word(words, table_places::count_at(words));
-    if n <= model::Model::AUTOMATA {
-        n
-    } else {
-        model::Model::AUTOMATA
-    }
-}
+ghost use Rattle.judge_call.specs.Taken.{takenIn, takenAt, markAt};
 
 // From the locations `old` and the values `before` to `new` and `after`.
 fn found(
     words: &[u32],
-    places: &[usize; 17],
+    x: Layout,
+    own: &[u64],
     old: &[u32],
     new: &[u32],
     before: &[i32],
     after: &[i32],
     action: u32,
 ) -> bool
-    requires { ⌜ now places ≡ placesOf (now words) ⌝ }
-    ensures { λ r. ⌜ r ≡ takenIn (now (words .entry)) (now (old .entry)) (now (new .entry)) (now (before .entry)) (now (after .entry)) action ⌝ }
+    ensures { λ r. ⌜ r ≡ takenIn (now (words .entry)) x (now (own .entry)) (now (old .entry)) (now (new .entry)) (now (before .entry)) (now (after .entry)) action ⌝ }
 {
     let mut masks = [0u64; 512];
     let mut first = [0usize; 17];
     judge_candidates::gather(
         words,
+        x,
         old,
         new,
         before,
@@ -43,13 +30,12 @@ fn found(
         &mut masks,
         &mut first,
     );
-    let sets = judge_candidates::own_sets(words);
     let still = judge_candidates::still(old, new);
     let changed = judge_candidates::changed(before, after);
     judge_search::found(
         words,
-        places::tree(words, places),
-        &sets,
+        table_places::nodes_at(words, x.tree),
+        own,
         action,
         &masks,
         &first,
@@ -58,19 +44,20 @@ fn found(
     )
 }
 
-pub(crate) fn taken(words: &[u32], places: &[usize; 17], s: State, action: u32, t: State) -> bool
-    requires { ⌜ now places ≡ placesOf (now words) ⌝ }
-    ensures { λ r. ⌜ r ≡ takenAt (now (words .entry)) action s t ⌝ }
+// `own` is the automata's own sets.
+pub(crate) fn taken(words: &[u32], x: Layout, own: &[u64], s: State, action: u32, t: State) -> bool
+    ensures { λ r. ⌜ r ≡ takenAt (now (words .entry)) x (now (own .entry)) action s t ⌝ }
 {
-    let n = automata(words);
-    let v = settled::shown(words);
+    let n = table_places::automata_of(x);
+    let v = table_places::variables_of(x);
     let old = s.locations;
     let new = t.locations;
     let before = s.values;
     let after = t.values;
     found(
         words,
-        places,
+        x,
+        own,
         &old[..n],
         &new[..n],
         &before[..v],
@@ -80,10 +67,8 @@ pub(crate) fn taken(words: &[u32], places: &[usize; 17], s: State, action: u32, 
 }
 
 // The mark: is the action in the whole's set?
-pub(crate) fn mark(words: &[u32], places: &[usize; 17], action: u32) -> bool
-    requires { ⌜ now places ≡ placesOf (now words) ⌝ }
-    ensures { λ r. ⌜ r ≡ markAt (now (words .entry)) action ⌝ }
+pub(crate) fn mark(words: &[u32], x: Layout, own: &[u64], action: u32) -> bool
+    ensures { λ r. ⌜ r ≡ markAt (now (words .entry)) x (now (own .entry)) action ⌝ }
 {
-    let sets = judge_candidates::own_sets(words);
-    table_tree::in_set(words, places::tree(words, places), &sets, action)
+    table_tree::in_set(words, table_places::nodes_at(words, x.tree), own, action)
 }

@@ -20,20 +20,9 @@ use Rattle.node_words.specs.declared.Node.{Node}
 use Rattle.node_words.specs.declared.Node.the-variants.{New}
 use Rattle.node_words.specs.Nodes.{meant, nodeOf}
 use Rattle.node_words.proofs.NodeLaws.{word-by, Other, by-others}
+use Rattle.table_places.specs.AtMost.{atMost}
 use Rattle.judge_search.specs.Masks.{mask}
-use Rattle.judge_candidates.specs.Bits.{cap, clear, withBit, leftOut, restOf, differs, changedBits, agrees, stillBits}
-
--- `cap`
-module _ (n most : ℕ) where
-  pub cap-all : n ≤ most → n ≡ cap n most
-  unfolding cap
-  cap-all h = rw (le-leb n most h, cap)
-
-  pub cap-most : most < n → most ≡ cap n most
-  unfolding cap
-  cap-most h = rw (lt-leb n most h, cap)
-
-pub ruleset cap-laws = (cap-all, cap-most)
+use Rattle.judge_candidates.specs.Bits.{clear, withBit, leftOut, restOf, differs, changedBits, agrees, stillBits}
 
 -- `power`
 pub power-is : (k : ℕ) → k < 64 → (1 * 2 ^ k) % 2 ^ 64 ≡ 2 ^ k
@@ -117,18 +106,6 @@ module _ (t : List ℕ) (i left mask whole : ℕ) (inv : restOf mask (take left 
 
 pub ruleset rest-laws = (rest-done, rest-past, rest-step)
 
-pub cap-below : (n most r : ℕ) → r ≡ cap n most → r ≤ most
-unfolding cap
-cap-below n most r e = go (leb n most) refl
-  where
-    go : (b : Bool) → leb n most ≡ b → r ≤ most
-    go true h = let l = leb-true n most h in let q : r ≡ n = e ∙ rw (h, cap) in omega arith
-    go false h = let q : r ≡ most = e ∙ rw (h, cap) in omega arith
-
--- so a loop over so many begins within the bound
-pub cap-start : (n most r : ℕ) → r ≡ cap n most → 0 + r ≤ most
-cap-start n most r e = let l = cap-below n most r e in omega arith
-
 -- `with_bit`
 module _ (s k : ℕ) (b : Bool) where
   pub with-true : b ≡ true → (p : ℕ) → p ≡ 2 ^ k → p + s ≡ withBit s k b
@@ -173,9 +150,9 @@ pub record Noted (f : ℕ → Bool) (most n k s : ℕ) : Type 0 where
   pub low : k ≤ n
   pub few : n ≤ most
 
-pub noted-start : (f : ℕ → Bool) (most n l : ℕ) → n ≡ cap l most → Noted f most n 0 0
+pub noted-start : (f : ℕ → Bool) (most n : ℕ) → n ≤ most → Noted f most n 0 0
 unfolding mask
-noted-start f most n l e = record { is = refl; low = omega arith; few = cap-below l most n e }
+noted-start f most n h = record { is = refl; low = omega arith; few = h }
 
 module _ (f : ℕ → Bool) (most n k s : ℕ) (h : Noted f most n k s) where
   pub noted-room : k < n → most ≤ 64 → (k < 64) × (s < 2 ^ k)
@@ -195,12 +172,12 @@ module _ (f : ℕ → Bool) (most n k s : ℕ) (h : Noted f most n k s) where
   noted-done : n ≤ k → s ≡ mask f n
   noted-done l = let e : k ≡ n = omega arith in h .is ∙ ap (mask f) e
 
-pub changed-is : (before after : List ℤ) (n k s : ℕ) → n ≡ cap (length before) maxVariables → Noted (differs before after) maxVariables n k s → n ≤ k
+pub changed-is : (before after : List ℤ) (n k s : ℕ) → n ≡ atMost maxVariables (length before) → Noted (differs before after) maxVariables n k s → n ≤ k
     → s ≡ changedBits before after
 unfolding changedBits
 changed-is before after n k s e h l = noted-done (differs before after) maxVariables n k s h l ∙ ap (mask (differs before after)) e
 
-pub still-is : (old new : List ℕ) (n k s : ℕ) → n ≡ cap (length old) maxAutomata → Noted (agrees old new) maxAutomata n k s → n ≤ k
+pub still-is : (old new : List ℕ) (n k s : ℕ) → n ≡ atMost maxAutomata (length old) → Noted (agrees old new) maxAutomata n k s → n ≤ k
     → s ≡ stillBits old new
 unfolding stillBits
 still-is old new n k s e h l = noted-done (agrees old new) maxAutomata n k s h l ∙ ap (mask (agrees old new)) e

@@ -14,57 +14,38 @@ use Rattle.model.specs.Limits.{inRange}
 use Rattle.model.specs.Bounds.{maxEdges}
 use Rattle.model.specs.Predicate.{words, holds, nodeCount}
 use Rattle.model.specs.Model.{Edge, Automaton, Model, automaton}
-use Rattle.model.specs.Lines.{edgeLine, automatonLines}
-use Rattle.model.specs.Table.{code, predWords, lineWords}
+use Rattle.model.specs.Lines.{edgeLine}
+use Rattle.model.specs.Table.{code, lineWords}
 use Rattle.model.specs.Rules.{State, at}
 use Rattle.model.specs.Moves.{under}
 use Rattle.model.specs.Judge.{updated, led}
 use Rattle.evaluator.specs.Evaluate.{evaluate}
-use Rattle.table_places.specs.Outline.{reach, afterPredicate, edgesAt}
-use Rattle.table_places.proofs.OutlineLaws.{reached, read, after-predicate, wordsOf, edgeWords, edges-at, first-edge}
+use Rattle.table_places.specs.Outline.{nodesPlace, afterPredicate, edgeFrom, edgeAction, edgeTo, updatePlace, firstEdge}
+use Rattle.table_places.proofs.OutlineLaws.{node-count, nodes-stand, from-stands, action-stands, to-stands, update-stands, next-edge, edgeWords}
 use Rattle.judge_search.specs.Search.{isCandidate, candidates}
 use Rattle.judge_search.specs.Masks.{restMask}
 use Rattle.judge_candidates.specs.declared.edges.Leg.{Leg}
-use Rattle.judge_candidates.specs.Walk.{Walk, walk, fitsAt, restAt, legOf, takesAt, edgeOn, edgesFrom, automatonOn}
+use Rattle.judge_candidates.specs.Walk.{Walk, walk, Kept, fitsAt, restAt, legOf, takesAt, edgeOn, edgesFrom, automatonOn}
 use Rattle.judge_candidates.proofs.MaskLaws.{rest-mask}
 use Rattle.judge_candidates.proofs.WalkLaws.{edge-not, edge-taken}
 
 -- what stands at the words of an edge
 module _ (w rest : List ℕ) (e : Edge) (at : ℕ) (d : drop at w ≡ lineWords (edgeLine e) ++ rest) where
-  from-stands : getD w at 0 ≡ e .from
-  unfolding lineWords
-  from-stands = read w at (e .from) _ d
-
-  action-stands : getD w (reach w at 1) 0 ≡ e .action
-  unfolding lineWords
-  action-stands = read w (reach w at 1) (e .action) _ (reached w at 1 (e .from ∷ []) _ d refl)
-
-  to-stands : getD w (reach w at 2) 0 ≡ e .to
-  unfolding lineWords
-  to-stands = read w (reach w at 2) (e .to) _ (reached w at 2 (e .from ∷ e .action ∷ []) _ d refl)
-
-  update-stands : drop (reach w at 3) w ≡ predWords (e .update) ++ rest
-  unfolding lineWords
-  update-stands = reached w at 3 (e .from ∷ e .action ∷ e .to ∷ []) _ d refl
-
-  nodes-stand : drop (reach w at 4) w ≡ map code (words (e .update)) ++ rest
-  unfolding lineWords predWords
-  nodes-stand = reached w at 4 (e .from ∷ e .action ∷ e .to ∷ nodeCount (e .update) ∷ []) _ d refl
+  -- its nodes
+  update-nodes : drop (nodesPlace w (updatePlace w at)) w ≡ map code (words (e .update)) ++ rest
+  update-nodes = nodes-stand w (updatePlace w at) (e .update) rest (update-stands w rest e at d)
 
   -- so these are what the code finds there
   pub fits-edge : (leg : Leg) → fitsAt w leg at ≡ ((eqb (e .from) (leg .from) && eqb (e .action) (leg .action)) && eqb (e .to) (leg .to))
   unfolding fitsAt
-  fits-edge leg = rw (from-stands, action-stands, to-stands)
+  fits-edge leg = rw (from-stands w rest e at d, action-stands w rest e at d, to-stands w rest e at d)
 
   pub rest-edge : every inRange (words (e .update)) ≡ true → restAt w at ≡ restMask e
-  unfolding restAt predWords nodeCount
+  unfolding restAt nodeCount
   rest-edge ranged =
       let ws = words (e .update) in
-      let n : getD w (reach w at 3) 0 ≡ length ws = read w (reach w at 3) (length ws) (map code ws ++ rest) update-stands in
-      rw (n, nodes-stand, take-at (map code ws) rest (length ws) (simp length-map)) (rest-mask e ranged)
-
-  pub next-edge : drop (afterPredicate w (reach w at 3)) w ≡ rest
-  next-edge = after-predicate w (reach w at 3) (e .update) rest update-stands
+      let n : getD w (updatePlace w at) 0 ≡ length ws = node-count w (updatePlace w at) (e .update) rest (update-stands w rest e at d) in
+      rw (n, update-nodes, take-at (map code ws) rest (length ws) (simp length-map)) (rest-mask e ranged)
 
 eqb-swap : (a b : ℕ) → eqb a b ≡ eqb b a
 eqb-swap a b = go (eqb b a) refl
@@ -102,7 +83,7 @@ module _ (w : List ℕ) (m : Model) (s : State) (a : ℕ) (t : State) (k : ℕ) 
       → takesAt w (s .values) (t .values) leg place ≡ isOffered e
   unfolding takesAt legOf isCandidate updated led
   takes-edge rest e place d said =
-      rw (fits-edge w rest e place d leg, said .means (reach w place 4) rest (nodes-stand w rest e place d), eqb-swap (e .from) (at s k), eqb-swap (e .to) (at t k))
+      rw (fits-edge w rest e place d leg, said .means (nodesPlace w (updatePlace w place)) rest (update-nodes w rest e place d), eqb-swap (e .from) (at s k), eqb-swap (e .to) (at t k))
       (four-tests (eqb (at s k) (e .from)) (eqb (e .action) a) (eqb (at t k) (e .to)) (holds (s .values) (t .values) (e .update)))
 
   abbrev offeredOf : List Edge → List Edge
@@ -145,7 +126,7 @@ module _ (w : List ℕ) (m : Model) (s : State) (a : ℕ) (t : State) (k : ℕ) 
       (later : (y : Walk) → y .count + length es ≤ maxEdges → maxEdges ≤ length (y .masks) → drop (y .next) w ≡ edgeWords es ++ rest
       → Stored (map restMask (offeredOf es)) rest y (from (length es) y)) where
     abbrev next : ℕ
-    next = afterPredicate w (reach w (x .next) 3)
+    next = afterPredicate w (updatePlace w (x .next))
 
     step-in : isOffered e ≡ true → Stored (map restMask (offeredOf (e ∷ es))) rest x (from (length es) (on x))
     step-in h =
@@ -156,7 +137,7 @@ module _ (w : List ℕ) (m : Model) (s : State) (a : ℕ) (t : State) (k : ℕ) 
         let l : c < maxEdges = omega arith in
         let y = walk (set (x .masks) c r) next (c + 1) in
         let is : y ≡ on x =
-        edge-taken w (s .values) (t .values) leg (x .masks) (x .next) c (reach w (x .next) 3) next refl refl l (isOffered e)
+        edge-taken w (s .values) (t .values) leg (x .masks) (x .next) c (updatePlace w (x .next)) next refl refl l (isOffered e)
         (sym (takes-edge others e (x .next) d said)) h r (sym (rest-edge w others e (x .next) d (said .ranged))) in
         let size : length (set (x .masks) c r) ≡ length (x .masks) = length-set (x .masks) c r in
         let z = later y (omega arith) (omega arith) (next-edge w others e (x .next) d) in
@@ -175,7 +156,7 @@ module _ (w : List ℕ) (m : Model) (s : State) (a : ℕ) (t : State) (k : ℕ) 
         let l : x .count < maxEdges = omega arith in
         let y = walk (x .masks) next (x .count) in
         let is : y ≡ on x =
-        edge-not w (s .values) (t .values) leg (x .masks) (x .next) (x .count) (reach w (x .next) 3) next refl refl l (isOffered e)
+        edge-not w (s .values) (t .values) leg (x .masks) (x .next) (x .count) (updatePlace w (x .next)) next refl refl l (isOffered e)
         (sym (takes-edge others e (x .next) d said)) h in
         let z = later y (omega arith) long (next-edge w others e (x .next) d) in
         rw (offered-out e es h, ← is) (record { masks = z .masks; count = z .count; long = z .long; stands = z .stands })
@@ -197,14 +178,17 @@ module _ (w : List ℕ) (m : Model) (s : State) (a : ℕ) (t : State) (k : ℕ) 
       step-stored rest e es x room long (said e (List·Memᴰ·head refl)) (d ∙ append-assoc (lineWords (edgeLine e)) (edgeWords es) rest)
       (λ y r l f. edges-stored rest es y r l (λ v i. said v (List·Memᴰ·tail i)) f)
 
-  -- the automaton that stands at the walk's place
-  pub automaton-stored : (rest : List ℕ) (x : Automaton) (y : Walk) → y .count + length (x .edges) ≤ maxEdges → maxEdges ≤ length (y .masks)
-      → ((e : Edge) → List·Memᴰ e (x .edges) → Said e) → drop (y .next) w ≡ wordsOf (automatonLines x) ++ rest
-      → Stored (map restMask (offeredOf (x .edges))) rest y (automatonOn w (s .values) (t .values) leg y)
+  -- the same between two automata
+  pub record Added (found : List ℕ) (x y : Kept) : Type 0 where
+    pub masks : take (y .count) (y .masks) ≡ take (x .count) (x .masks) ++ found
+    pub count : y .count ≡ x .count + length found
+    pub long : length (y .masks) ≡ length (x .masks)
+
+  -- an automaton's edges, by the place of their number
+  pub automaton-added : (rest : List ℕ) (x : Automaton) (place : ℕ) (g : Kept) → g .count + length (x .edges) ≤ maxEdges → maxEdges ≤ length (g .masks)
+      → ((e : Edge) → List·Memᴰ e (x .edges) → Said e) → getD w place 0 ≡ length (x .edges) → drop (firstEdge w place) w ≡ edgeWords (x .edges) ++ rest
+      → Added (map restMask (offeredOf (x .edges))) g (automatonOn w (s .values) (t .values) leg place g)
   unfolding automatonOn
-  automaton-stored rest x y room long said d =
-      let n = length (x .edges) in
-      let z = walk (y .masks) (reach w (edgesAt w (y .next)) 1) (y .count) in
-      let r = edges-stored rest (x .edges) z room long said (first-edge w rest x (y .next) d) in
-      rw (read w (edgesAt w (y .next)) n (edgeWords (x .edges) ++ rest) (edges-at w rest x (y .next) d))
-      (record { masks = r .masks; count = r .count; long = r .long; stands = r .stands })
+  automaton-added rest x place g room long said n d =
+      let r = edges-stored rest (x .edges) (walk (g .masks) (firstEdge w place) (g .count)) room long said d in
+      rw n (record { masks = r .masks; count = r .count; long = r .long })

@@ -22,7 +22,8 @@ use Rattle.judge_cover.proofs.BitLaws.{bit-under, bit-top}
 use Rattle.judge_search.specs.Search.{unmoved}
 use Rattle.judge_search.specs.Masks.{mask, restMask, changedMask}
 use Rattle.judge_candidates.specs.Bits.{clear, allVariables, leftOut, restOf, differs, changedBits, agrees, stillBits}
-use Rattle.judge_candidates.proofs.BitsLaws.{mask-below, cap-all}
+use Rattle.table_places.proofs.CodeLaws.{at-most-all}
+use Rattle.judge_candidates.proofs.BitsLaws.{mask-below}
 
 -- bits past a word's end
 bit-past : (x k : ℕ) → x < 2 ^ k → bit x k ≡ false
@@ -169,10 +170,10 @@ rest-mask e h =
 pub changed-mask : (m : Model) (s t : State) → length (s .values) ≡ length (m .variables) → length (m .variables) ≤ maxVariables
     → changedBits (s .values) (t .values) ≡ changedMask m s t
 unfolding changedBits changedMask differs
-changed-mask m s t e h = ap (mask (differs (s .values) (t .values))) (sym (cap-all (length (s .values)) maxVariables (rw e h)) ∙ e)
+changed-mask m s t e h = ap (mask (differs (s .values) (t .values))) (sym (at-most-all maxVariables (length (s .values)) (rw e h)) ∙ e)
 
 pub still-bit : (s t : State) (k : ℕ) → length (s .locations) ≤ maxAutomata → k < length (s .locations)
     → bit (stillBits (s .locations) (t .locations)) k ≡ unmoved s t k
 unfolding stillBits agrees unmoved
 still-bit s t k h l =
-    rw (← cap-all (length (s .locations)) maxAutomata h) (mask-bit (agrees (s .locations) (t .locations)) (length (s .locations)) k l)
+    rw (← at-most-all maxAutomata (length (s .locations)) h) (mask-bit (agrees (s .locations) (t .locations)) (length (s .locations)) k l)

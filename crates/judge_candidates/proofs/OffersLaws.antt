@@ -21,12 +21,15 @@ use Rattle.model.specs.Table.{code, sheetWords}
 use Rattle.arithmetic.specs.Values.{Inside}
 use Rattle.evaluator.proofs.Meaning.{evaluate-lawful}
 use Rattle.evaluator.proofs.FewNodes.{update-nodes}
-use Rattle.table_places.specs.Outline.{reach, countAt}
+use Rattle.table_places.specs.Outline.{firstEdge, edgesAt, automatonAt}
+use Rattle.table_places.specs.Layout.{layoutOf, automataOf}
+use Rattle.table_places.proofs.OutlineLaws.{automatonWords, edge-count, first-edge}
+use Rattle.table_places.proofs.Standing.{automaton-stands}
+use Rattle.table_places.proofs.LayoutLaws.{all-automata, edges-place}
 use Rattle.judge_search.specs.Search.{isCandidate, candidates}
 use Rattle.judge_search.specs.Masks.{restMask, Offers}
-use Rattle.judge_candidates.specs.Walk.{walk, Gathering, gathering, legOf, automatonOn, automatonNext, automataFrom, gatherFrom, masksAfter, firstAfter}
-use Rattle.judge_candidates.proofs.Passing.{Passed, others, passed-here, passed-none, all-counted}
-use Rattle.judge_candidates.proofs.EdgeLaws.{Said, Stored, automaton-stored}
+use Rattle.judge_candidates.specs.Walk.{kept, Gathering, gathering, legOf, automatonOn, automatonNext, automataFrom, gatherFrom, masksAfter, firstAfter}
+use Rattle.judge_candidates.proofs.EdgeLaws.{Said, Added, automaton-added}
 
 module _ {A : Type 0} where
   item-in : (l : List A) (k : ℕ) (d : A) → k < length l → List·Memᴰ (getD l k d) l
@@ -80,7 +83,6 @@ module _ (w rest : List ℕ) (m : Model) (ok : Lawful m) (sheet : w ≡ sheetWor
 
   -- what has been gathered when k automata have been passed
   record Gathered (k : ℕ) (g : Gathering) : Type 0 where
-    stands : Passed w rest m k (g .on .next)
     masks : take (g .on .count) (g .on .masks) ≡ founds k
     count : g .on .count ≡ length (founds k)
     room : g .on .count + edgeTotal (drop k (m .automata)) ≤ maxEdges
@@ -89,7 +91,7 @@ module _ (w rest : List ℕ) (m : Model) (ok : Lawful m) (sheet : w ≡ sheetWor
     first-long : maxAutomata < length (g .first)
 
   abbrev next : ℕ → Gathering → Gathering
-  next = automatonNext w (s .values) (t .values) (s .locations) (t .locations) a
+  next = automatonNext w (s .values) (t .values) (layoutOf w .edges) (s .locations) (t .locations) a
 
   found-fewer : (k : ℕ) → length (found k) ≤ length (automaton m k .edges)
   unfolding candidates under
@@ -109,11 +111,17 @@ module _ (w rest : List ℕ) (m : Model) (ok : Lawful m) (sheet : w ≡ sheetWor
     unfolding edgeTotal
     total = ap edgeTotal (drop-cons (m .automata) k nobody h)
 
-    stored : Stored w m s a t k (found k) (others w rest m k) (g .on) (automatonOn w (s .values) (t .values) (legOf (s .locations) (t .locations) a k) (g .on))
+    abbrev place : ℕ
+    place = getD (layoutOf w .edges) k 0
+
+    stored : Added w m s a t k (found k) (g .on) (automatonOn w (s .values) (t .values) (legOf (s .locations) (t .locations) a k) place (g .on))
     unfolding candidates
     stored =
-        automaton-stored w m s a t k (others w rest m k) x (g .on) (omega (arith, total, is .room)) (is .long) (update-said k h)
-        (passed-here w rest m k (g .on .next) h (is .stands))
+        let here = automaton-stands w rest m k h sheet in
+        let p : place ≡ edgesAt w (automatonAt w k) = edges-place m ok w rest sheet k h in
+        automaton-added w m s a t k _ x place (g .on) (omega (arith, total, is .room)) (is .long) (update-said k h)
+        (ap (λ i. getD w i 0) p ∙ edge-count w _ x (automatonAt w k) here)
+        (ap (λ i. drop (firstEdge w i) w) p ∙ first-edge w _ x (automatonAt w k) here)
 
     ends : length (founds (suc k)) ≡ length (founds k) + length (found k)
     unfolding founds
@@ -126,7 +134,6 @@ module _ (w rest : List ℕ) (m : Model) (ok : Lawful m) (sheet : w ≡ sheetWor
         let n = r .count ∙ ap (λ (i : ℕ). i + length (found k)) (is .count) ∙ sym ends in
         let size = length-set (g .first) (k + 1) (next k g .on .count) in
         record {
-          stands = r .stands;
           masks = r .masks ∙ ap (λ (l : List ℕ). l ++ found k) (is .masks);
           count = n;
           room = omega (arith, r .count, found-fewer k, total, is .room);
@@ -146,7 +153,7 @@ module _ (w rest : List ℕ) (m : Model) (ok : Lawful m) (sheet : w ≡ sheetWor
             rw (z, ← add-one k) (getD-set-same (g .first) (k + 1) (next k g .on .count) 0 v ∙ n)
 
   all-gathered : (left k : ℕ) (g : Gathering) → k + left ≡ length (m .automata) → Gathered k g
-      → Gathered (length (m .automata)) (automataFrom w (s .values) (t .values) (s .locations) (t .locations) a left k g)
+      → Gathered (length (m .automata)) (automataFrom w (s .values) (t .values) (layoutOf w .edges) (s .locations) (t .locations) a left k g)
   unfolding automataFrom
   all-gathered zero k g e is =
       let z : k ≡ length (m .automata) = omega arith in
@@ -187,13 +194,12 @@ module _ (w rest : List ℕ) (m : Model) (ok : Lawful m) (sheet : w ≡ sheetWor
 
   module _ (masks first : List ℕ) (long : maxEdges ≤ length masks) (first-long : maxAutomata < length first) where
     abbrev start : Gathering
-    start = gathering (walk masks (reach w (countAt w) 1) 0) (set first 0 0)
+    start = gathering (kept masks 0) (set first 0 0)
 
     gathered-start : Gathered 0 start
     unfolding founds
     gathered-start =
         record {
-          stands = passed-none w rest m sheet;
           masks = refl;
           count = refl;
           room = omega (arith, ok .few-edges);
@@ -202,13 +208,13 @@ module _ (w rest : List ℕ) (m : Model) (ok : Lawful m) (sheet : w ≡ sheetWor
           first-long = omega (arith, length-set first 0 0);
         }
 
-    all-of : Gathered (length (m .automata)) (gatherFrom w (s .values) (t .values) (s .locations) (t .locations) a masks (set first 0 0))
+    all-of : Gathered (length (m .automata)) (gatherFrom w (s .values) (t .values) (layoutOf w .edges) (s .locations) (t .locations) a (automataOf (layoutOf w)) masks (set first 0 0))
     unfolding gatherFrom
     all-of =
-        rw (all-counted w rest m sheet ok) (all-gathered (length (m .automata)) 0 start (omega arith) gathered-start)
+        rw (all-automata m ok w rest sheet) (all-gathered (length (m .automata)) 0 start (omega arith) gathered-start)
 
     pub gather-offers : Offers m s a t
-        (masksAfter w (s .values) (t .values) (s .locations) (t .locations) a masks first)
-        (firstAfter w (s .values) (t .values) (s .locations) (t .locations) a masks first)
+        (masksAfter w (s .values) (t .values) (layoutOf w) (s .locations) (t .locations) a masks first)
+        (firstAfter w (s .values) (t .values) (layoutOf w) (s .locations) (t .locations) a masks first)
     unfolding masksAfter firstAfter
-    gather-offers = gathered-offers (gatherFrom w (s .values) (t .values) (s .locations) (t .locations) a masks (set first 0 0)) all-of
+    gather-offers = gathered-offers (gatherFrom w (s .values) (t .values) (layoutOf w .edges) (s .locations) (t .locations) a (automataOf (layoutOf w)) masks (set first 0 0)) all-of

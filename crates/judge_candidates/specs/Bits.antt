@@ -4,15 +4,13 @@ use mathlib.Core.List.{List, [], _∷_}
 use Prim.Native.Nat.{ℕ, _+_, _-_, _^_}
 use lib.IntN.{ℤ, pos}
 use lib.ListN.{length, getD}
-use lib.Dec.{eqb, leb}
+use lib.Dec.{eqb}
 use Rattle.model.specs.Basic.{eqZ}
 use Rattle.model.specs.Bounds.{maxVariables, maxAutomata}
 use Rattle.model.specs.Predicate.{named, nothing, theOld, theNew}
 use Rattle.model.specs.Table.{bit, wordOf}
+use Rattle.table_places.specs.AtMost.{atMost}
 use Rattle.judge_search.specs.Masks.{mask}
-
-unfoldable pub cap : (n most : ℕ) → ℕ
-cap n most = elim (leb n most) [ true ↦ n | false ↦ most ]
 
 -- k taken out of a set, or put into one that has only smaller numbers if the test says so
 unfoldable pub clear : (set k : ℕ) → ℕ
@@ -38,10 +36,10 @@ unfoldable pub differs : (before after : List ℤ) → ℕ → Bool
 differs before after k = not (eqZ (getD before k (pos 0)) (getD after k (pos 0)))
 
 unfoldable pub changedBits : (before after : List ℤ) → ℕ
-changedBits before after = mask (differs before after) (cap (length before) maxVariables)
+changedBits before after = mask (differs before after) (atMost maxVariables (length before))
 
 unfoldable pub agrees : (old new : List ℕ) → ℕ → Bool
 agrees old new k = eqb (getD old k 0) (getD new k 0)
 
 unfoldable pub stillBits : (old new : List ℕ) → ℕ
-stillBits old new = mask (agrees old new) (cap (length old) maxAutomata)
+stillBits old new = mask (agrees old new) (atMost maxAutomata (length old))

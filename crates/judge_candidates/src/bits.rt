@@ -3,16 +3,10 @@ use node_words::Node;
 ghost use mathlib.Core.Path.{_≡_};
 ghost use Prim.Native.Nat.{_^_, _<_};
 ghost use lib.ListN.{take, drop};
-ghost use Rattle.judge_candidates.specs.Bits.{cap, clear, withBit, leftOut, restOf, allVariables, differs, changedBits, agrees, stillBits};
+ghost use Rattle.judge_candidates.specs.Bits.{clear, withBit, leftOut, restOf, allVariables, differs, changedBits, agrees, stillBits};
 
 // All 48 variables.
 const ALL: u64 = 281474976710655;
-
-pub fn cap(n: usize, most: usize) -> usize
-    ensures { λ r. ⌜ r ≡ cap n most ⌝ }
-{
-    if n <= most { n } else { most }
-}
 
 fn power(k: u32) -> u64
     requires { ⌜ k < 64 ⌝ }
@@ -83,7 +77,7 @@ fn differs(before: &[i32], after: &[i32], k: usize) -> bool
 pub fn changed(before: &[i32], after: &[i32]) -> u64
     ensures { λ r. ⌜ r ≡ changedBits (now (before .entry)) (now (after .entry)) ⌝ }
 {
-    let variables = cap(before.len(), model::Model::VARIABLES);
+    let variables = table_places::at_most(model::Model::VARIABLES, before.len());
     let mut set: u64 = 0;
     let mut k = 0;
     while k < variables {
@@ -103,7 +97,7 @@ fn agrees(old: &[u32], new: &[u32], k: usize) -> bool
 pub fn still(old: &[u32], new: &[u32]) -> u32
     ensures { λ r. ⌜ r ≡ stillBits (now (old .entry)) (now (new .entry)) ⌝ }
 {
-    let automata = cap(old.len(), model::Model::AUTOMATA);
+    let automata = table_places::at_most(model::Model::AUTOMATA, old.len());
     let mut set: u64 = 0;
     let mut k = 0;
     while k < automata {

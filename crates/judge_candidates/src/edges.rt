@@ -1,7 +1,8 @@
 // The edges that each automaton can take.
 use crate::bits::{self};
+use table_places::Layout;
 ghost use mathlib.Core.Path.{_≡_};
-ghost use Rattle.judge_candidates.specs.Walk.{walk, fitsAt, takesAt, restAt, edgeOn, edgesFrom, automatonOn, legOf, masksAfter, firstAfter};
+ghost use Rattle.judge_candidates.specs.Walk.{walk, kept, fitsAt, takesAt, restAt, edgeOn, edgesFrom, automatonOn, legOf, masksAfter, firstAfter};
 
 // What a step asks of an automaton's edge: from where it leads, its action, and where to.
 pub struct Leg {
@@ -16,13 +17,13 @@ pub struct Reached {
     pub count: usize,
 }
 
-// An edge's first three words are the leg's numbers.
+// An edge's FROM, ACT and TO are the leg's numbers.
 fn fits(words: &[u32], at: usize, leg: Leg) -> bool
     ensures { λ r. ⌜ r ≡ fitsAt (now (words .entry)) leg at ⌝ }
 {
-    let from = table_places::word(words, at);
-    let action = table_places::word(words, table_places::step(words, at, 1));
-    let to = table_places::word(words, table_places::step(words, at, 2));
+    let from = table_places::edge_from(words, at);
+    let action = table_places::edge_action(words, at);
+    let to = table_places::edge_to(words, at);
     (from == leg.from) & (action == leg.action) & (to == leg.to)
 }
 
@@ -31,7 +32,8 @@ fn takes(words: &[u32], at: usize, leg: Leg, before: &[i32], after: &[i32]) -> b
     ensures { λ r. ⌜ r ≡ takesAt (now (words .entry)) (now (before .entry)) (now (after .entry)) leg at ⌝ }
 {
     if fits(words, at, leg) {
-        return evaluator::holds(words, table_places::step(words, at, 4), before, after);
+        let nodes = table_places::nodes_at(words, table_places::update_at(words, at));
+        return evaluator::holds(words, nodes, before, after);
     }
     false
 }
@@ -40,8 +42,9 @@ fn takes(words: &[u32], at: usize, leg: Leg, before: &[i32], after: &[i32]) -> b
 fn rest_at(words: &[u32], at: usize) -> u64
     ensures { λ r. ⌜ r ≡ restAt (now (words .entry)) at ⌝ }
 {
-    let nodes = table_places::word(words, table_places::step(words, at, 3));
-    bits::rest(words, table_places::step(words, at, 4), nodes)
+    let update = table_places::update_at(words, at);
+    let nodes = table_places::word(words, update);
+    bits::rest(words, table_places::nodes_at(words, update), nodes)
 }
 
 // One edge: its mask is stored if the edge can be taken and there is room.
@@ -57,7 +60,7 @@ fn edge(
     ensures { λ r. ⌜ walk (now (masks .exit)) (r .next) (r .count)
         ≡ edgeOn (now (words .entry)) (now (before .entry)) (now (after .entry)) leg (walk (now (masks .entry)) at count) ⌝ }
 {
-    let next = table_places::after_predicate(words, table_places::step(words, at, 3));
+    let next = table_places::after_predicate(words, table_places::update_at(words, at));
     if model::Model::EDGES <= count {
         return Reached { next, count };
     }
@@ -100,23 +103,23 @@ fn edges(
     }
 }
 
-// The edges of the automaton at a place.
+// The edges of an automaton whose number of edges stands at `place`. Gives how many masks are stored then.
 fn automaton(
     words: &[u32],
-    at: usize,
+    place: usize,
     leg: Leg,
     before: &[i32],
     after: &[i32],
     masks: &mut [u64; 512],
     count: usize,
-) -> Reached
-    ensures { λ r. ⌜ walk (now (masks .exit)) (r .next) (r .count)
-        ≡ automatonOn (now (words .entry)) (now (before .entry)) (now (after .entry)) leg (walk (now (masks .entry)) at count) ⌝ }
+) -> usize
+    ensures { λ r. ⌜ kept (now (masks .exit)) r
+        ≡ automatonOn (now (words .entry)) (now (before .entry)) (now (after .entry)) leg place (kept (now (masks .entry)) count) ⌝ }
 {
-    let place = table_places::edges_at(words, at);
     let number = table_places::word(words, place);
-    let start = table_places::step(words, place, 1);
-    edges(words, start, number, leg, before, after, masks, count)
+    let start = table_places::first_edge(words, place);
+    let r = edges(words, start, number, leg, before, after, masks, count);
+    r.count
 }
 
 // What the step asks of automaton k.
@@ -134,6 +137,7 @@ fn leg_of(old: &[u32], new: &[u32], action: u32, k: usize) -> Leg
 // as the mask of the variables that the update does not mention. Automaton k's stand in masks[first[k]..first[k + 1]].
 pub fn gather(
     words: &[u32],
+    x: Layout,
     old: &[u32],
     new: &[u32],
     before: &[i32],
@@ -143,25 +147,21 @@ pub fn gather(
     first: &mut [usize; 17],
 )
     ensures { λ _. ⌜ now (masks .exit)
-        ≡ masksAfter (now (words .entry)) (now (before .entry)) (now (after .entry)) (now (old .entry)) (now (new .entry)) action
+        ≡ masksAfter (now (words .entry)) (now (before .entry)) (now (after .entry)) x (now (old .entry)) (now (new .entry)) action
         (now (masks .entry)) (now (first .entry)) ⌝ }
     ensures { λ _. ⌜ now (first .exit)
-        ≡ firstAfter (now (words .entry)) (now (before .entry)) (now (after .entry)) (now (old .entry)) (now (new .entry)) action
+        ≡ firstAfter (now (words .entry)) (now (before .entry)) (now (after .entry)) x (now (old .entry)) (now (new .entry)) action
         (now (masks .entry)) (now (first .entry)) ⌝ }
 {
-    let place = table_places::count_at(words);
-    let mut left = bits::cap(table_places::word(words, place), model::Model::AUTOMATA);
-    let mut at = table_places::step(words, place, 1);
+    let automata = table_places::automata_of(x);
+    let edges = x.edges;
     let mut k = 0;
     let mut count = 0;
     first[0] = 0;
-    while left != 0 {
+    while k < automata {
         let leg = leg_of(old, new, action, k);
-        let r = automaton(words, at, leg, before, after, masks, count);
-        at = r.next;
-        count = r.count;
+        count = automaton(words, edges[k], leg, before, after, masks, count);
         k += 1;
         first[k] = count;
-        left -= 1;
     }
 }

@@ -20,7 +20,7 @@ use Rattle.model.specs.Linear.{pointer, atLocations, atAutomata, mergedInit, me
 use Rattle.model.proofs.LinearLimits.{preds-count, locations-length, automata-length}
 use Rattle.table_places.specs.Outline.{reach, afterPredicate, afterAutomaton, automatonAt}
 use Rattle.table_places.proofs.OutlineLaws as O
-use Rattle.table_places.proofs.OutlineLaws.{read, locationWords, automatonWords, locations-count, first-location, after-automaton, after-predicate}
+use Rattle.table_places.proofs.OutlineLaws.{locationWords, automatonWords, after-automaton, after-predicate}
 use Rattle.node_words.specs.declared.Node.the-variants.{All, Number, Old}
 use Rattle.node_words.specs.Nodes.{wordFor}
 use Rattle.node_words.proofs.NodeLaws.{unbiased-up, all-held, old-held, number-held}
@@ -30,7 +30,7 @@ use Rattle.merge_words.specs.NodeWords.{upward, allNode, numberNode, oldNode, p
 use Rattle.merge_words.specs.Head.{variablesOf, automataOf}
 use Rattle.merge_words.specs.Clauses.{partAt, clauseWords, locationClauses, automatonClauses, automataClauses, locationNodes, automataNodes, locationTotal, mergedNodes, mergedWords}
 use Rattle.merge_words.proofs.NodeLaws.{capped-over, capped-is}
-use Rattle.merge_table.proofs.Standing.{narrow-is, run-length, count-stands, nodes-stand, automata-cons}
+use Rattle.merge_table.proofs.Standing.{narrow-is, run-length, count-stands, nodes-stand, automata-cons, locations-number, locations-stand}
 use Rattle.merge_table.proofs.HeadIs.{pointer-sum, upward-small, variables-are, automata-are, automata-stand, few-locations}
 
 -- sums that stay within a word
@@ -175,14 +175,14 @@ module _ (m : Model) (inv : Bool) (part : Location → Pred) (stands : Part inv 
   automata-clauses-are (x ∷ xs) v i at rest ev hv h few e =
       let f = automata-cons t at x xs rest e in
       let others = automatonWords xs ++ rest in
-      let n : getD t (reach t at 2) 0 ≡ length (x .locations) = read t (reach t at 2) (length (x .locations)) _ (locations-count t others x at f) in
+      let n : getD t (reach t at 2) 0 ≡ length (x .locations) = locations-number t others x at f in
       let s = few x (List·Memᴰ·head refl) in
       let k : pointerOf v i ≡ v + i = pointer-sum v i (omega arith) (omega arith) in
       let kp : pointerOf v i ≡ pointer m i = k ∙ point v i ev in
       let kh : pointerOf v i < 65536 = omega arith in
       let small : 0 + length (x .locations) < 65536 = omega arith in
       let c : locationClauses t inv (pointerOf v i) 0 (getD t (reach t at 2) 0) (reach t at 3) ≡ codes (atLocations m part i 0 (x .locations)) =
-      ap (λ c. locationClauses t inv (pointerOf v i) 0 c (reach t at 3)) n ∙ locations-are (x .locations) i (pointerOf v i) 0 (reach t at 3) _ kp kh small (first-location t others x at f) in
+      ap (λ c. locationClauses t inv (pointerOf v i) 0 c (reach t at 3)) n ∙ locations-are (x .locations) i (pointerOf v i) 0 (reach t at 3) _ kp kh small (locations-stand t others x at f) in
       let o = automata-clauses-are xs v (suc i) (afterAutomaton t at) rest ev hv (omega arith) (λ y q. few y (List·Memᴰ·tail q)) (after-automaton t others x at f) in
       rw (add-one i) (ap₂ (λ (a b : List ℕ). a ++ b) c o ∙ sym (codes-append (atLocations m part i 0 (x .locations)) (atAutomata m part (suc i) xs)))
     where
@@ -198,7 +198,7 @@ totals m part t (x ∷ xs) i at sum rest h e =
     let f = automata-cons t at x xs rest e in
     let others = automatonWords xs ++ rest in
     let l = length (x .locations) in
-    let n : getD t (reach t at 2) 0 ≡ length (x .locations) = read t (reach t at 2) (length (x .locations)) _ (locations-count t others x at f) in
+    let n : getD t (reach t at 2) 0 ≡ length (x .locations) = locations-number t others x at f in
     let more = atAutomata m part (suc i) xs in
     let size : sum + l + length more ≡ sum + length (atLocations m part i 0 (x .locations) ++ more) = omega (arith, length-append (atLocations m part i 0 (x .locations)) more, locations-length m part i 0 (x .locations)) in
     ap (λ c. locationTotal t (length xs) (afterAutomaton t at) (capped (sum + c))) n ∙

@@ -27,7 +27,7 @@ use Rattle.merge_words.specs.MergedEdges.{countsOf, rootOf, moveTotal, movesOf}
 use Rattle.merge_words.specs.Sync.{ownSets}
 use Rattle.merge_words.proofs.NodeLaws.{capped-over, capped-is}
 use Rattle.merge_table.proofs.HeadIs.{pointer-sum, variables-are, automata-are}
-use Rattle.merge_table.proofs.SyncIs.{tree-stands}
+use Rattle.merge_table.proofs.SyncIs.{root-stands}
 use Rattle.merge_table.proofs.AllEdgesAre.{told}
 
 -- a sum above 512 stays above it where it is cut to a word
@@ -60,7 +60,7 @@ module _ (m : Model) (lawful : Lawful m) (t rest : List ℕ) (e : t ≡ sheetWor
   total-cut : (action : ℕ) → moveTotal t (ownSets t) action ≡ M.capped (moveCount m action (m .tree))
   unfolding moveTotal
   total-cut action =
-      ap (λ (p : Planned). p .count) (plan-is t (ownSets t) (countsOf t action) m action (rootOf t) lawful (tree-stands m lawful t rest e) (told m lawful t rest e action))
+      ap (λ (p : Planned). p .count) (plan-is t (ownSets t) (countsOf t action) m action (rootOf t) lawful (root-stands m lawful t rest e) (told m lawful t rest e action))
 
   -- up to 512 the sum is exact
   few-are : (n a s : ℕ) → s + countFrom m a n ≤ maxEdges → movesOf t (ownSets t) a n s ≡ s + countFrom m a n

@@ -19,12 +19,12 @@ use Rattle.model.specs.Lines.{locationLines}
 use Rattle.model.specs.Linear.{pointer, atLocations, atAutomata, mergedInit, mergedInv, pointerMoves, mergedEdge}
 use Rattle.model.proofs.Tests.{exists-append}
 use Rattle.table_places.specs.Outline.{reach, afterPredicate, afterAutomaton, automatonAt}
-use Rattle.table_places.proofs.OutlineLaws.{read, locationWords, automatonWords, locations-count, first-location, after-automaton}
+use Rattle.table_places.proofs.OutlineLaws.{locationWords, automatonWords, after-automaton}
 use Rattle.merge_words.specs.Head.{automataOf}
 use Rattle.merge_words.specs.Clauses.{partAt}
 use Rattle.merge_words.specs.MergedEdge.{takers}
 use Rattle.merge_words.specs.Depths.{isDeeper, locationsDeeper, automataDeeper, mergedDeep, updatesDeep}
-use Rattle.merge_table.proofs.Standing.{automata-cons}
+use Rattle.merge_table.proofs.Standing.{automata-cons, locations-number, locations-stand}
 use Rattle.merge_table.proofs.HeadIs.{automata-are, automata-stand}
 use Rattle.merge_table.proofs.ClausesAre.{Part, init-part, inv-part, location-cons, past-location}
 use Rattle.merge_table.proofs.DepthsAre.{Readable, readable, deeper-stands}
@@ -103,9 +103,9 @@ module _ (m : Model) (inv : Bool) (part : Location → Pred) (stands : Part inv 
     automata-read (x ∷ xs) at rest shallow e =
         let f = automata-cons t at x xs rest e in
         let others = automatonWords xs ++ rest in
-        let n : getD t (reach t at 2) 0 ≡ length (x .locations) = read t (reach t at 2) (length (x .locations)) _ (locations-count t others x at f) in
+        let n : getD t (reach t at 2) 0 ≡ length (x .locations) = locations-number t others x at f in
         ap₂ (λ (a b : Bool). a || b)
-        (ap (λ c. locationsDeeper t inv 22 c (reach t at 3)) n ∙ locations-read (x .locations) (reach t at 3) _ (shallow x (List·Memᴰ·head refl)) (first-location t others x at f))
+        (ap (λ c. locationsDeeper t inv 22 c (reach t at 3)) n ∙ locations-read (x .locations) (reach t at 3) _ (shallow x (List·Memᴰ·head refl)) (locations-stand t others x at f))
         (automata-read xs (afterAutomaton t at) rest (λ y q. shallow y (List·Memᴰ·tail q)) (after-automaton t others x at f))
 
   whole-deep : (lawful : Lawful m) (t rest : List ℕ) → t ≡ sheetWords m ++ rest → ((l : Location) → LawfulLocation (m .variables) l → Readable (part l))

@@ -24,8 +24,8 @@ use Rattle.model.specs.Linear.{pointer, pointerMoves, mergedEdge}
 use Rattle.model.proofs.Tests.{exists-append}
 use Rattle.model.proofs.Lists.{keep-out}
 use Rattle.model.proofs.LinearLimits.{preds-count, pointers-length}
-use Rattle.table_places.specs.Outline.{reach, afterPredicate, edgesAt, afterAutomaton, automatonAt}
-use Rattle.table_places.proofs.OutlineLaws.{read, reached, wordsOf as linesOf, edgeWords, automatonWords, after-predicate, sheet-parts, edges-at, first-edge, after-automaton}
+use Rattle.table_places.specs.Outline.{reach, nodesPlace, afterPredicate, edgesAt, afterAutomaton, automatonAt}
+use Rattle.table_places.proofs.OutlineLaws.{read, reached, wordsOf as linesOf, edgeWords, automatonWords, after-predicate, sheet-parts, edges-at, after-automaton}
 use Rattle.merge_words.specs.Runs.{nodesAt}
 use Rattle.node_words.specs.declared.Node.the-variants.{New}
 use Rattle.node_words.specs.Nodes.{wordFor}
@@ -33,10 +33,11 @@ use Rattle.node_words.proofs.NodeLaws.{new-held}
 use Rattle.merge_words.specs.NodeWords.{allNode, numberNode, oldNode, newNode, pointerOf, most, capped}
 use Rattle.merge_words.specs.Head.{variablesOf, automataOf}
 use Rattle.merge_words.specs.Depths.{updateDeep, updatesDeep}
-use Rattle.merge_words.specs.MergedEdge.{isUnder, still, edgeUnder, takenAt, takenFrom, atMost, takers, updateAt, moveAt, updatesAt, movesAt, takerNodes, takersNodes, takerOperands, takersOperands, edgeBy, edgeWordsAt}
+use Rattle.table_places.specs.AtMost.{atMost}
+use Rattle.merge_words.specs.MergedEdge.{isUnder, still, edgeUnder, takenAt, takenFrom, takers, updateAt, moveAt, updatesAt, movesAt, takerNodes, takersNodes, takerOperands, takersOperands, edgeBy, edgeWordsAt}
 use Rattle.merge_words.proofs.NodeLaws.{capped-is}
 use Rattle.merge_words.proofs.EdgeLaws.{at-most-is}
-use Rattle.merge_table.proofs.Standing.{narrow-is, run-length, nodes-stand, automata-cons}
+use Rattle.merge_table.proofs.Standing.{narrow-is, run-length, nodes-stand, automata-cons, edges-stand}
 use Rattle.merge_table.proofs.HeadIs.{pointer-sum, variables-are, automata-are, automata-stand}
 use Rattle.merge_table.proofs.ClausesAre.{capped-most, capped-add, codes, codes-append, codes-cons, number-code, old-code, all-code}
 use Rattle.merge_table.proofs.DepthsAre.{Readable, readable, deeper-stands}
@@ -70,7 +71,7 @@ reach-above t a n h k = go (leb (a + n) (length t)) refl
     go false e = rw (e, reach) h
 
 under-above : (t : List ℕ) (action j n at : ℕ) → 1 ≤ length t → 1 ≤ at → 1 ≤ edgeUnder t action j n at
-unfolding edgeUnder afterPredicate
+unfolding edgeUnder afterPredicate nodesPlace
 under-above t action j zero at h k = h
 under-above t action j (suc n) at h k = go (isUnder t action at && eqb j 0) (under-above t action (still (isUnder t action at) j) n (afterPredicate t (reach t at 3)) h next)
   where
@@ -221,7 +222,7 @@ taker-adds m t A action i (suc j) at x rest lawful hv hi some e few =
     let n : getD t (edgesAt t at) 0 ≡ length (x .edges) = read t (edgesAt t at) (length (x .edges)) _ (edges-at t rest x at e) in
     let first = reach t (edgesAt t at) 1 in
     let place = edgeUnder t action j (length (x .edges)) first in
-    let s = under-stands t action (x .edges) j first rest (omega arith) (first-edge t rest x at e) in
+    let s = under-stands t action (x .edges) j first rest (omega arith) (edges-stand t rest x at e) in
     let above = under-above t action j (length (x .edges)) first some (reach-above t (edgesAt t at) 1 some (omega arith)) in
     let d = getD (under action (x .edges)) j noEdge in
     let l = lawful .edges d (keep-out (λ y. eqb (y .action) action) (x .edges) (member-at (under action (x .edges)) j (omega arith)) .0) in

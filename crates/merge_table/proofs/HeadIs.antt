@@ -13,13 +13,13 @@ use Rattle.model.specs.Lawful.{Lawful}
 use Rattle.model.specs.Lines.{formatLine, actionsLine, variablesLine, variableLine, automataLine, composeLine, automatonLines}
 use Rattle.model.specs.Table.{biased, lineWords, sheetWords}
 use Rattle.model.specs.Linear.{pointerRange, linear}
-use Rattle.table_places.specs.Outline.{reach, afterAutomaton, countAt, automatonAt}
-use Rattle.table_places.proofs.OutlineLaws.{read, reached, wordsOf, automatonWords, words-append, locations-count, after-automaton, ranges-length, sheet-parts, count-at, automaton-at}
+use Rattle.table_places.specs.Outline.{reach, actionsIn, variablesIn, automataIn, afterAutomaton, countAt, automatonAt}
+use Rattle.table_places.proofs.OutlineLaws.{reached, wordsOf, automatonWords, words-append, after-automaton, sheet-parts, actions-in, variables-in, automata-in, automaton-at}
 use Rattle.merge_words.specs.Append.{narrow}
 use Rattle.merge_words.specs.Runs.{run}
 use Rattle.merge_words.specs.NodeWords.{upward, pointerOf}
 use Rattle.merge_words.specs.Head.{variablesOf, automataOf, lastLocationAt, pointerRanges, headWords}
-use Rattle.merge_table.proofs.Standing.{narrow-is, run-is, automata-cons}
+use Rattle.merge_table.proofs.Standing.{narrow-is, run-is, automata-cons, locations-number}
 
 -- sums of small numbers
 pub pointer-sum : (v i : ℕ) → v < 4294967296 → i < 4294967296 → pointerOf v i ≡ v + i
@@ -30,6 +30,12 @@ pub upward-small : (z : ℕ) → z < 4294967296 → upward z ≡ bias + z
 unfolding upward
 upward-small z h = rw (narrow-is z h)
 
+-- two words a variable
+ranges-length : (vs : List Range) → length (wordsOf (map variableLine vs)) ≡ length vs + length vs
+unfolding flatMap lineWords
+ranges-length [] = refl
+ranges-length (v ∷ vs) = omega (arith, ranges-length vs)
+
 -- the pointers' ranges
 pub pointers-are : (t : List ℕ) (xs : List Automaton) (rest : List ℕ) (at : ℕ) → ((x : Automaton) → List·Memᴰ x xs → length (x .locations) ≤ maxLocations)
     → drop at t ≡ automatonWords xs ++ rest → pointerRanges t at (length xs) ≡ wordsOf (map variableLine (map pointerRange xs))
@@ -37,7 +43,7 @@ unfolding pointerRanges lastLocationAt flatMap lineWords pointerRange range bias
 pointers-are t [] rest at few e = refl
 pointers-are t (x ∷ xs) rest at few e =
     let f = automata-cons t at x xs rest e in
-    let n : getD t (reach t at 2) 0 ≡ length (x .locations) = read t (reach t at 2) (length (x .locations)) _ (locations-count t (automatonWords xs ++ rest) x at f) in
+    let n : getD t (reach t at 2) 0 ≡ length (x .locations) = locations-number t (automatonWords xs ++ rest) x at f in
     let s = few x (List·Memᴰ·head refl) in
     let small : length (x .locations) - 1 < 4294967296 = omega arith in
     let top : upward (getD t (reach t at 2) 0 - 1) ≡ bias + pred (length (x .locations)) =
@@ -47,16 +53,19 @@ pointers-are t (x ∷ xs) rest at few e =
 
 module _ (m : Model) (lawful : Lawful m) (t rest : List ℕ) (e : t ≡ sheetWords m ++ rest) where
   pub variables-are : variablesOf t ≡ length (m .variables)
-  variables-are = ap (λ (l : List ℕ). getD l 2 0) (sheet-parts t rest m e)
+  unfolding variablesIn
+  variables-are = variables-in t rest m e
 
   format-is : getD t 0 0 ≡ m .format
   format-is = ap (λ (l : List ℕ). getD l 0 0) (sheet-parts t rest m e)
 
   pub actions-are : getD t 1 0 ≡ m .actions
-  actions-are = ap (λ (l : List ℕ). getD l 1 0) (sheet-parts t rest m e)
+  unfolding actionsIn
+  actions-are = actions-in t rest m e
 
   pub automata-are : automataOf t ≡ length (m .automata)
-  automata-are = read t (countAt t) (length (m .automata)) _ (count-at t rest m e)
+  unfolding automataIn
+  automata-are = automata-in t rest m e
 
   pub automata-stand : drop (automatonAt t 0) t ≡ automatonWords (m .automata) ++ (lineWords (composeLine (m .tree)) ++ rest)
   automata-stand = automaton-at t rest m e 0 (omega arith)

@@ -21,7 +21,7 @@ use Rattle.table_check.specs.declared.Checked.the-variants.{Good, Refused}
 use Rattle.table_check.specs.Check.{answered}
 use Rattle.merge_words.specs.declared.Linearization.{Linearization}
 use Rattle.merge_words.specs.Append.{narrow, placed, Appended}
-use Rattle.merge_words.specs.MergedEdge.{atMost}
+use Rattle.table_places.specs.AtMost.{atMost}
 use Rattle.merge_words.specs.MergedEdges.{movesOf}
 use Rattle.merge_words.specs.MergedSheet.{mergedSheet}
 use Rattle.merge_words.specs.Sync.{ownSets}

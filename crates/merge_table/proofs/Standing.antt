@@ -9,8 +9,8 @@ use Rattle.model.specs.Predicate.{Pred, words, nodeCount}
 use Rattle.model.specs.Model.{Automaton}
 use Rattle.model.specs.Lines.{automatonLines}
 use Rattle.model.specs.Table.{code, predWords}
-use Rattle.table_places.specs.Outline.{reach}
-use Rattle.table_places.proofs.OutlineLaws.{read, reached, wordsOf, automatonWords, words-append}
+use Rattle.table_places.specs.Outline.{reach, locationCount, firstLocation, firstEdge, edgesAt}
+use Rattle.table_places.proofs.OutlineLaws.{read, reached, wordsOf, locationWords, edgeWords, automatonWords, words-append, location-count, first-location, first-edge}
 use Rattle.merge_words.specs.Append.{narrow}
 use Rattle.merge_words.specs.Runs.{run, nodesAt}
 
@@ -50,3 +50,17 @@ pub automata-cons : (t : List ℕ) (at : ℕ) (x : Automaton) (xs : List Automat
 unfolding flatMap
 automata-cons t at x xs rest e =
     e ∙ ap (λ (l : List ℕ). l ++ rest) (words-append (automatonLines x) (flatMap automatonLines xs)) ∙ append-assoc (wordsOf (automatonLines x)) (automatonWords xs) rest
+
+-- an automaton's parts, by the distances that the merger's definitions name
+module _ (t rest : List ℕ) (x : Automaton) (at : ℕ) (e : drop at t ≡ wordsOf (automatonLines x) ++ rest) where
+  pub locations-number : getD t (reach t at 2) 0 ≡ length (x .locations)
+  unfolding locationCount
+  locations-number = location-count t rest x at e
+
+  pub locations-stand : drop (reach t at 3) t ≡ locationWords (x .locations) ++ (length (x .edges) ∷ (edgeWords (x .edges) ++ rest))
+  unfolding firstLocation
+  locations-stand = first-location t rest x at e
+
+  pub edges-stand : drop (reach t (edgesAt t at) 1) t ≡ edgeWords (x .edges) ++ rest
+  unfolding firstEdge
+  edges-stand = first-edge t rest x at e

@@ -1,39 +1,33 @@
 -- The synchronising set of the merged sheet is that of the merged model.
 use mathlib.Core.Path.{_≡_, refl, sym, ap, ap₂, _∙_}
-use mathlib.Core.Bool.{Bool, true, false, not, _&&_, and-false}
-use mathlib.Core.List.{List, [], _∷_, _++_, append-nil, map, flatMap, List·Memᴰ, List·Memᴰ·head, List·Memᴰ·tail}
+use mathlib.Core.Bool.{Bool, true, false, _&&_}
+use mathlib.Core.List.{List, [], _∷_, _++_, append-nil}
 use Prim.Native.Nat.{ℕ, zero, suc, _+_, _-_, _*_, _^_, _%_, _≤_, _<_}
 use native.Mathlib.Omega.{arith}
 use native.Mathlib.Nat.{zero-add, add-zero, add-mul, mul-assoc, mul-comm, one-mul, zero-mul, mod-eq-of-lt}
-use lib.ListN.{length, getD, take, drop, replicate, length-map, length-replicate, List·getD-append, List·getD-map}
-use lib.Seq.{sets, sets-eq, take-at}
-use lib.Dec.{eqb, leb, ltb}
-use lib.Pow.{pow-pos, pow-mono, pow-add}
+use lib.ListN.{length, getD, take, drop}
+use lib.Seq.{sets, take-at}
+use lib.Dec.{eqb, leb}
+use lib.Pow.{pow-mono, pow-add}
 use borrow.Author.Tests.{le-leb, lt-leb, ne-eqb}
 use Rattle.model.specs.Basic.{keep, member, countUp}
-use Rattle.model.specs.Bounds.{maxAutomata}
 use Rattle.model.specs.Composition.{treeSize}
 use Rattle.model.specs.Limits.{rises}
-use Rattle.model.specs.Model.{Automaton, Model, nobody, automaton, inSet}
+use Rattle.model.specs.Model.{Model, automaton, inSet}
 use Rattle.model.specs.Lawful.{Lawful}
-use Rattle.model.specs.Lines.{composeLine, automatonLines}
 use Rattle.model.specs.Table.{lowBits, highBits, setWords, bit, setOf, lineWords, sheetWords}
 use Rattle.model.proofs.Lists.{keep-append, keep-first, keep-skip, keep-same}
-use Rattle.model.proofs.Numbered.{numbered, size-is, Leaves, leaves-in}
-use Rattle.table_tree.specs.Sets.{oneWord}
+use Rattle.model.proofs.Numbered.{numbered, size-is, leaves-in}
 use Rattle.table_tree.specs.Nodes.{treeWords}
 use Rattle.table_tree.specs.Members.{inSetAt}
-use Rattle.table_tree.proofs.SetLaws.{set-member}
 use Rattle.table_tree.proofs.Inside.{list-back, in-set-of}
-use Rattle.table_places.specs.Outline.{reach, afterAutomaton, automatonAt, treeAt}
-use Rattle.table_places.proofs.OutlineLaws.{read, reached, automatonWords, after-automaton, tree-at}
-use Rattle.merge_words.specs.Head.{automataOf}
-use Rattle.merge_words.specs.MergedEdge.{atMost}
-use Rattle.merge_words.specs.Sync.{setsFrom, ownSets, isShared, shifted, bitsFrom, syncBy, syncWords}
-use Rattle.merge_words.proofs.EdgeLaws.{at-most-is}
-use Rattle.merge_table.proofs.Standing.{automata-cons}
-use Rattle.merge_table.proofs.HeadIs.{actions-are, automata-are, automata-stand}
-use Rattle.merge_table.proofs.EdgesAre.{zeros, drop-zeros}
+use Rattle.table_places.specs.Outline.{reach, nodesPlace, treeAt}
+use Rattle.table_places.proofs.OutlineLaws.{reached, tree-at}
+use Rattle.table_places.proofs.LayoutLaws.{tree-place}
+use Rattle.table_places.proofs.AgreeLaws.{own-agrees}
+use Rattle.merge_words.specs.MergedEdges.{rootOf}
+use Rattle.merge_words.specs.Sync.{ownSets, isShared, shifted, bitsFrom, syncBy, syncWords}
+use Rattle.merge_table.proofs.HeadIs.{actions-are}
 
 -- the sum of g over the numbers k below n of which f holds, counted from a number on
 unfoldable sumOf : (g : ℕ → ℕ) (f : ℕ → Bool) (from n : ℕ) → ℕ
@@ -222,54 +216,10 @@ set-fits A list few r =
     let h : highBits list ≡ sumOf power (λ k. bit high (k - 32)) 32 32 = ap highBits (sym back) ∙ high-append p q ∙ omega arith in
     (omega (arith, sum-below (bit low) 0 32), omega (arith, sum-below (λ k. bit high (k - 32)) 32 32))
 
--- the automata's own sets
-abbrev pub ownOf : Automaton → ℕ
-ownOf x = oneWord (lowBits (x .sync)) (highBits (x .sync))
-
-sets-are : (t : List ℕ) (xs : List Automaton) (at : ℕ) (rest : List ℕ) → drop at t ≡ automatonWords xs ++ rest → setsFrom t (length xs) at ≡ map ownOf xs
-unfolding setsFrom flatMap automatonLines lineWords setWords
-sets-are t [] at rest e = refl
-sets-are t (x ∷ xs) at rest e =
-    let f = automata-cons t at x xs rest e in
-    let low : getD t at 0 ≡ lowBits (x .sync) = read t at (lowBits (x .sync)) _ f in
-    let high : getD t (reach t at 1) 0 ≡ highBits (x .sync) = read t (reach t at 1) (highBits (x .sync)) _ (reached t at 1 (lowBits (x .sync) ∷ []) _ f refl) in
-    ap₂ (λ (y : ℕ) (l : List ℕ). y ∷ l) (ap₂ oneWord low high) (sets-are t xs (afterAutomaton t at) rest (after-automaton t (automatonWords xs ++ rest) x at f))
-
 module _ (m : Model) (lawful : Lawful m) (t rest : List ℕ) (e : t ≡ sheetWords m ++ rest) where
-  own-are : ownSets t ≡ map ownOf (m .automata) ++ zeros (16 - length (m .automata))
-  unfolding ownSets
-  own-are =
-      let n = length (m .automata) in
-      let few = lawful .few-automata in
-      let count : atMost maxAutomata (automataOf t) ≡ n = ap (atMost maxAutomata) (automata-are m lawful t rest e) ∙ sym (at-most-is n few) in
-      let ps = map ownOf (m .automata) in
-      let size : length ps ≡ n = length-map (m .automata) ownOf in
-      let end : 0 + length ps ≡ n = omega arith in
-      let room : 0 + length ps ≤ length (zeros 16) = omega (arith, length-replicate {A = ℕ} 16 0) in
-      ap (λ c. sets (zeros 16) 0 (setsFrom t c (automatonAt t 0))) count ∙ ap (sets (zeros 16) 0) (sets-are t (m .automata) (automatonAt t 0) _ (automata-stand m lawful t rest e)) ∙
-      sets-eq ps (zeros 16) 0 room ∙ ap (λ (l : List ℕ). ps ++ l) (ap (λ c. drop c (zeros 16)) end ∙ drop-zeros n 16 few)
-
-  own-at : (k : ℕ) → k < length (m .automata) → getD (ownSets t) k 0 ≡ ownOf (automaton m k)
-  unfolding oneWord lowBits highBits
-  own-at k h =
-      let inside : k < length (map ownOf (m .automata)) = omega (arith, length-map (m .automata) ownOf) in
-      ap (λ (l : List ℕ). getD l k 0) own-are ∙ List·getD-append (map ownOf (m .automata)) (zeros (16 - length (m .automata))) 0 k inside ∙ List·getD-map ownOf (m .automata) k nobody
-
-  -- each says of an action what the model says
+  -- the automata's own sets: each says of an action what the model says
   pub own-agree : (action k : ℕ) → k < length (m .automata) → bit (getD (ownSets t) k 0) action ≡ member action (automaton m k .sync)
-  own-agree action k h =
-      let r = rising k h in
-      let f = set-fits (m .actions) (automaton m k .sync) (lawful .few-actions) r in
-      set-member (lowBits (automaton m k .sync)) (highBits (automaton m k .sync)) (f .0) (f .1) (getD (ownSets t) k 0) (own-at k h) action ∙
-      ap (member action) (list-back (m .actions) (automaton m k .sync) (lawful .few-actions) r)
-    where
-      among : (xs : List Automaton) (i : ℕ) → i < length xs → List·Memᴰ (getD xs i nobody) xs
-      among [] i l = absurd (omega arith)
-      among (x ∷ xs) zero l = List·Memᴰ·head refl
-      among (x ∷ xs) (suc i) l = List·Memᴰ·tail (among xs i (omega arith))
-
-      rising : (i : ℕ) → i < length (m .automata) → rises (m .actions) 0 (automaton m i .sync) ≡ true
-      rising i l = lawful .automata (automaton m i) (among (m .automata) i l) .sync
+  own-agree action k h = own-agrees m lawful t rest e action k
 
   -- where the tree's nodes stand
   pub tree-stands : take (length (treeWords (m .tree))) (drop (reach t (treeAt t) 1) t) ≡ treeWords (m .tree)
@@ -277,6 +227,11 @@ module _ (m : Model) (lawful : Lawful m) (t rest : List ℕ) (e : t ≡ sheetWor
   tree-stands =
       let d : drop (reach t (treeAt t) 1) t ≡ treeWords (m .tree) ++ rest = reached t (treeAt t) 1 (treeSize (m .tree) ∷ []) (treeWords (m .tree) ++ rest) (tree-at t rest m e) refl in
       ap (take (length (treeWords (m .tree)))) d ∙ take-at (treeWords (m .tree)) rest (length (treeWords (m .tree))) refl
+
+  -- where the layout has them
+  pub root-stands : take (length (treeWords (m .tree))) (drop (rootOf t) t) ≡ treeWords (m .tree)
+  unfolding nodesPlace
+  root-stands = ap (λ (i : ℕ). take (length (treeWords (m .tree))) (drop (reach t i 1) t)) (tree-place m lawful t rest e) ∙ tree-stands
 
   in-set-is : (action : ℕ) → inSetAt t (ownSets t) action (reach t (treeAt t) 1) ≡ inSet m action (m .tree)
   in-set-is action =

@@ -1,18 +1,25 @@
 -- The starts of the automata's edges, one after the other: a loop over them needs no walk over the table.
 use mathlib.Core.Path.{_≡_, refl, sym, ap, _∙_}
-use mathlib.Core.List.{List, [], _∷_, _++_}
+use mathlib.Core.List.{List, [], _∷_, _++_, map}
 use Prim.Native.Nat.{ℕ, zero, suc, _+_, _-_, _≤_, _<_}
 use native.Mathlib.Omega.{arith}
-use lib.ListN.{length, getD, drop, replicate, length-replicate}
-use lib.Seq.{sets, sets-eq, drop-drop}
+use lib.ListN.{length, getD, drop, replicate}
+use lib.Seq.{drop-drop}
 use Rattle.model.specs.Bounds.{maxAutomata}
-use Rattle.table_places.specs.Outline.{edgesAt, afterAutomaton, automatonAt}
+use Rattle.table_places.specs.declared.layout.Layout.{Layout}
+use Rattle.table_places.specs.AtMost.{atMost}
+use Rattle.table_places.specs.Outline.{nodesPlace, automataIn, edgesAt, afterAutomaton, passed, automatonAt}
+use Rattle.table_places.specs.Layout.{placesFrom, inArray, layoutOf}
 use Rattle.table_places.proofs.OutlineLaws.{read}
-use Rattle.merge_words.specs.declared.layout.Layout.{Layout}
+use Rattle.table_places.proofs.LayoutLaws.{array-is}
 use Rattle.merge_words.specs.Head.{automataOf}
-use Rattle.merge_words.specs.MergedEdge.{atMost}
 use Rattle.merge_words.specs.MergedEdges.{rootOf}
-use Rattle.merge_words.specs.Layout.{startsFrom, edgeStarts, layoutOf}
+use Rattle.merge_words.specs.Starts.{startsFrom, edgeStarts}
+
+starts-are : (t : List ℕ) (n at : ℕ) → map (edgesAt t) (placesFrom t n at) ≡ startsFrom t n at
+unfolding placesFrom startsFrom
+starts-are t zero at = refl
+starts-are t (suc n) at = ap (λ (l : List ℕ). edgesAt t at ∷ l) (starts-are t n (afterAutomaton t at))
 
 starts-length : (t : List ℕ) (n at : ℕ) → length (startsFrom t n at) ≡ n
 unfolding startsFrom
@@ -25,15 +32,15 @@ pub record Ahead (t starts : List ℕ) (count i place : ℕ) : Type 0 where
   pub there : drop i starts ≡ startsFrom t (count - i) place ++ rest
 
 pub ahead-begun : (t starts : List ℕ) (count : ℕ) → starts ≡ edgeStarts t → count ≡ atMost maxAutomata (automataOf t) → count ≤ 16 → Ahead t starts count 0 (automatonAt t 0)
-unfolding edgeStarts
 ahead-begun t starts count es e few =
     let ps = startsFrom t count (automatonAt t 0) in
-    let zeros : List ℕ = replicate 16 0 in
     let n = starts-length t count (automatonAt t 0) in
-    let room : 0 + length ps ≤ length zeros = omega (arith, length-replicate {A = ℕ} 16 0) in
     let z : count - 0 ≡ count = omega arith in
-    let whole : edgeStarts t ≡ ps ++ drop (0 + length ps) zeros = ap (λ (k : ℕ). sets zeros 0 (startsFrom t k (automatonAt t 0))) (sym e) ∙ sets-eq ps zeros 0 room in
-    record { rest = drop (0 + length ps) zeros; there = es ∙ whole ∙ ap (λ (k : ℕ). startsFrom t k (automatonAt t 0) ++ drop (0 + length ps) zeros) (sym z) }
+    let rest = drop (0 + length ps) (replicate maxAutomata (length t)) in
+    record { rest = rest; there = es ∙ listed ∙ array-is t ps (omega arith) ∙ ap (λ (k : ℕ). startsFrom t k (automatonAt t 0) ++ rest) (sym z) }
+  where
+    listed : layoutOf t .edges ≡ inArray t (startsFrom t count (automatonAt t 0))
+    listed = unfold layoutOf automataIn automatonAt passed in ap (inArray t) (starts-are t _ _ ∙ ap (λ (k : ℕ). startsFrom t k (automatonAt t 0)) (sym e))
 
 module _ (t starts : List ℕ) (count i place : ℕ) (a : Ahead t starts count i place) (h : i < count) where
   ahead-cons : drop i starts ≡ edgesAt t place ∷ (startsFrom t (count - (i + 1)) (afterAutomaton t place) ++ a .rest)
@@ -48,9 +55,7 @@ module _ (t starts : List ℕ) (count i place : ℕ) (a : Ahead t starts count i
 
 -- the two parts of a layout
 pub layout-edges : (t : List ℕ) (x : Layout) → x ≡ layoutOf t → x .edges ≡ edgeStarts t
-unfolding layoutOf
 layout-edges t x e = ap (λ (y : Layout). y .edges) e
 
-pub layout-root : (t : List ℕ) (x : Layout) → x ≡ layoutOf t → x .root ≡ rootOf t
-unfolding layoutOf
-layout-root t x e = ap (λ (y : Layout). y .root) e
+pub layout-root : (t : List ℕ) (x : Layout) (root : ℕ) → x ≡ layoutOf t → root ≡ nodesPlace t (x .tree) → root ≡ rootOf t
+layout-root t x root e f = f ∙ ap (λ (y : Layout). nodesPlace t (y .tree)) e

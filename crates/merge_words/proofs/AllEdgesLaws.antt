@@ -8,17 +8,19 @@ use native.Mathlib.Numerals.{sub-one, add-one}
 use lib.ListN.{length, getD, set, replicate, length-set}
 use lib.Seq.{sets}
 use Rattle.model.specs.Bounds.{maxAutomata, maxTreeNodes, tableWords}
-use Rattle.table_places.specs.Outline.{reach, afterPredicate, edgesAt, afterAutomaton, countAt, automatonAt}
+use Rattle.table_places.specs.Outline.{nodesPlace, reach, afterPredicate, edgesAt, afterAutomaton, countAt, automatonAt}
 use Rattle.merge_moves.specs.declared.planning.Planned.{Planned}
 use Rattle.merge_moves.specs.Plan.{planAt, fillAt, PlansTree}
 use Rattle.merge_moves.specs.Pick.{pickAt}
 use Rattle.merge_words.specs.Append.{narrow, Appended}
 use Rattle.merge_words.specs.NodeWords.{capped}
-use Rattle.merge_words.specs.MergedEdge.{isUnder, atMost, takers, edgeBy, edgeWordsAt}
+use Rattle.table_places.specs.AtMost.{atMost}
+use Rattle.merge_words.specs.MergedEdge.{isUnder, takers, edgeBy, edgeWordsAt}
 use Rattle.merge_words.specs.MergedEdges.{oneMore, underFrom, underAt, countsFrom, countsOf, rootOf, cellsOf, moveTotal, picksOf, placesOf, edgesFrom, edgesUnder, edgesOf, movesOf, Plans}
-use Rattle.merge_words.specs.declared.layout.Layout.{Layout}
+use Rattle.table_places.specs.declared.layout.Layout.{Layout}
 use Rattle.merge_words.specs.Head.{automataOf}
-use Rattle.merge_words.specs.Layout.{edgeStarts, layoutOf, underIn}
+use Rattle.table_places.specs.Layout.{layoutOf}
+use Rattle.merge_words.specs.Starts.{edgeStarts, underIn}
 use Rattle.merge_words.proofs.Ahead.{Ahead, ahead-begun, ahead-here, ahead-next, layout-root}
 use Rattle.merge_words.proofs.AppendLaws.{then, Underway, begun, on-by, ended}
 use Rattle.merge_words.proofs.EdgeLaws.{at-most-few}
@@ -117,21 +119,21 @@ module _ (t starts : List ℕ) (action : ℕ) where
 pub ruleset counting-laws = (counting-begun, counting-turn, counting-end)
 
 -- `plan`
-pub plan-is : (t own : List ℕ) (x : Layout) (action a : ℕ) (under before after : List ℕ) (r : Planned) → x ≡ layoutOf t → a ≡ action → under ≡ countsOf t a
-    → before ≡ replicate 192 0 → PlansTree t own under action (x .root) maxTreeNodes (x .root) before after r → Plans t own action after (r .count)
+pub plan-is : (t own : List ℕ) (x : Layout) (root action a : ℕ) (under before after : List ℕ) (r : Planned) → x ≡ layoutOf t → root ≡ nodesPlace t (x .tree) → a ≡ action → under ≡ countsOf t a
+    → before ≡ replicate 192 0 → PlansTree t own under action root maxTreeNodes root before after r → Plans t own action after (r .count)
 unfolding cellsOf moveTotal
-plan-is t own x action a under before after r ex ea eu eb h =
+plan-is t own x root action a under before after r ex er ea eu eb h =
     let u : under ≡ countsOf t action = eu ∙ ap (countsOf t) ea in
-    let s : x .root ≡ rootOf t = layout-root t x ex in
+    let s : root ≡ rootOf t = layout-root t x root ex er in
     let g : PlansTree t own under action (rootOf t) maxTreeNodes (rootOf t) before after r = subst (λ (k : ℕ). PlansTree t own under action k maxTreeNodes k before after r) s h in
     record { cells-are = g .cells ∙ rw (u, eb); count-is = ap (λ (q : Planned). q .count) (g .answer) ∙ rw u }
 
 -- `places_of`
-pub places-are : (t cells : List ℕ) (x : Layout) (action k : ℕ) (picks places : List ℕ) → x ≡ layoutOf t → picks ≡ pickAt t cells (x .root) maxTreeNodes (x .root) k (replicate 16 0)
+pub places-are : (t cells : List ℕ) (x : Layout) (root action k : ℕ) (picks places : List ℕ) → x ≡ layoutOf t → root ≡ nodesPlace t (x .tree) → picks ≡ pickAt t cells root maxTreeNodes root k (replicate 16 0)
     → places ≡ takers t action picks → places ≡ placesOf t cells action k
 unfolding placesOf picksOf
-places-are t cells x action k picks places ex ek el =
-    let q : picks ≡ pickAt t cells (rootOf t) maxTreeNodes (rootOf t) k (replicate 16 0) = ek ∙ ap (λ j. pickAt t cells j maxTreeNodes j k (replicate 16 0)) (layout-root t x ex) in
+places-are t cells x root action k picks places ex er ek el =
+    let q : picks ≡ pickAt t cells (rootOf t) maxTreeNodes (rootOf t) k (replicate 16 0) = ek ∙ ap (λ j. pickAt t cells j maxTreeNodes j k (replicate 16 0)) (layout-root t x root ex er) in
     el ∙ ap (takers t action) q
 
 -- `edge`

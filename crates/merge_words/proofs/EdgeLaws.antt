@@ -15,8 +15,9 @@ use Rattle.merge_words.specs.Append.{Appended}
 use Rattle.merge_words.specs.Runs.{nodesAt}
 use Rattle.merge_words.specs.NodeWords.{allNode, numberNode, oldNode, newNode, eqNode, pointerOf, capped}
 use Rattle.merge_words.specs.Head.{variablesOf, automataOf}
-use Rattle.merge_words.specs.MergedEdge.{isUnder, still, edgeUnder, takenAt, takenFrom, atMost, takers, updateAt, moveAt, updatesAt, movesAt, takerNodes, takersNodes, takerOperands, takersOperands, edgeBy}
-use Rattle.merge_words.specs.Layout.{edgeStarts, takenIn}
+use Rattle.table_places.specs.AtMost.{atMost}
+use Rattle.merge_words.specs.MergedEdge.{isUnder, still, edgeUnder, takenAt, takenFrom, takers, updateAt, moveAt, updatesAt, movesAt, takerNodes, takersNodes, takerOperands, takersOperands, edgeBy}
+use Rattle.merge_words.specs.Starts.{edgeStarts, takenIn}
 use Rattle.merge_words.proofs.Ahead.{Ahead, ahead-begun, ahead-here, ahead-next}
 use Rattle.merge_words.proofs.AppendLaws.{nothing, then, Underway, begun, on-by, ended}
 

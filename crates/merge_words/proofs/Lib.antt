@@ -4,7 +4,6 @@ pub mod HeadLaws
 pub mod ClauseLaws
 pub mod Ahead
 pub mod EdgeLaws
-pub mod LayoutLaws
 pub mod SyncLaws
 pub mod DepthLaws
 pub mod AllEdgesLaws

@@ -10,10 +10,13 @@ use borrow.Author.Tests.{le-leb, lt-leb, lt-ltb, le-ltb, eq-eqb, ne-eqb}
 use Rattle.model.specs.Bounds.{tableWords}
 use Rattle.merge_words.specs.declared.Linearization.{Linearization}
 use Rattle.merge_words.specs.declared.survey.Survey.{Survey}
+use Rattle.table_places.specs.declared.layout.Layout.{Layout}
 use Rattle.table_places.specs.Outline.{countAt}
+use Rattle.table_places.specs.Layout.{layoutOf}
+use Rattle.table_places.specs.Own as Own
 use Rattle.merge_words.specs.Append.{Appended}
 use Rattle.merge_words.specs.NodeWords.{pointerOf}
-use Rattle.merge_words.specs.MergedEdge.{atMost}
+use Rattle.table_places.specs.AtMost.{atMost}
 use Rattle.merge_words.specs.MergedEdges.{movesOf}
 use Rattle.merge_words.specs.MergedSheet.{mergedSheet}
 use Rattle.merge_words.specs.Sync.{ownSets}
@@ -95,9 +98,10 @@ module _ (t own : List ℕ) (edges last row : ℕ) (e : row ≡ faultBy t own ed
 pub ruleset admitted-laws = (admitted-in, admitted-out)
 
 -- `counted`
-pub counted-is : (t own : List ℕ) (last edges : ℕ) (r : Linearization) → own ≡ ownSets t → last ≡ lastAction t → edges ≡ movesOf t own 0 (last + 1) 0
+pub counted-is : (t own : List ℕ) (x : Layout) (last edges : ℕ) (r : Linearization) → x ≡ layoutOf t → own ≡ Own.ownSets t (x .sets) → last ≡ lastAction t → edges ≡ movesOf t own 0 (last + 1) 0
     → r ≡ linearFor t own edges last → r ≡ linearFor t (ownSets t) (movesOf t (ownSets t) 0 (lastAction t + 1) 0) (lastAction t)
-counted-is t own last edges r eo el ee h =
+counted-is t own x last edges r ex es el ee h =
+    let eo : own ≡ ownSets t = es ∙ ap (λ (y : Layout). Own.ownSets t (y .sets)) ex in
     let m : edges ≡ movesOf t (ownSets t) 0 (lastAction t + 1) 0 = ee ∙ ap₂ (λ (o : List ℕ) (l : ℕ). movesOf t o 0 (l + 1) 0) eo el in
     h ∙ ap (λ (o : List ℕ). linearFor t o edges last) eo ∙ ap₂ (λ (k l : ℕ). linearFor t (ownSets t) k l) m el
 

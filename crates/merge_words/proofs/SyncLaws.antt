@@ -4,57 +4,14 @@ use mathlib.Core.Bool.{Bool, true, false, not, _&&_}
 use mathlib.Core.List.{List, [], _∷_, _++_}
 use Prim.Native.Nat.{ℕ, zero, suc, _+_, _-_, _*_, _%_, _≤_, _<_}
 use native.Mathlib.Omega.{arith}
-use native.Mathlib.Numerals.{sub-one, add-one}
-use lib.ListN.{length, getD, set, replicate, length-set, List·getD-eq-default}
-use lib.Seq.{sets}
+use native.Mathlib.Numerals.{sub-one}
+use lib.ListN.{getD}
 use lib.Dec.{eqb, leb}
-use Rattle.model.specs.Bounds.{maxAutomata}
-use Rattle.table_tree.specs.Sets.{oneWord}
 use Rattle.table_tree.specs.Members.{inSetAt}
-use Rattle.table_places.specs.Outline.{reach, afterAutomaton, countAt, automatonAt, treeAt}
+use Rattle.table_places.specs.Outline.{reach, treeAt}
 use Rattle.merge_words.specs.Append.{Appended}
-use Rattle.merge_words.specs.MergedEdge.{atMost}
-use Rattle.merge_words.specs.Sync.{setsFrom, ownSets, isShared, shifted, bitsFrom, syncBy}
+use Rattle.merge_words.specs.Sync.{isShared, shifted, bitsFrom, syncBy}
 use Rattle.merge_words.proofs.AppendLaws.{then}
-use Rattle.merge_words.proofs.EdgeLaws.{at-most-few}
-
--- `word32`
-pub word-past : (t : List ℕ) (at : ℕ) → length t ≤ at → 0 ≡ getD t at 0
-word-past t at h = sym (List·getD-eq-default t 0 h)
-
--- `own_sets`: the sets so far, and those to come
-pub record Owning (t : List ℕ) (count i place : ℕ) (own : List ℕ) : Type 0 where
-  pub whole : sets own i (setsFrom t (count - i) place) ≡ ownSets t
-  pub few : count ≤ 16
-  pub inside : i ≤ count
-  pub long : length own ≡ 16
-
-module _ (t : List ℕ) where
-  pub owning-begun : (cp n count first : ℕ) → cp ≡ countAt t → n ≡ getD t cp 0 → count ≡ atMost maxAutomata n → first ≡ automatonAt t 0
-      → Owning t count 0 first (replicate 16 0)
-  unfolding ownSets
-  owning-begun cp n count first ec en e ef =
-      let z : count - 0 ≡ count = omega arith in
-      record { whole = rw (z, e, en, ec, ef); few = at-most-few n count e; inside = omega arith; long = refl }
-
-  module _ (count i place : ℕ) (own : List ℕ) (u : Owning t count i place own) where
-    pub owning-turn : i < count → (a s b x p : ℕ) → a ≡ getD t place 0 → s ≡ reach t place 1 → b ≡ getD t s 0 → x ≡ oneWord a b → p ≡ afterAutomaton t place
-        → Owning t count (i + 1) p (set own i x)
-    unfolding setsFrom
-    owning-turn h a s b x p ea es eb ex ep =
-        let n : count - i ≡ suc (count - (i + 1)) = omega arith in
-        record {
-          whole = let e = u .whole in rw (add-one i, ep, ex, ea, eb, es) (rw (n, add-one i) at e);
-          few = u .few;
-          inside = omega arith;
-          long = length-set own i x ∙ u .long;
-        }
-
-    pub owning-end : count ≤ i → own ≡ ownSets t
-    unfolding setsFrom
-    owning-end h = let z : count - i ≡ 0 = omega arith in rw z at (u .whole)
-
-pub ruleset owning-laws = (owning-begun, owning-turn, owning-end)
 
 -- `shared`
 pub shared-is : (t own : List ℕ) (action p at w : ℕ) (b : Bool) → p ≡ treeAt t → at ≡ reach t p 1 → b ≡ inSetAt t own action at → w ≡ getD t 1 0

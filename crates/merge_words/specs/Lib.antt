@@ -7,7 +7,7 @@ pub mod MergedEdge
 pub mod Sync
 pub mod Depths
 pub mod MergedEdges
-pub mod Layout
+pub mod Starts
 pub mod Survey
 pub mod MergedSheet
 pub mod Linearize

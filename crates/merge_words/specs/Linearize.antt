@@ -11,7 +11,7 @@ use Rattle.merge_words.specs.declared.Linearization.{Linearization}
 use Rattle.merge_words.specs.Append.{narrow}
 use Rattle.merge_words.specs.NodeWords.{pointerOf}
 use Rattle.merge_words.specs.Head.{variablesOf, automataOf}
-use Rattle.merge_words.specs.MergedEdge.{atMost}
+use Rattle.table_places.specs.AtMost.{atMost}
 use Rattle.merge_words.specs.MergedEdges.{movesOf}
 use Rattle.merge_words.specs.MergedSheet.{mergedSheet}
 use Rattle.merge_words.specs.Sync.{ownSets}

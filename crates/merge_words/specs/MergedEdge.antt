@@ -4,8 +4,9 @@ use mathlib.Core.List.{List, [], _∷_, _++_}
 use Prim.Native.Nat.{ℕ, zero, suc, _+_, _-_, _*_}
 use lib.ListN.{getD, length, replicate}
 use lib.Seq.{sets}
-use lib.Dec.{eqb, leb}
+use lib.Dec.{eqb}
 use Rattle.model.specs.Bounds.{maxAutomata}
+use Rattle.table_places.specs.AtMost.{atMost}
 use Rattle.table_places.specs.Outline.{reach, afterPredicate, edgesAt, afterAutomaton, automatonAt}
 use Rattle.merge_words.specs.Runs.{nodesAt}
 use Rattle.merge_words.specs.Head.{variablesOf, automataOf}
@@ -40,9 +41,6 @@ takenAt t action pick at =
 unfoldable pub takenFrom : (t : List ℕ) (action : ℕ) (picks : List ℕ) (i n at : ℕ) → List ℕ
 takenFrom t action picks i zero at = []
 takenFrom t action picks i (suc n) at = takenAt t action (getD picks i 0) at ∷ takenFrom t action picks (i + 1) n (afterAutomaton t at)
-
-unfoldable pub atMost : (most n : ℕ) → ℕ
-atMost most n = elim (leb n most) [ true ↦ n | false ↦ most ]
 
 -- for each automaton where its edge stands, 0 if it takes none
 unfoldable pub takers : (t : List ℕ) (action : ℕ) (picks : List ℕ) → List ℕ

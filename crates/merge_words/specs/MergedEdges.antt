@@ -6,13 +6,15 @@ use Prim.Native.Nat.{ℕ, zero, suc, _+_}
 use lib.ListN.{getD, replicate}
 use lib.Seq.{sets}
 use Rattle.model.specs.Bounds.{maxAutomata, maxTreeNodes}
-use Rattle.table_places.specs.Outline.{reach, afterPredicate, edgesAt, afterAutomaton, automatonAt, treeAt}
+use Rattle.table_places.specs.Outline.{reach, afterPredicate, edgesAt, afterAutomaton, automatonAt, nodesPlace}
+use Rattle.table_places.specs.Layout.{layoutOf}
 use Rattle.merge_moves.specs.Plan.{planAt, fillAt}
 use Rattle.merge_moves.specs.Pick.{pickAt}
 use Rattle.merge_words.specs.Append.{narrow}
 use Rattle.merge_words.specs.NodeWords.{capped}
 use Rattle.merge_words.specs.Head.{automataOf}
-use Rattle.merge_words.specs.MergedEdge.{isUnder, atMost, takers, edgeWordsAt}
+use Rattle.table_places.specs.AtMost.{atMost}
+use Rattle.merge_words.specs.MergedEdge.{isUnder, takers, edgeWordsAt}
 
 -- how many of n edges are under an action, added to a sum
 unfoldable pub oneMore : (here : Bool) (sum : ℕ) → ℕ
@@ -36,7 +38,7 @@ countsOf t action = sets (replicate maxAutomata 0) 0 (countsFrom t action (atMos
 
 -- where the tree's nodes stand
 abbrev pub rootOf : (t : List ℕ) → ℕ
-rootOf t = reach t (treeAt t) 1
+rootOf t = nodesPlace t (layoutOf t .tree)
 
 -- the plan of an action: the cells, and how many moves there are, at most 513
 unfoldable pub cellsOf : (t own : List ℕ) (action : ℕ) → List ℕ

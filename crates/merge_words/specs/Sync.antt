@@ -2,23 +2,16 @@
 use mathlib.Core.Bool.{Bool, true, false, not, _&&_}
 use mathlib.Core.List.{List, [], _∷_}
 use Prim.Native.Nat.{ℕ, zero, suc, _+_, _*_, _%_}
-use lib.ListN.{getD, replicate}
-use lib.Seq.{sets}
+use lib.ListN.{getD}
 use lib.Dec.{eqb, leb}
-use Rattle.model.specs.Bounds.{maxAutomata}
-use Rattle.table_tree.specs.Sets.{oneWord}
 use Rattle.table_tree.specs.Members.{inSetAt}
-use Rattle.table_places.specs.Outline.{reach, afterAutomaton, automatonAt, treeAt}
-use Rattle.merge_words.specs.Head.{automataOf}
-use Rattle.merge_words.specs.MergedEdge.{atMost}
+use Rattle.table_places.specs.Outline.{reach, treeAt}
+use Rattle.table_places.specs.Layout.{layoutOf}
+use Rattle.table_places.specs.Own as Own
 
--- the sets of n automata, the first standing at a place, each as one word
-unfoldable pub setsFrom : (t : List ℕ) (n at : ℕ) → List ℕ
-setsFrom t zero at = []
-setsFrom t (suc n) at = oneWord (getD t at 0) (getD t (reach t at 1) 0) ∷ setsFrom t n (afterAutomaton t at)
-
-unfoldable pub ownSets : (t : List ℕ) → List ℕ
-ownSets t = sets (replicate maxAutomata 0) 0 (setsFrom t (atMost maxAutomata (automataOf t)) (automatonAt t 0))
+-- the automata's own sets
+abbrev pub ownSets : (t : List ℕ) → List ℕ
+ownSets t = Own.ownSets t (layoutOf t .sets)
 
 -- is an action, from 1 to A, in the whole's set?
 unfoldable pub isShared : (t own : List ℕ) (action : ℕ) → Bool

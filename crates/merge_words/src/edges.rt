@@ -1,17 +1,17 @@
 // All merged edges: for each action its moves, one after the other.
-use crate::layout::Layout;
-use crate::layout::{self};
 use crate::merged_edge::{self};
 use crate::put::{self};
 use crate::words::{self};
 use model::Model;
+use table_places::Layout;
 ghost use mathlib.Core.Path.{_≡_};
 ghost use Prim.Native.Nat.{_+_, _≤_};
 ghost use lib.ListN.{length, replicate};
 ghost use Rattle.model.specs.Bounds.{tableWords};
 ghost use Rattle.merge_words.specs.Append.{narrow, Appended};
 ghost use Rattle.merge_words.specs.MergedEdge.{takers, edgeWordsAt};
-ghost use Rattle.merge_words.specs.Layout.{edgeStarts, layoutOf, underIn};
+ghost use Rattle.table_places.specs.Layout.{layoutOf};
+ghost use Rattle.merge_words.specs.Starts.{edgeStarts, underIn};
 ghost use Rattle.merge_words.specs.MergedEdges.{oneMore, underFrom, countsOf, cellsOf, moveTotal, picksOf, placesOf, edgesFrom, edgesUnder, edgesOf, movesOf, Plans};
 
 // For each automaton, how many edges it has under an action.
@@ -72,7 +72,8 @@ pub fn plan(t: &[u32], x: Layout, own: &[u64; 16], action: u32, cells: &mut [u32
     let starts = x.edges;
     let counts = counts_of(t, &starts, arithmetic::index(action));
     let under = counts.under;
-    let p = merge_moves::plan(t, x.root, own, &under, action, cells);
+    let root = table_places::nodes_at(t, x.tree);
+    let p = merge_moves::plan(t, root, own, &under, action, cells);
     p.count
 }
 
@@ -81,7 +82,8 @@ pub fn places_of(t: &[u32], x: Layout, action: usize, cells: &[u32; 192], k: u32
     requires { ⌜ x ≡ layoutOf (now t) ⌝ }
     ensures { λ r. ⌜ r ≡ placesOf (now (t .entry)) (now (cells .entry)) action k ⌝ }
 {
-    let picks = merge_moves::pick(t, x.root, cells, k);
+    let root = table_places::nodes_at(t, x.tree);
+    let picks = merge_moves::pick(t, root, cells, k);
     let starts = x.edges;
     let taken = merged_edge::takers_of(t, &starts, action, &picks);
     taken.places
@@ -157,7 +159,7 @@ pub fn all_edges(
     requires { ⌜ (length (now out) ≡ tableWords) × (last ≤ 4294967294) ⌝ }
     ensures { λ r. ⌜ Appended (edgesOf (now (t .entry)) (now (own .entry)) 0 (last + 1)) at (now (out .entry)) (now (out .exit)) r ⌝ }
 {
-    let x = layout::of(t);
+    let x = table_places::layout_of(t);
     let mut action = 0;
     let mut next = at;
     while action <= last {
@@ -181,7 +183,7 @@ pub fn all_moves(t: &[u32], own: &[u64; 16], last: u32) -> usize
     requires { ⌜ last ≤ 4294967294 ⌝ }
     ensures { λ r. ⌜ r ≡ movesOf (now (t .entry)) (now (own .entry)) 0 (last + 1) 0 ⌝ }
 {
-    let x = layout::of(t);
+    let x = table_places::layout_of(t);
     let mut action = 0;
     let mut sum = 0;
     while action <= last {

@@ -4,7 +4,6 @@ mod clauses;
 mod depth;
 mod edges;
 mod head;
-mod layout;
 mod merged_edge;
 mod put;
 mod rows;
@@ -68,11 +67,11 @@ fn admitted(t: &[u32], own: &[u64; 16], edges: usize, last: u32) -> Linearizatio
 fn counted(t: &[u32]) -> Linearization
     ensures { λ r. ⌜ r ≡ linearFor (now (t .entry)) (ownSets (now (t .entry))) (movesOf (now (t .entry)) (ownSets (now (t .entry))) 0 (lastAction (now (t .entry)) + 1) 0) (lastAction (now (t .entry))) ⌝ }
 {
-    let own = sync::own_sets(t);
-    let sets = own.sets;
+    let x = table_places::layout_of(t);
+    let own = table_places::own_sets(t, x);
     let last = rows::last_action(t);
-    let edges = edges::all_moves(t, &sets, last);
-    admitted(t, &sets, edges, last)
+    let edges = edges::all_moves(t, &own, last);
+    admitted(t, &own, edges, last)
 }
 
 // The linearization over the words of a table, which is not checked.

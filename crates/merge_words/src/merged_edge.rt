@@ -8,8 +8,9 @@ ghost use lib.ListN.{length};
 ghost use Rattle.model.specs.Bounds.{tableWords, maxAutomata};
 ghost use Rattle.merge_words.specs.Append.{Appended};
 ghost use Rattle.merge_words.specs.NodeWords.{numberNode, eqNode};
-ghost use Rattle.merge_words.specs.Layout.{edgeStarts, takenIn};
-ghost use Rattle.merge_words.specs.MergedEdge.{isUnder, still, edgeUnder, atMost, takers, updateAt, moveAt, updatesAt, movesAt, takerNodes, takersNodes, takerOperands, takersOperands, edgeBy};
+ghost use Rattle.merge_words.specs.Starts.{edgeStarts, takenIn};
+ghost use Rattle.table_places.specs.AtMost.{atMost};
+ghost use Rattle.merge_words.specs.MergedEdge.{isUnder, still, edgeUnder, takers, updateAt, moveAt, updatesAt, movesAt, takerNodes, takersNodes, takerOperands, takersOperands, edgeBy};
 
 // For each automaton, where its edge stands; 0 if it takes none.
 pub struct Takers {

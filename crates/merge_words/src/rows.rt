@@ -1,11 +1,10 @@
 // Rows 31 to 34: is there a merged sheet?
 use crate::survey::{self};
-use crate::sync::{self};
 use crate::words::{self};
 use model::Model;
 ghost use mathlib.Core.Path.{_≡_};
 ghost use Prim.Native.Nat.{_≤_};
-ghost use Rattle.merge_words.specs.MergedEdge.{atMost};
+ghost use Rattle.table_places.specs.AtMost.{atMost};
 ghost use Rattle.merge_words.specs.Linearize.{lastAction, isCrowded, faultBy};
 
 fn at_most(actions: u32) -> u32
@@ -22,7 +21,7 @@ fn at_most(actions: u32) -> u32
 pub fn last_action(t: &[u32]) -> u32
     ensures { λ r. ⌜ (r ≡ lastAction (now (t .entry))) × (r ≤ 63) ⌝ }
 {
-    at_most(sync::word32(t, 1))
+    at_most(table_places::word32(t, 1))
 }
 
 // Row 31: has the merged sheet too many variables?

@@ -2,13 +2,12 @@
 use crate::clauses::{self};
 use crate::depth::{self};
 use crate::edges::{self};
-use crate::layout::Layout;
-use crate::layout::{self};
 use crate::merged_edge::{self};
 use crate::words::{self};
+use table_places::Layout;
 ghost use mathlib.Core.Path.{_≡_};
 ghost use Prim.Native.Nat.{_+_, _≤_};
-ghost use Rattle.merge_words.specs.Layout.{layoutOf};
+ghost use Rattle.table_places.specs.Layout.{layoutOf};
 ghost use Rattle.merge_words.specs.MergedEdges.{placesOf};
 ghost use Rattle.merge_words.specs.Survey.{withEdge, surveyFrom, surveyUnder, surveyOf, surveyStart, surveyWhole};
 
@@ -67,7 +66,7 @@ pub fn all_survey(t: &[u32], own: &[u64; 16], last: u32, s: Survey) -> Survey
     requires { ⌜ last ≤ 4294967294 ⌝ }
     ensures { λ r. ⌜ r ≡ surveyOf (now (t .entry)) (now (own .entry)) 0 (last + 1) s ⌝ }
 {
-    let x = layout::of(t);
+    let x = table_places::layout_of(t);
     let mut action = 0;
     let mut sofar = s;
     while action <= last {

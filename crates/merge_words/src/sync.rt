@@ -1,44 +1,12 @@
 // The synchronising set of the whole.
-use crate::merged_edge::{self};
 use crate::put::{self};
 use model::Model;
 ghost use mathlib.Core.Path.{_≡_};
 ghost use Prim.Native.Nat.{_≤_};
-ghost use lib.ListN.{length, getD};
+ghost use lib.ListN.{length};
 ghost use Rattle.model.specs.Bounds.{tableWords};
 ghost use Rattle.merge_words.specs.Append.{Appended};
-ghost use Rattle.merge_words.specs.Sync.{ownSets, isShared, shifted, bitsFrom, syncBy};
-
-// The automata's own sets, each as one word.
-pub struct Own {
-    pub sets: [u64; 16],
-}
-
-pub fn word32(t: &[u32], at: usize) -> u32
-    ensures { λ r. ⌜ r ≡ getD (now (t .entry)) at 0 ⌝ }
-{
-    if t.len() <= at {
-        return 0;
-    }
-    t[at]
-}
-
-pub fn own_sets(t: &[u32]) -> Own
-    ensures { λ r. ⌜ r .sets ≡ ownSets (now (t .entry)) ⌝ }
-{
-    let count = merged_edge::at_most(table_places::word(t, table_places::count_at(t)));
-    let mut place = table_places::automaton_at(t, 0);
-    let mut sets = [0u64; 16];
-    let mut i = 0;
-    while i < count {
-        let low = word32(t, place);
-        let high = word32(t, table_places::step(t, place, 1));
-        sets[i] = table_tree::set_of(low, high);
-        place = table_places::after_automaton(t, place);
-        i += 1;
-    }
-    Own { sets }
-}
+ghost use Rattle.merge_words.specs.Sync.{isShared, shifted, bitsFrom, syncBy};
 
 // Is the action, from 1 to A, in the whole's set?
 fn shared(t: &[u32], own: &[u64], action: u32) -> bool
@@ -46,7 +14,7 @@ fn shared(t: &[u32], own: &[u64], action: u32) -> bool
 {
     let at = table_places::step(t, table_places::tree_at(t), 1);
     let inside = table_tree::in_set(t, at, own, action);
-    (action != 0) & (action <= word32(t, 1)) & inside
+    (action != 0) & (action <= table_places::word32(t, 1)) & inside
 }
 
 // A bit after the 31 bits of a word.

@@ -1,4 +1,4 @@
--- Each way out of the code of src/lib.rt.
+-- Each way out of the code of src/lib.rt and src/parts.rt.
 use mathlib.Core.Path.{_≡_, refl, sym}
 use mathlib.Core.List.{List}
 use Prim.Native.Nat.{ℕ, zero, suc, _+_, _-_, _≤_, _<_}
@@ -6,7 +6,20 @@ use native.Mathlib.Omega.{arith}
 use native.Mathlib.Numerals.{sub-one}
 use lib.ListN.{length, getD, List·getD-eq-default}
 use borrow.Author.Tests.{le-leb, lt-leb}
-use Rattle.table_places.specs.Outline.{reach, afterPredicate, locationAt, edgeAt, edgesAt, afterAutomaton, countAt, passed, automatonAt, treeAt}
+use Rattle.table_places.specs.AtMost.{atMost}
+use Rattle.table_places.specs.Outline.{reach, nodesPlace, afterPredicate, edgeFrom, edgeAction, edgeTo, updatePlace, setLow, setHigh, locationCount, firstLocation, firstEdge, locationAt, edgeAt, edgesAt, afterAutomaton, actionsIn, variablesIn, rangeAt, lowAt, highAt, countAt, automataIn, firstAutomaton, passed, automatonAt, treeAt}
+
+-- `at_most`
+module _ (most n : ℕ) where
+  pub at-most-all : n ≤ most → n ≡ atMost most n
+  unfolding atMost
+  at-most-all h = rw (le-leb n most h, atMost)
+
+  pub at-most-cut : most < n → most ≡ atMost most n
+  unfolding atMost
+  at-most-cut h = rw (lt-leb n most h, atMost)
+
+pub ruleset at-most-laws = (at-most-all, at-most-cut)
 
 -- `step`
 module _ (t : List ℕ) (at n : ℕ) where
@@ -28,8 +41,84 @@ pub ruleset step-laws = (step-past, step-short, step-on)
 pub word-past : (t : List ℕ) (at : ℕ) → length t ≤ at → 0 ≡ getD t at 0
 word-past t at h = sym (List·getD-eq-default t 0 h)
 
+-- the parts of a sheet
+module _ (t : List ℕ) (r : ℕ) where
+  pub actions-is : r ≡ getD t 1 0 → r ≡ actionsIn t
+  unfolding actionsIn
+  actions-is e = e
+
+  pub variables-is : r ≡ getD t 2 0 → r ≡ variablesIn t
+  unfolding variablesIn
+  variables-is e = e
+
+  pub automata-is : (c : ℕ) → c ≡ countAt t → r ≡ getD t c 0 → r ≡ automataIn t
+  unfolding automataIn
+  automata-is c e f = rw (f, e)
+
+  pub first-automaton-is : (c : ℕ) → c ≡ countAt t → r ≡ reach t c 1 → r ≡ firstAutomaton t
+  unfolding firstAutomaton
+  first-automaton-is c e f = rw (f, e)
+
+  pub range-is : (k a b : ℕ) → a ≡ reach t 0 3 → b ≡ reach t a k → r ≡ reach t b k → r ≡ rangeAt t k
+  unfolding rangeAt
+  range-is k a b e f g = rw (g, f, e)
+
+  module _ (at : ℕ) where
+    module _ (e : r ≡ getD t at 0) where
+      pub low-is : r ≡ lowAt t at
+      unfolding lowAt
+      low-is = e
+
+      pub set-low-is : r ≡ setLow t at
+      unfolding setLow
+      set-low-is = e
+
+      pub edge-from-is : r ≡ edgeFrom t at
+      unfolding edgeFrom
+      edge-from-is = e
+
+    module _ (a : ℕ) (f : a ≡ reach t at 1) (e : r ≡ getD t a 0) where
+      pub high-is : r ≡ highAt t at
+      unfolding highAt
+      high-is = rw (e, f)
+
+      pub set-high-is : r ≡ setHigh t at
+      unfolding setHigh
+      set-high-is = rw (e, f)
+
+      pub edge-action-is : r ≡ edgeAction t at
+      unfolding edgeAction
+      edge-action-is = rw (e, f)
+
+    module _ (a : ℕ) (f : a ≡ reach t at 2) (e : r ≡ getD t a 0) where
+      pub location-count-is : r ≡ locationCount t at
+      unfolding locationCount
+      location-count-is = rw (e, f)
+
+      pub edge-to-is : r ≡ edgeTo t at
+      unfolding edgeTo
+      edge-to-is = rw (e, f)
+
+    pub first-edge-is : r ≡ reach t at 1 → r ≡ firstEdge t at
+    unfolding firstEdge
+    first-edge-is e = e
+
+    pub nodes-is : r ≡ reach t at 1 → r ≡ nodesPlace t at
+    unfolding nodesPlace
+    nodes-is e = e
+
+    pub first-location-is : r ≡ reach t at 3 → r ≡ firstLocation t at
+    unfolding firstLocation
+    first-location-is e = e
+
+    pub update-is : r ≡ reach t at 3 → r ≡ updatePlace t at
+    unfolding updatePlace
+    update-is e = e
+
+pub ruleset part-laws = (actions-is, variables-is, automata-is, first-automaton-is, range-is, low-is, set-low-is, edge-from-is, high-is, set-high-is, edge-action-is, location-count-is, edge-to-is, first-edge-is, nodes-is, first-location-is, update-is)
+
 -- `after_predicate`
-pub predicate-is : (t : List ℕ) (at a n r : ℕ) → a ≡ reach t at 1 → n ≡ getD t at 0 → r ≡ reach t a n → r ≡ afterPredicate t at
+pub predicate-is : (t : List ℕ) (at a n r : ℕ) → a ≡ nodesPlace t at → n ≡ getD t at 0 → r ≡ reach t a n → r ≡ afterPredicate t at
 unfolding afterPredicate
 predicate-is t at a n r e f g = rw (g, e, f)
 
@@ -55,7 +144,7 @@ module _ (t : List ℕ) (next left whole : ℕ) (inv : edgeAt t next left ≡ wh
   unfolding edgeAt
   edge-done z = rw z at inv
 
-  pub edge-step : (left ≡ 0 → ⊥) → (a b : ℕ) → a ≡ reach t next 3 → b ≡ afterPredicate t a → edgeAt t b (left - 1) ≡ whole
+  pub edge-step : (left ≡ 0 → ⊥) → (a b : ℕ) → a ≡ updatePlace t next → b ≡ afterPredicate t a → edgeAt t b (left - 1) ≡ whole
   unfolding edgeAt
   edge-step y a b e f = go left y inv
     where
@@ -66,24 +155,24 @@ module _ (t : List ℕ) (next left whole : ℕ) (inv : edgeAt t next left ≡ wh
 pub ruleset edge-laws = (edge-done, edge-step)
 
 -- `edges_at`
-pub edges-is : (t : List ℕ) (at a n b r : ℕ) → a ≡ reach t at 2 → n ≡ getD t a 0 → b ≡ reach t at 3 → r ≡ locationAt t b n → r ≡ edgesAt t at
+pub edges-is : (t : List ℕ) (at n b r : ℕ) → n ≡ locationCount t at → b ≡ firstLocation t at → r ≡ locationAt t b n → r ≡ edgesAt t at
 unfolding edgesAt
-edges-is t at a n b r e f g h = rw (h, g, f, e)
+edges-is t at n b r f g h = rw (h, g, f)
 
 -- `after_automaton`
-pub automaton-is : (t : List ℕ) (at p a n r : ℕ) → p ≡ edgesAt t at → a ≡ reach t p 1 → n ≡ getD t p 0 → r ≡ edgeAt t a n → r ≡ afterAutomaton t at
+pub automaton-is : (t : List ℕ) (at p a n r : ℕ) → p ≡ edgesAt t at → a ≡ firstEdge t p → n ≡ getD t p 0 → r ≡ edgeAt t a n → r ≡ afterAutomaton t at
 unfolding afterAutomaton
 automaton-is t at p a n r e f g h = rw (h, f, g, e)
 
 -- `count_at`
-pub count-is : (t : List ℕ) (n a b r : ℕ) → n ≡ getD t 2 0 → a ≡ reach t 0 3 → b ≡ reach t a n → r ≡ reach t b n → r ≡ countAt t
+pub count-is : (t : List ℕ) (n r : ℕ) → n ≡ variablesIn t → r ≡ rangeAt t n → r ≡ countAt t
 unfolding countAt
-count-is t n a b r e f g h = rw (h, g, f, e)
+count-is t n r e f = rw (f, e)
 
 -- `automaton_at`
-pub automaton-first : (t : List ℕ) (k c next : ℕ) → c ≡ countAt t → next ≡ reach t c 1 → passed t next k ≡ automatonAt t k
+pub automaton-first : (t : List ℕ) (k next : ℕ) → next ≡ firstAutomaton t → passed t next k ≡ automatonAt t k
 unfolding automatonAt
-automaton-first t k c next e f = rw (f, e)
+automaton-first t k next e = rw e
 
 module _ (t : List ℕ) (next left whole : ℕ) (inv : passed t next left ≡ whole) where
   pub passed-done : left ≡ 0 → next ≡ whole
@@ -101,6 +190,6 @@ module _ (t : List ℕ) (next left whole : ℕ) (inv : passed t next left ≡ wh
 pub ruleset automaton-laws = (automaton-first, passed-done, passed-step)
 
 -- `tree_at`
-pub tree-is : (t : List ℕ) (c n r : ℕ) → c ≡ countAt t → n ≡ getD t c 0 → r ≡ automatonAt t n → r ≡ treeAt t
+pub tree-is : (t : List ℕ) (n r : ℕ) → n ≡ automataIn t → r ≡ automatonAt t n → r ≡ treeAt t
 unfolding treeAt
-tree-is t c n r e f g = rw (g, f, e)
+tree-is t n r e f = rw (f, e)

@@ -1,4 +1,7 @@
 pub mod CodeLaws
+pub mod LayoutLaws
+pub mod OwnLaws
 pub mod OutlineLaws
 pub mod Standing
 pub mod Opened
+pub mod AgreeLaws

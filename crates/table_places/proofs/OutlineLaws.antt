@@ -12,8 +12,8 @@ use Rattle.model.specs.Bounds.{tableWords}
 use Rattle.model.specs.Predicate.{Pred, Range, words, nodeCount}
 use Rattle.model.specs.Model.{Location, Edge, Automaton, Model}
 use Rattle.model.specs.Lines.{Entry, variableLine, edgeLine, edgesLine, automataLine, composeLine, locationLines, automatonLines, lines}
-use Rattle.model.specs.Table.{code, lowBits, highBits, setWords, predWords, lineWords, sheetWords, tableOf}
-use Rattle.table_places.specs.Outline.{reach, afterPredicate, locationAt, edgeAt, edgesAt, afterAutomaton, countAt, passed, automatonAt, treeAt}
+use Rattle.model.specs.Table.{code, biased, lowBits, highBits, setWords, predWords, lineWords, sheetWords, tableOf}
+use Rattle.table_places.specs.Outline.{reach, nodesPlace, afterPredicate, edgeFrom, edgeAction, edgeTo, updatePlace, setLow, setHigh, locationCount, firstLocation, firstEdge, locationAt, edgeAt, edgesAt, afterAutomaton, actionsIn, variablesIn, rangeAt, lowAt, highAt, countAt, automataIn, firstAutomaton, passed, automatonAt, treeAt}
 
 -- a step within the table is a sum
 pub reach-is : (t : List ℕ) (at n : ℕ) → at + n ≤ length t → reach t at n ≡ at + n
@@ -48,13 +48,22 @@ module _ (t : List ℕ) (at : ℕ) where
       let none : at + 0 ≡ at = omega arith in
       ap (λ (k : ℕ). getD t k 0) (sym none) ∙ sym (getD-drop at t 0 0) ∙ ap (λ (k : List ℕ). getD k 0 0) e
 
-  pub after-predicate : (p : Pred) (rest : List ℕ) → drop at t ≡ predWords p ++ rest → drop (afterPredicate t at) t ≡ rest
-  unfolding afterPredicate predWords nodeCount
-  after-predicate p rest e =
-      let nodes = map code (words p) in
-      let r : getD t at 0 ≡ length (words p) = read (length (words p)) (nodes ++ rest) e in
-      let a : drop (reach t at 1) t ≡ nodes ++ rest = reached 1 (length (words p) ∷ []) (nodes ++ rest) e refl in
-      rw r (reach-drop t (reach t at 1) (length (words p)) ∙ ap (drop (length (words p))) a ∙ drop-at nodes rest (length (words p)) (simp length-map))
+  -- a predicate: its number of nodes, its nodes, and what is past it
+  module _ (p : Pred) (rest : List ℕ) (e : drop at t ≡ predWords p ++ rest) where
+    pub node-count : getD t at 0 ≡ nodeCount p
+    unfolding predWords
+    node-count = read (nodeCount p) (map code (words p) ++ rest) e
+
+    pub nodes-stand : drop (nodesPlace t at) t ≡ map code (words p) ++ rest
+    unfolding nodesPlace predWords
+    nodes-stand = reached 1 (nodeCount p ∷ []) (map code (words p) ++ rest) e refl
+
+    pub after-predicate : drop (afterPredicate t at) t ≡ rest
+    unfolding afterPredicate nodeCount
+    after-predicate =
+        let nodes = map code (words p) in
+        let n = length (words p) in
+        rw node-count (reach-drop t (nodesPlace t at) n ∙ ap (drop n) nodes-stand ∙ drop-at nodes rest n (simp length-map))
 
 -- the words of some lines, and of the parts of a sheet
 abbrev pub wordsOf : List Entry → List ℕ
@@ -73,6 +82,27 @@ pub words-append : (a b : List Entry) → wordsOf (a ++ b) ≡ wordsOf a ++ word
 unfolding flatMap
 words-append [] b = refl
 words-append (e ∷ a) b = ap (λ (l : List ℕ). lineWords e ++ l) (words-append a b) ∙ sym (append-assoc (lineWords e) (wordsOf a) (wordsOf b))
+
+-- what stands at the words of an edge
+module _ (t rest : List ℕ) (x : Edge) (at : ℕ) (e : drop at t ≡ lineWords (edgeLine x) ++ rest) where
+  pub from-stands : edgeFrom t at ≡ x .from
+  unfolding edgeFrom lineWords
+  from-stands = read t at (x .from) _ e
+
+  pub action-stands : edgeAction t at ≡ x .action
+  unfolding edgeAction lineWords
+  action-stands = read t (reach t at 1) (x .action) _ (reached t at 1 (x .from ∷ []) _ e refl)
+
+  pub to-stands : edgeTo t at ≡ x .to
+  unfolding edgeTo lineWords
+  to-stands = read t (reach t at 2) (x .to) _ (reached t at 2 (x .from ∷ x .action ∷ []) _ e refl)
+
+  pub update-stands : drop (updatePlace t at) t ≡ predWords (x .update) ++ rest
+  unfolding updatePlace lineWords
+  update-stands = reached t at 3 (x .from ∷ x .action ∷ x .to ∷ []) _ e refl
+
+  pub next-edge : drop (afterPredicate t (updatePlace t at)) t ≡ rest
+  next-edge = after-predicate t (updatePlace t at) (x .update) rest update-stands
 
 module _ (t rest : List ℕ) where
   pub location-at : (ls : List Location) (at j : ℕ) → j ≤ length ls → drop at t ≡ locationWords ls ++ rest
@@ -96,10 +126,8 @@ module _ (t rest : List ℕ) where
   edge-at [] at (suc k) h e = absurd (omega arith)
   edge-at (x ∷ es) at (suc k) h e =
       let others = edgeWords es in
-      let u = predWords (x .update) in
-      let f : drop (reach t at 3) t ≡ u ++ others ++ rest = reached t at 3 (x .from ∷ x .action ∷ x .to ∷ []) (u ++ others ++ rest) e refl in
-      edge-at es (afterPredicate t (reach t at 3)) k (omega arith)
-      (after-predicate t (reach t at 3) (x .update) (others ++ rest) (f ∙ append-assoc u others rest))
+      let line = lineWords (edgeLine x) in
+      edge-at es (afterPredicate t (updatePlace t at)) k (omega arith) (next-edge t (others ++ rest) x at (e ∙ append-assoc line others rest))
 
   -- after all of them
   pub after-locations : (ls : List Location) (at : ℕ) → drop at t ≡ locationWords ls ++ rest → drop (locationAt t at (length ls)) t ≡ rest
@@ -125,27 +153,40 @@ module _ (t rest : List ℕ) (x : Automaton) (at : ℕ) (e : drop at t ≡ words
       ap (λ (l : List ℕ). lowBits (x .sync) ∷ highBits (x .sync) ∷ length (x .locations) ∷ (l ++ rest)) (words-append (flatMap locationLines (x .locations)) es) ∙
       ap (λ (l : List ℕ). lowBits (x .sync) ∷ highBits (x .sync) ∷ length (x .locations) ∷ l) (append-assoc ls (wordsOf es) rest)
 
-  pub locations-count : drop (reach t at 2) t ≡ length (x .locations) ∷ (locationWords (x .locations) ++ (length (x .edges) ∷ (edgeWords (x .edges) ++ rest)))
-  locations-count = reached t at 2 (lowBits (x .sync) ∷ highBits (x .sync) ∷ []) _ parts refl
+  pub low-stands : setLow t at ≡ lowBits (x .sync)
+  unfolding setLow
+  low-stands = read t at (lowBits (x .sync)) _ parts
 
-  pub first-location : drop (reach t at 3) t ≡ locationWords (x .locations) ++ (length (x .edges) ∷ (edgeWords (x .edges) ++ rest))
+  pub high-stands : setHigh t at ≡ highBits (x .sync)
+  unfolding setHigh
+  high-stands = read t (reach t at 1) (highBits (x .sync)) _ (reached t at 1 (lowBits (x .sync) ∷ []) _ parts refl)
+
+  pub location-count : locationCount t at ≡ length (x .locations)
+  unfolding locationCount
+  location-count =
+      read t (reach t at 2) (length (x .locations)) _ (reached t at 2 (lowBits (x .sync) ∷ highBits (x .sync) ∷ []) _ parts refl)
+
+  pub first-location : drop (firstLocation t at) t ≡ locationWords (x .locations) ++ (length (x .edges) ∷ (edgeWords (x .edges) ++ rest))
+  unfolding firstLocation
   first-location = reached t at 3 (lowBits (x .sync) ∷ highBits (x .sync) ∷ length (x .locations) ∷ []) _ parts refl
 
   pub edges-at : drop (edgesAt t at) t ≡ length (x .edges) ∷ (edgeWords (x .edges) ++ rest)
   unfolding edgesAt
   edges-at =
       let others = length (x .edges) ∷ (edgeWords (x .edges) ++ rest) in
-      rw (read t (reach t at 2) (length (x .locations)) (locationWords (x .locations) ++ others) locations-count)
-      (after-locations t others (x .locations) (reach t at 3) first-location)
+      rw location-count (after-locations t others (x .locations) (firstLocation t at) first-location)
 
-  pub first-edge : drop (reach t (edgesAt t at) 1) t ≡ edgeWords (x .edges) ++ rest
+  pub edge-count : getD t (edgesAt t at) 0 ≡ length (x .edges)
+  edge-count = read t (edgesAt t at) (length (x .edges)) (edgeWords (x .edges) ++ rest) edges-at
+
+  pub first-edge : drop (firstEdge t (edgesAt t at)) t ≡ edgeWords (x .edges) ++ rest
+  unfolding firstEdge
   first-edge = reached t (edgesAt t at) 1 (length (x .edges) ∷ []) (edgeWords (x .edges) ++ rest) edges-at refl
 
   pub after-automaton : drop (afterAutomaton t at) t ≡ rest
   unfolding afterAutomaton
   after-automaton =
-      rw (read t (edgesAt t at) (length (x .edges)) (edgeWords (x .edges) ++ rest) edges-at)
-      (after-edges t rest (x .edges) (reach t (edgesAt t at) 1) first-edge)
+      rw edge-count (after-edges t rest (x .edges) (firstEdge t (edgesAt t at)) first-edge)
 
 pub passed-at : (t rest : List ℕ) (xs : List Automaton) (at k : ℕ) → k ≤ length xs → drop at t ≡ automatonWords xs ++ rest
     → drop (passed t at k) t ≡ automatonWords (drop k xs) ++ rest
@@ -159,10 +200,24 @@ passed-at t rest (x ∷ xs) at (suc k) h e =
     passed-at t rest xs (afterAutomaton t at) k (omega arith) (after-automaton t (others ++ rest) x at f)
 
 -- two words a variable
-pub ranges-length : (vs : List Range) → length (wordsOf (map variableLine vs)) ≡ length vs + length vs
+pub ranges-from : (vs : List Range) (k : ℕ) (rest : List ℕ) → k ≤ length vs
+    → drop (k + k) (wordsOf (map variableLine vs) ++ rest) ≡ wordsOf (map variableLine (drop k vs)) ++ rest
 unfolding flatMap lineWords
-ranges-length [] = refl
-ranges-length (v ∷ vs) = omega (arith, ranges-length vs)
+ranges-from vs zero rest h = refl
+ranges-from [] (suc k) rest h = absurd (omega arith)
+ranges-from (v ∷ vs) (suc k) rest h =
+    let e : suc k + suc k ≡ suc (suc (k + k)) = omega arith in
+    rw e (ranges-from vs k rest (omega arith))
+
+-- the range that stands at a place
+module _ (t rest : List ℕ) (v : Range) (at : ℕ) (e : drop at t ≡ lineWords (variableLine v) ++ rest) where
+  pub range-low : lowAt t at ≡ biased (v .low)
+  unfolding lowAt lineWords
+  range-low = read t at (biased (v .low)) _ e
+
+  pub range-high : highAt t at ≡ biased (v .high)
+  unfolding highAt lineWords
+  range-high = read t (reach t at 1) (biased (v .high)) _ (reached t at 1 (biased (v .low) ∷ []) _ e refl)
 
 -- a sheet
 module _ (t rest : List ℕ) (m : Model) (e : t ≡ sheetWords m ++ rest) where
@@ -180,26 +235,47 @@ module _ (t rest : List ℕ) (m : Model) (e : t ≡ sheetWords m ++ rest) where
       ap (λ (l : List ℕ). m .format ∷ m .actions ∷ length (m .variables) ∷ l) (append-assoc (wordsOf vs) (wordsOf others) rest) ∙
       ap (λ (l : List ℕ). m .format ∷ m .actions ∷ length (m .variables) ∷ (wordsOf vs ++ (length (m .automata) ∷ l))) last
 
-  pub count-at : drop (countAt t) t ≡ length (m .automata) ∷ (automatonWords (m .automata) ++ (lineWords (composeLine (m .tree)) ++ rest))
-  unfolding countAt
+  pub actions-in : actionsIn t ≡ m .actions
+  unfolding actionsIn
+  actions-in = ap (λ (l : List ℕ). getD l 1 0) sheet-parts
+
+  pub variables-in : variablesIn t ≡ length (m .variables)
+  unfolding variablesIn
+  variables-in = ap (λ (l : List ℕ). getD l 2 0) sheet-parts
+
+  -- what stands after the head: N, and the rest
+  abbrev pub afterRanges : List ℕ
+  afterRanges = length (m .automata) ∷ (automatonWords (m .automata) ++ (lineWords (composeLine (m .tree)) ++ rest))
+
+  -- range k
+  pub range-at : (k : ℕ) → k ≤ length (m .variables) → drop (rangeAt t k) t ≡ wordsOf (map variableLine (drop k (m .variables))) ++ afterRanges
+  unfolding rangeAt
+  range-at k h =
+      let vs = m .variables in
+      let first : drop (reach t 0 3) t ≡ wordsOf (map variableLine vs) ++ afterRanges =
+      reached t 0 3 (m .format ∷ m .actions ∷ length vs ∷ []) _ sheet-parts refl in
+      reach-drop t (reach t (reach t 0 3) k) k ∙ ap (drop k) (reach-drop t (reach t 0 3) k) ∙ drop-drop k k (drop (reach t 0 3) t) ∙
+      ap (drop (k + k)) first ∙ ranges-from vs k afterRanges h
+
+  pub count-at : drop (countAt t) t ≡ afterRanges
+  unfolding countAt flatMap
   count-at =
       let n = length (m .variables) in
-      let vs = wordsOf (map variableLine (m .variables)) in
-      let others = length (m .automata) ∷ (automatonWords (m .automata) ++ (lineWords (composeLine (m .tree)) ++ rest)) in
-      let v : getD t 2 0 ≡ n = ap (λ (l : List ℕ). getD l 2 0) sheet-parts in
-      let first : drop (reach t 0 3) t ≡ vs ++ others = reached t 0 3 (m .format ∷ m .actions ∷ n ∷ []) (vs ++ others) sheet-parts refl in
-      rw v (
-      reach-drop t (reach t (reach t 0 3) n) n ∙ ap (drop n) (reach-drop t (reach t 0 3) n) ∙ drop-drop n n (drop (reach t 0 3) t) ∙
-      ap (drop (n + n)) first ∙ drop-at vs others (n + n) (ranges-length (m .variables)))
+      let whole : length (m .variables) ≤ n = omega arith in
+      rw variables-in (range-at n whole ∙ ap (λ (l : List Range). wordsOf (map variableLine l) ++ afterRanges) (drop-of-length-le (m .variables) whole))
+
+  pub automata-in : automataIn t ≡ length (m .automata)
+  unfolding automataIn
+  automata-in = read t (countAt t) (length (m .automata)) _ count-at
 
   pub automaton-at : (k : ℕ) → k ≤ length (m .automata)
       → drop (automatonAt t k) t ≡ automatonWords (drop k (m .automata)) ++ (lineWords (composeLine (m .tree)) ++ rest)
-  unfolding automatonAt
+  unfolding automatonAt firstAutomaton
   automaton-at k h =
       let after = lineWords (composeLine (m .tree)) ++ rest in
-      let first : drop (reach t (countAt t) 1) t ≡ automatonWords (m .automata) ++ after =
+      let first : drop (firstAutomaton t) t ≡ automatonWords (m .automata) ++ after =
       reached t (countAt t) 1 (length (m .automata) ∷ []) (automatonWords (m .automata) ++ after) count-at refl in
-      passed-at t after (m .automata) (reach t (countAt t) 1) k h first
+      passed-at t after (m .automata) (firstAutomaton t) k h first
 
   pub tree-at : drop (treeAt t) t ≡ lineWords (composeLine (m .tree)) ++ rest
   unfolding treeAt flatMap
@@ -207,7 +283,7 @@ module _ (t rest : List ℕ) (m : Model) (e : t ≡ sheetWords m ++ rest) where
       let after = lineWords (composeLine (m .tree)) ++ rest in
       let n = length (m .automata) in
       let whole : length (m .automata) ≤ length (m .automata) = omega arith in
-      rw (read t (countAt t) n (automatonWords (m .automata) ++ after) count-at)
+      rw automata-in
       (automaton-at n whole ∙ ap (λ (l : List Automaton). automatonWords l ++ after) (drop-of-length-le (m .automata) whole))
 
 -- a model's table begins with its sheet's words

@@ -1,15 +1,18 @@
 -- What stands at the place of one part; and no place is past the table's end.
-use mathlib.Core.Path.{_≡_, ap, _∙_}
-use mathlib.Core.List.{List, _++_, append-assoc, flatMap}
+use mathlib.Core.Path.{_≡_, refl, ap, _∙_}
+use mathlib.Core.List.{List, [], _∷_, _++_, append-assoc, map, flatMap}
 use Prim.Native.Nat.{ℕ, zero, suc, _≤_, _<_}
 use native.Mathlib.Omega.{arith}
 use lib.ListN.{length, getD, drop}
 use lib.Seq.{drop-cons}
+use Rattle.model.specs.Composition.{treeSize}
+use Rattle.model.specs.Predicate.{Range}
 use Rattle.model.specs.Model.{Location, Edge, Automaton, Model, nowhere, nobody, automaton}
-use Rattle.model.specs.Lines.{edgeLine, composeLine, locationLines, automatonLines}
+use Rattle.model.specs.Lines.{variableLine, edgeLine, composeLine, locationLines, automatonLines}
 use Rattle.model.specs.Table.{predWords, lineWords, sheetWords}
-use Rattle.table_places.specs.Outline.{reach, afterPredicate, locationAt, edgeAt, edgesAt, afterAutomaton, countAt, passed, automatonAt, treeAt}
-use Rattle.table_places.proofs.OutlineLaws.{reach-inside, after-predicate, words-append, wordsOf, locationWords, edgeWords, automatonWords, location-at, edge-at, automaton-at}
+use Rattle.table_tree.specs.Nodes.{treeWords}
+use Rattle.table_places.specs.Outline.{reach, nodesPlace, afterPredicate, updatePlace, locationCount, firstLocation, firstEdge, locationAt, edgeAt, edgesAt, afterAutomaton, variablesIn, rangeAt, countAt, automataIn, firstAutomaton, passed, automatonAt, treeAt}
+use Rattle.table_places.proofs.OutlineLaws.{reach-inside, reached, afterRanges, range-at, tree-at, after-predicate, words-append, wordsOf, locationWords, edgeWords, automatonWords, location-at, edge-at, automaton-at}
 
 -- location j, of a list
 module _ (t rest : List ℕ) (ls : List Location) (at j : ℕ) (h : j < length ls) (e : drop at t ≡ locationWords ls ++ rest) where
@@ -49,11 +52,26 @@ automaton-stands t rest m k h e =
     automaton-at t rest m e k l ∙ ap (λ (xs : List Automaton). automatonWords xs ++ after) (drop-cons (m .automata) k nobody h) ∙
     ap (λ (ws : List ℕ). ws ++ after) (words-append x (flatMap automatonLines others)) ∙ append-assoc (wordsOf x) (automatonWords others) after
 
+-- the range of variable k
+pub range-stands : (t rest : List ℕ) (m : Model) (k : ℕ) (d : Range) → k < length (m .variables) → (e : t ≡ sheetWords m ++ rest)
+    → drop (rangeAt t k) t ≡ lineWords (variableLine (getD (m .variables) k d)) ++ (wordsOf (map variableLine (drop (suc k) (m .variables))) ++ afterRanges t rest m e)
+unfolding flatMap
+range-stands t rest m k d h e =
+    let vs = m .variables in
+    let l : k ≤ length (m .variables) = omega arith in
+    range-at t rest m e k l ∙ ap (λ (r : List Range). wordsOf (map variableLine r) ++ afterRanges t rest m e) (drop-cons vs k d h) ∙
+    append-assoc (lineWords (variableLine (getD vs k d))) (wordsOf (map variableLine (drop (suc k) vs))) (afterRanges t rest m e)
+
+-- the tree's nodes
+pub tree-stands : (t rest : List ℕ) (m : Model) → t ≡ sheetWords m ++ rest → drop (nodesPlace t (treeAt t)) t ≡ treeWords (m .tree) ++ rest
+unfolding nodesPlace lineWords
+tree-stands t rest m e = reached t (treeAt t) 1 (treeSize (m .tree) ∷ []) (treeWords (m .tree) ++ rest) (tree-at t rest m e) refl
+
 -- no place is past the end
 module _ (t : List ℕ) where
   pub predicate-inside : (at : ℕ) → afterPredicate t at ≤ length t
   unfolding afterPredicate
-  predicate-inside at = reach-inside t (reach t at 1) (getD t at 0)
+  predicate-inside at = reach-inside t (nodesPlace t at) (getD t at 0)
 
   pub location-inside : (at j : ℕ) → at ≤ length t → locationAt t at j ≤ length t
   unfolding locationAt
@@ -63,19 +81,19 @@ module _ (t : List ℕ) where
   pub edge-inside : (at k : ℕ) → at ≤ length t → edgeAt t at k ≤ length t
   unfolding edgeAt
   edge-inside at zero h = h
-  edge-inside at (suc k) h = edge-inside (afterPredicate t (reach t at 3)) k (predicate-inside (reach t at 3))
+  edge-inside at (suc k) h = edge-inside (afterPredicate t (updatePlace t at)) k (predicate-inside (updatePlace t at))
 
   pub edges-inside : (at : ℕ) → edgesAt t at ≤ length t
-  unfolding edgesAt
-  edges-inside at = location-inside (reach t at 3) (getD t (reach t at 2) 0) (reach-inside t at 3)
+  unfolding edgesAt firstLocation
+  edges-inside at = location-inside (firstLocation t at) (locationCount t at) (reach-inside t at 3)
 
   pub after-automaton-inside : (at : ℕ) → afterAutomaton t at ≤ length t
-  unfolding afterAutomaton
-  after-automaton-inside at = edge-inside (reach t (edgesAt t at) 1) (getD t (edgesAt t at) 0) (reach-inside t (edgesAt t at) 1)
+  unfolding afterAutomaton firstEdge
+  after-automaton-inside at = edge-inside (firstEdge t (edgesAt t at)) (getD t (edgesAt t at) 0) (reach-inside t (edgesAt t at) 1)
 
   pub count-inside : countAt t ≤ length t
-  unfolding countAt
-  count-inside = reach-inside t (reach t (reach t 0 3) (getD t 2 0)) (getD t 2 0)
+  unfolding countAt rangeAt
+  count-inside = reach-inside t (reach t (reach t 0 3) (variablesIn t)) (variablesIn t)
 
   passed-inside : (at k : ℕ) → at ≤ length t → passed t at k ≤ length t
   unfolding passed
@@ -83,9 +101,9 @@ module _ (t : List ℕ) where
   passed-inside at (suc k) h = passed-inside (afterAutomaton t at) k (after-automaton-inside at)
 
   pub automaton-inside : (k : ℕ) → automatonAt t k ≤ length t
-  unfolding automatonAt
-  automaton-inside k = passed-inside (reach t (countAt t) 1) k (reach-inside t (countAt t) 1)
+  unfolding automatonAt firstAutomaton
+  automaton-inside k = passed-inside (firstAutomaton t) k (reach-inside t (countAt t) 1)
 
   pub tree-inside : treeAt t ≤ length t
   unfolding treeAt
-  tree-inside = automaton-inside (getD t (countAt t) 0)
+  tree-inside = automaton-inside (automataIn t)

@@ -1,1 +1,4 @@
+pub mod AtMost
 pub mod Outline
+pub mod Layout
+pub mod Own

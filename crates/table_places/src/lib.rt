@@ -1,7 +1,43 @@
 // Where the parts of a sheet stand in a table. Any words will do: from a place within the table no answer is past its end.
+mod layout;
+mod own;
+mod parts;
+
+pub use layout::Layout;
+pub use layout::automata_of;
+pub use layout::layout_of;
+pub use layout::variables_of;
+pub use own::own_sets;
+pub use parts::actions;
+pub use parts::automata;
+pub use parts::edge_action;
+pub use parts::edge_from;
+pub use parts::edge_to;
+pub use parts::first_automaton;
+pub use parts::first_edge;
+pub use parts::first_location;
+pub use parts::high;
+pub use parts::location_count;
+pub use parts::low;
+pub use parts::nodes_at;
+pub use parts::range_at;
+pub use parts::set_high;
+pub use parts::set_low;
+pub use parts::update_at;
+pub use parts::variables;
 ghost use mathlib.Core.Path.{_≡_};
+ghost use Prim.Native.Nat.{_≤_};
 ghost use lib.ListN.{getD};
+ghost use Rattle.table_places.specs.AtMost.{atMost};
 ghost use Rattle.table_places.specs.Outline.{reach, afterPredicate, locationAt, edgeAt, edgesAt, afterAutomaton, countAt, automatonAt, treeAt};
+
+// A number, as far as there can be so many.
+pub fn at_most(most: usize, n: usize) -> usize
+    ensures { λ r. ⌜ r ≡ atMost most n ⌝ }
+    ensures { λ r. ⌜ r ≤ most ⌝ }
+{
+    if n <= most { n } else { most }
+}
 
 // The place n words on, or the table's end.
 pub fn step(t: &[u32], at: usize, n: usize) -> usize
@@ -26,11 +62,21 @@ pub fn word(t: &[u32], at: usize) -> usize
     arithmetic::index(t[at])
 }
 
+// The same, as the word that it is.
+pub fn word32(t: &[u32], at: usize) -> u32
+    ensures { λ r. ⌜ r ≡ getD (now (t .entry)) at 0 ⌝ }
+{
+    if t.len() <= at {
+        return 0;
+    }
+    t[at]
+}
+
 // Past a predicate: its count, and so many nodes.
 pub fn after_predicate(t: &[u32], at: usize) -> usize
     ensures { λ r. ⌜ r ≡ afterPredicate (now (t .entry)) at ⌝ }
 {
-    step(t, step(t, at, 1), word(t, at))
+    step(t, parts::nodes_at(t, at), word(t, at))
 }
 
 // Where the init of location j stands, `at` being where that of location 0 does. Its inv stands after it.
@@ -54,7 +100,7 @@ pub fn edge_at(t: &[u32], at: usize, k: usize) -> usize
     let mut left = k;
     let mut next = at;
     while left != 0 {
-        let update = step(t, next, 3);
+        let update = parts::update_at(t, next);
         next = after_predicate(t, update);
         left -= 1;
     }
@@ -65,8 +111,8 @@ pub fn edge_at(t: &[u32], at: usize, k: usize) -> usize
 pub fn edges_at(t: &[u32], at: usize) -> usize
     ensures { λ r. ⌜ r ≡ edgesAt (now (t .entry)) at ⌝ }
 {
-    let locations = word(t, step(t, at, 2));
-    location_at(t, step(t, at, 3), locations)
+    let locations = parts::location_count(t, at);
+    location_at(t, parts::first_location(t, at), locations)
 }
 
 // Past an automaton.
@@ -74,15 +120,14 @@ pub fn after_automaton(t: &[u32], at: usize) -> usize
     ensures { λ r. ⌜ r ≡ afterAutomaton (now (t .entry)) at ⌝ }
 {
     let place = edges_at(t, at);
-    edge_at(t, step(t, place, 1), word(t, place))
+    edge_at(t, parts::first_edge(t, place), word(t, place))
 }
 
-// Where the number of automata stands.
+// Where the number of automata stands: after the ranges.
 pub fn count_at(t: &[u32]) -> usize
     ensures { λ r. ⌜ r ≡ countAt (now (t .entry)) ⌝ }
 {
-    let variables = word(t, 2);
-    step(t, step(t, step(t, 0, 3), variables), variables)
+    parts::range_at(t, parts::variables(t))
 }
 
 // Where the set of automaton k stands.
@@ -90,7 +135,7 @@ pub fn automaton_at(t: &[u32], k: usize) -> usize
     ensures { λ r. ⌜ r ≡ automatonAt (now (t .entry)) k ⌝ }
 {
     let mut left = k;
-    let mut next = step(t, count_at(t), 1);
+    let mut next = parts::first_automaton(t);
     while left != 0 {
         next = after_automaton(t, next);
         left -= 1;
@@ -102,5 +147,5 @@ pub fn automaton_at(t: &[u32], k: usize) -> usize
 pub fn tree_at(t: &[u32]) -> usize
     ensures { λ r. ⌜ r ≡ treeAt (now (t .entry)) ⌝ }
 {
-    automaton_at(t, word(t, count_at(t)))
+    automaton_at(t, parts::automata(t))
 }

@@ -1,5 +1,5 @@
 -- `judge::run` meets its contract: each way out is a law of RunLaws.
-use Rattle.judge.proofs.RunLaws.{run-bad, bad-answers, bad-locations, bad-values, run-out, out-answers, out-locations, out-values, run-done, done-answers, done-locations, done-values}
+use Rattle.judge.proofs.RunLaws.{run-bad, bad-answers, bad-locations, bad-values, run-done, done-answers, done-locations, done-values}
 use borrow.Author.Needs.{needs}
 use Rattle.judge.proofs.run.Statement.{statement}
 use Rattle.judge.proofs.run.Tie as tie
@@ -16,23 +16,8 @@ returns c = (search (needs, run-bad), (search (needs, bad-answers), (search (nee
 enum-told : tie.Need-enum-told
 enum-told c = search needs
 
-begun-requires : tie.Need-begun-requires
-begun-requires c κs = search needs
-
-enum-known-begun : tie.Need-enum-known-begun
-enum-known-begun c = search needs
-
-enum-known-begun-2 : tie.Need-enum-known-begun-2
-enum-known-begun-2 c = search needs
-
-of-requires : tie.Need-of-requires
-of-requires c κs = search needs
-
-listed-requires : tie.Need-listed-requires
-listed-requires c κs = search needs
-
-returns-2 : tie.Need-returns-2
-returns-2 c = (search (needs, run-out), (search (needs, out-answers), (search (needs, out-locations), search (needs, out-values))))
+over-requires : tie.Need-over-requires
+over-requires c κs = search needs
 
 same-length : tie.Need-same-length
 same-length c = search needs
@@ -43,8 +28,8 @@ same-length-2 c = search needs
 same-length-3 : tie.Need-same-length-3
 same-length-3 c = search needs
 
-returns-3 : tie.Need-returns-3
-returns-3 c = (search (needs, run-done), (search (needs, done-answers), (search (needs, done-locations), search (needs, done-values))))
+returns-2 : tie.Need-returns-2
+returns-2 c = (search (needs, run-done), (search (needs, done-answers), (search (needs, done-locations), search (needs, done-values))))
 
 pub run-spec : {M : Type 1} → statement M
 run-spec =
@@ -54,13 +39,8 @@ run-spec =
     enum-known-row
     returns
     enum-told
-    begun-requires
-    enum-known-begun
-    enum-known-begun-2
-    of-requires
-    listed-requires
-    returns-2
+    over-requires
     same-length
     same-length-2
     same-length-3
-    returns-3)
+    returns-2)

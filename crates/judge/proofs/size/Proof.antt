@@ -16,17 +16,14 @@ returns c = search (needs, size-laws)
 enum-told : tie.Need-enum-told
 enum-told c = search needs
 
-word-requires : tie.Need-word-requires
-word-requires c κs = search needs
+actions-requires : tie.Need-actions-requires
+actions-requires c κs = search needs
 
-word-requires-2 : tie.Need-word-requires-2
-word-requires-2 c κs = search needs
+variables-requires : tie.Need-variables-requires
+variables-requires c κs = search needs
 
-count-at-requires : tie.Need-count-at-requires
-count-at-requires c κs = search needs
-
-word-requires-3 : tie.Need-word-requires-3
-word-requires-3 c κs = search needs
+automata-requires : tie.Need-automata-requires
+automata-requires c κs = search needs
 
 returns-2 : tie.Need-returns-2
 returns-2 c = search (needs, size-laws)
@@ -39,8 +36,7 @@ size-spec =
     enum-known-row
     returns
     enum-told
-    word-requires
-    word-requires-2
-    count-at-requires
-    word-requires-3
+    actions-requires
+    variables-requires
+    automata-requires
     returns-2)

@@ -16,6 +16,9 @@ returns c = search (needs, environment-laws)
 enum-told : tie.Need-enum-told
 enum-told c = search needs
 
+layout-of-requires : tie.Need-layout-of-requires
+layout-of-requires c κs = search needs
+
 environment-on-requires : tie.Need-environment-on-requires
 environment-on-requires c κs = search needs
 
@@ -25,4 +28,11 @@ returns-2 c = search (needs, environment-laws)
 pub environment-spec : {M : Type 1} → statement M
 environment-spec =
     tie.close
-    (tie.spec check-requires enum-known-row returns enum-told environment-on-requires returns-2)
+    (tie.spec
+    check-requires
+    enum-known-row
+    returns
+    enum-told
+    layout-of-requires
+    environment-on-requires
+    returns-2)

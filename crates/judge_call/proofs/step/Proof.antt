@@ -16,6 +16,15 @@ returns c = search (needs, step-laws)
 enum-told : tie.Need-enum-told
 enum-told c = search needs
 
+layout-of-requires : tie.Need-layout-of-requires
+layout-of-requires c κs = search needs
+
+own-sets-requires : tie.Need-own-sets-requires
+own-sets-requires c κs = search needs
+
+slice-aggregate-step-on : tie.Need-slice-aggregate-step-on
+slice-aggregate-step-on c = search needs
+
 step-on-requires : tie.Need-step-on-requires
 step-on-requires c κs = search needs
 
@@ -24,4 +33,14 @@ returns-2 c = search (needs, step-laws)
 
 pub step-spec : {M : Type 1} → statement M
 step-spec =
-    tie.close (tie.spec check-requires enum-known-row returns enum-told step-on-requires returns-2)
+    tie.close
+    (tie.spec
+    check-requires
+    enum-known-row
+    returns
+    enum-told
+    layout-of-requires
+    own-sets-requires
+    slice-aggregate-step-on
+    step-on-requires
+    returns-2)

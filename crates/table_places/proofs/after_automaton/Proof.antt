@@ -7,8 +7,8 @@ use Rattle.table_places.proofs.after_automaton.Tie as tie
 edges-at-requires : tie.Need-edges-at-requires
 edges-at-requires c κs = search needs
 
-step-requires : tie.Need-step-requires
-step-requires c κs = search needs
+first-edge-requires : tie.Need-first-edge-requires
+first-edge-requires c κs = search needs
 
 word-requires : tie.Need-word-requires
 word-requires c κs = search needs
@@ -21,4 +21,5 @@ returns c = search (needs, automaton-is)
 
 pub after-automaton-spec : {M : Type 1} → statement M
 after-automaton-spec =
-    tie.close (tie.spec edges-at-requires step-requires word-requires edge-at-requires returns)
+    tie.close
+    (tie.spec edges-at-requires first-edge-requires word-requires edge-at-requires returns)

@@ -12,11 +12,8 @@ Inv-loop t k left₀ next₀ left next = passed t next left ≡ automatonAt t k
 abbrev μ-loop : tie.MeasureT-loop
 μ-loop t k left₀ next₀ left next = left
 
-count-at-requires : tie.Need-count-at-requires Inv-loop μ-loop
-count-at-requires c κs = search needs
-
-step-requires : tie.Need-step-requires Inv-loop μ-loop
-step-requires c κs = search needs
+first-automaton-requires : tie.Need-first-automaton-requires Inv-loop μ-loop
+first-automaton-requires c κs = search needs
 
 loop-holds : tie.Need-loop-holds Inv-loop μ-loop
 loop-holds c = search (needs, automaton-laws)
@@ -42,8 +39,7 @@ automaton-at-spec =
     (tie.spec
     Inv-loop
     μ-loop
-    count-at-requires
-    step-requires
+    first-automaton-requires
     loop-holds
     after-automaton-requires
     sub-left

@@ -15,8 +15,8 @@ abbrev μ-loop : tie.MeasureT-loop
 loop-holds : tie.Need-loop-holds Inv-loop μ-loop
 loop-holds c = search (needs, edge-laws)
 
-step-requires : tie.Need-step-requires Inv-loop μ-loop
-step-requires c κs = search needs
+update-at-requires : tie.Need-update-at-requires Inv-loop μ-loop
+update-at-requires c κs = search needs
 
 after-predicate-requires : tie.Need-after-predicate-requires Inv-loop μ-loop
 after-predicate-requires c κs = search needs
@@ -40,7 +40,7 @@ edge-at-spec =
     Inv-loop
     μ-loop
     loop-holds
-    step-requires
+    update-at-requires
     after-predicate-requires
     sub-left
     loop-less

@@ -4,11 +4,8 @@ use borrow.Author.Needs.{needs}
 use Rattle.table_places.proofs.tree_at.Statement.{statement}
 use Rattle.table_places.proofs.tree_at.Tie as tie
 
-count-at-requires : tie.Need-count-at-requires
-count-at-requires c κs = search needs
-
-word-requires : tie.Need-word-requires
-word-requires c κs = search needs
+automata-requires : tie.Need-automata-requires
+automata-requires c κs = search needs
 
 automaton-at-requires : tie.Need-automaton-at-requires
 automaton-at-requires c κs = search needs
@@ -17,4 +14,4 @@ returns : tie.Need-returns
 returns c = search (needs, tree-is)
 
 pub tree-at-spec : {M : Type 1} → statement M
-tree-at-spec = tie.close (tie.spec count-at-requires word-requires automaton-at-requires returns)
+tree-at-spec = tie.close (tie.spec automata-requires automaton-at-requires returns)

@@ -7,17 +7,17 @@ use Rattle.judge.proofs.runs.all.Statement.{statement}
 use Rattle.judge.proofs.runs.all.Tie as tie
 
 abbrev Inv-loop : tie.InvT-loop
-Inv-loop words actions new-locations new-values answers₀ n v s₀ at₀ from₀ k₀ answers s at from k =
-    Going words n v actions new-locations new-values answers₀ s₀ answers s at from k
+Inv-loop words x own actions new-locations new-values answers₀ n v s₀ at₀ from₀ k₀ answers s at from k =
+    Going words x own n v actions new-locations new-values answers₀ s₀ answers s at from k
 
 abbrev μ-loop : tie.MeasureT-loop
-μ-loop words actions new-locations new-values answers₀ n v s₀ at₀ from₀ k₀ answers s at from k = length actions - k
+μ-loop words x own actions new-locations new-values answers₀ n v s₀ at₀ from₀ k₀ answers s at from k = length actions - k
 
-automata-requires : tie.Need-automata-requires Inv-loop μ-loop
-automata-requires c κs = search needs
+automata-of-requires : tie.Need-automata-of-requires Inv-loop μ-loop
+automata-of-requires c κs = search needs
 
-shown-requires : tie.Need-shown-requires Inv-loop μ-loop
-shown-requires c κs = search needs
+variables-of-requires : tie.Need-variables-of-requires Inv-loop μ-loop
+variables-of-requires c κs = search needs
 
 loop-holds : tie.Need-loop-holds Inv-loop μ-loop
 loop-holds c = search (needs, all-laws)
@@ -62,13 +62,15 @@ put-requires : tie.Need-put-requires Inv-loop μ-loop
 put-requires c κs = search needs
 
 mul-answers : tie.Need-mul-answers Inv-loop μ-loop
-mul-answers c = search needs
+mul-answers c = mul-put (c .before .before)
 
 slice-write-answers : tie.Need-slice-write-answers Inv-loop μ-loop
 slice-write-answers c = search needs
 
 add-k : tie.Need-add-k Inv-loop μ-loop
-add-k c = search needs
+add-k c =
+    let l = c .before .before .before .before .before .before .before in
+    search (needs, l .loop-test .taken, l .before .before .before .before .before .before .before .before .before .good)
 
 loop-less : tie.Need-loop-less Inv-loop μ-loop
 loop-less c = search needs
@@ -88,8 +90,8 @@ all-spec =
     (tie.spec
     Inv-loop
     μ-loop
-    automata-requires
-    shown-requires
+    automata-of-requires
+    variables-of-requires
     loop-holds
     onward-requires
     mul-locations

@@ -13,8 +13,8 @@ enum-known-read c = search needs
 enum-known-read-2 : tie.Need-enum-known-read-2
 enum-known-read-2 c = search needs
 
-start-checked-requires : tie.Need-start-checked-requires
-start-checked-requires c κs = search needs
+state-checked-requires : tie.Need-state-checked-requires
+state-checked-requires c κs = search needs
 
 enum-known-row : tie.Need-enum-known-row
 enum-known-row c = search needs
@@ -38,7 +38,7 @@ begun-spec =
     phase-of-requires
     enum-known-read
     enum-known-read-2
-    start-checked-requires
+    state-checked-requires
     enum-known-row
     enum-told
     returns

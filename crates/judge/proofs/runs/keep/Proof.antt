@@ -1,31 +1,30 @@
 -- `judge::runs::keep` meets its contract: the laws of RunCodeLaws on room and on what is kept.
 use Rattle.judge.proofs.RunCodeLaws.{kept-locations, kept-values, keep-laws}
-use Rattle.judge_call.proofs.CodeLaws.{shown-fits, shown-whole}
-use Rattle.judge_call.proofs.TakenLaws.{automata-fit, automata-whole}
+use Rattle.judge_call.proofs.CodeLaws.{front-fits, front-whole}
 use borrow.Author.Needs.{needs}
 use Rattle.judge.proofs.runs.keep.Statement.{statement}
 use Rattle.judge.proofs.runs.keep.Tie as tie
 
-automata-requires : tie.Need-automata-requires
-automata-requires c κs = search needs
+automata-of-requires : tie.Need-automata-of-requires
+automata-of-requires c κs = search needs
 
-shown-requires : tie.Need-shown-requires
-shown-requires c κs = search needs
+variables-of-requires : tie.Need-variables-of-requires
+variables-of-requires c κs = search needs
 
 array-share-prefix-locations : tie.Need-array-share-prefix-locations
-array-share-prefix-locations c = search (needs, automata-fit)
+array-share-prefix-locations c = search (needs, front-fits)
 
 slice-aggregate-put-words : tie.Need-slice-aggregate-put-words
-slice-aggregate-put-words c = search (needs, automata-whole)
+slice-aggregate-put-words c = search (needs, front-whole)
 
 put-words-requires : tie.Need-put-words-requires
 put-words-requires c κs = search (needs, keep-laws)
 
 array-share-prefix-values : tie.Need-array-share-prefix-values
-array-share-prefix-values c = search (needs, shown-fits)
+array-share-prefix-values c = search (needs, front-fits)
 
 slice-aggregate-put-values : tie.Need-slice-aggregate-put-values
-slice-aggregate-put-values c = search (needs, shown-whole)
+slice-aggregate-put-values c = search (needs, front-whole)
 
 put-values-requires : tie.Need-put-values-requires
 put-values-requires c κs = search (needs, keep-laws)
@@ -43,8 +42,8 @@ pub keep-spec : {M : Type 1} → statement M
 keep-spec =
     tie.close
     (tie.spec
-    automata-requires
-    shown-requires
+    automata-of-requires
+    variables-of-requires
     array-share-prefix-locations
     slice-aggregate-put-words
     put-words-requires

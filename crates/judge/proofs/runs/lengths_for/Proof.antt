@@ -4,15 +4,6 @@ use borrow.Author.Needs.{needs}
 use Rattle.judge.proofs.runs.lengths_for.Statement.{statement}
 use Rattle.judge.proofs.runs.lengths_for.Tie as tie
 
-count-at-requires : tie.Need-count-at-requires
-count-at-requires c κs = search needs
-
-word-requires : tie.Need-word-requires
-word-requires c κs = search needs
-
-word-requires-2 : tie.Need-word-requires-2
-word-requires-2 c κs = search needs
-
 times-requires : tie.Need-times-requires
 times-requires c κs = search needs
 
@@ -23,12 +14,4 @@ returns : tie.Need-returns
 returns c = search (needs, lengths-for-is)
 
 pub lengths-for-spec : {M : Type 1} → statement M
-lengths-for-spec =
-    tie.close
-    (tie.spec
-    count-at-requires
-    word-requires
-    word-requires-2
-    times-requires
-    times-requires-2
-    returns)
+lengths-for-spec = tie.close (tie.spec times-requires times-requires-2 returns)

@@ -20,7 +20,7 @@ returns-3 : tie.Need-returns-3
 returns-3 c = search (needs, listed-laws)
 
 ended-requires : tie.Need-ended-requires
-ended-requires c κs = search (needs, end-has-room)
+ended-requires c κs = (search needs, search (needs, end-has-room))
 
 same-length : tie.Need-same-length
 same-length c = search needs

@@ -1,17 +1,17 @@
--- `judge::runs::put` meets its contract: its answer and its state are the definition's.
+-- `judge::runs::put` meets its contract: each way out is a law of RunCodeLaws.
 use Rattle.judge.proofs.RunCodeLaws.{turn-is}
 use borrow.Author.Needs.{needs}
 use Rattle.judge.proofs.runs.put.Statement.{statement}
 use Rattle.judge.proofs.runs.put.Tie as tie
+
+proposed-requires : tie.Need-proposed-requires
+proposed-requires c κs = search needs
 
 judged-requires : tie.Need-judged-requires
 judged-requires c κs = search needs
 
 number-requires : tie.Need-number-requires
 number-requires c κs = search needs
-
-proposed-requires : tie.Need-proposed-requires
-proposed-requires c κs = search needs
 
 moved-requires : tie.Need-moved-requires
 moved-requires c κs = search needs
@@ -21,4 +21,4 @@ returns c = search (needs, turn-is)
 
 pub put-spec : {M : Type 1} → statement M
 put-spec =
-    tie.close (tie.spec judged-requires number-requires proposed-requires moved-requires returns)
+    tie.close (tie.spec proposed-requires judged-requires number-requires moved-requires returns)

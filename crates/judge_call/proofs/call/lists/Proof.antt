@@ -13,11 +13,11 @@ lengths-requires-2 c κs = search needs
 returns : tie.Need-returns
 returns c = search (needs, lists-laws)
 
-known-at-requires : tie.Need-known-at-requires
-known-at-requires c κs = search needs
+locations-known-requires : tie.Need-locations-known-requires
+locations-known-requires c κs = search needs
 
-known-at-requires-2 : tie.Need-known-at-requires-2
-known-at-requires-2 c κs = search needs
+locations-known-requires-2 : tie.Need-locations-known-requires-2
+locations-known-requires-2 c κs = search needs
 
 returns-2 : tie.Need-returns-2
 returns-2 c = search (needs, lists-laws)
@@ -41,8 +41,8 @@ lists-spec =
     lengths-requires
     lengths-requires-2
     returns
-    known-at-requires
-    known-at-requires-2
+    locations-known-requires
+    locations-known-requires-2
     returns-2
     values-known-requires
     values-known-requires-2

@@ -1,4 +1,4 @@
--- `judge_call::rows::action_known` meets its contract.
+-- `judge_call::rows::action_known` meets its contract: each way out is a law of CodeLaws.
 use Rattle.judge_call.proofs.CodeLaws.{action-known-is}
 use borrow.Author.Needs.{needs}
 use Rattle.judge_call.proofs.rows.action_known.Statement.{statement}
@@ -7,11 +7,8 @@ use Rattle.judge_call.proofs.rows.action_known.Tie as tie
 index-requires : tie.Need-index-requires
 index-requires c κs = search needs
 
-word-requires : tie.Need-word-requires
-word-requires c κs = search needs
-
 returns : tie.Need-returns
 returns c = search (needs, action-known-is)
 
 pub action-known-spec : {M : Type 1} → statement M
-action-known-spec = tie.close (tie.spec index-requires word-requires returns)
+action-known-spec = tie.close (tie.spec index-requires returns)

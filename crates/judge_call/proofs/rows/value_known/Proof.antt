@@ -6,17 +6,17 @@ use borrow.Author.Needs.{needs}
 use Rattle.judge_call.proofs.rows.value_known.Statement.{statement}
 use Rattle.judge_call.proofs.rows.value_known.Tie as tie
 
-word-requires : tie.Need-word-requires
-word-requires c κs = search needs
+range-at-requires : tie.Need-range-at-requires
+range-at-requires c κs = search needs
+
+low-requires : tie.Need-low-requires
+low-requires c κs = search needs
 
 unbias-requires : tie.Need-unbias-requires
 unbias-requires c κs = search needs
 
-step-requires : tie.Need-step-requires
-step-requires c κs = search needs
-
-word-requires-2 : tie.Need-word-requires-2
-word-requires-2 c κs = search needs
+high-requires : tie.Need-high-requires
+high-requires c κs = search needs
 
 unbias-requires-2 : tie.Need-unbias-requires-2
 unbias-requires-2 c κs = search needs
@@ -35,16 +35,17 @@ unfolding rangeHas
 returns c =
     let v = c .before .before in
     let high = v .before in
-    let low = high .before .before .before in
+    let low = high .before .before in
+    let at = low .before .before in
     rw (
       c .within .ensures,
       toZ-ofZ w64 _ (record { sfits = low .unbias .ok }),
       low .unbias .ensures,
-      low .before .word .ensures,
+      low .before .low .ensures,
       toZ-ofZ w64 _ (record { sfits = high .unbias2 .ok }),
       high .unbias2 .ensures,
-      high .before .word2 .ensures,
-      high .before .before .step .ensures,
+      high .before .high .ensures,
+      at .range-at .ensures,
       toZ-ofZ w64 _ (record { sfits = c .before .wide .ok }),
       c .before .wide .ensures,
       toZ-ofZ w32 _ (record { sfits = v .variable .ok }),
@@ -55,10 +56,10 @@ pub value-known-spec : {M : Type 1} → statement M
 value-known-spec =
     tie.close
     (tie.spec
-    word-requires
+    range-at-requires
+    low-requires
     unbias-requires
-    step-requires
-    word-requires-2
+    high-requires
     unbias-requires-2
     variable-requires
     wide-requires

@@ -1,43 +1,37 @@
 -- `judge_call::settled::all_hold` meets its contract: from each turn on, the walk goes on to the same end. The measure is the automata left.
 use mathlib.Core.Path.{_≡_}
 use Prim.Native.Nat.{_-_}
-use Rattle.table_places.specs.Outline.{afterAutomaton, automatonAt}
-use Rattle.judge_call.specs.Places.{eachFrom}
-use Rattle.judge_call.specs.Settled.{locationHolds, allHold}
+use Rattle.judge_call.specs.Each.{eachFrom}
+use Rattle.judge_call.specs.Settled.{holdsAt}
 use Rattle.judge_call.proofs.WalkLaws.{walk-laws}
-use Rattle.judge_call.proofs.CodeLaws.{all-first}
-use Rattle.judge_call.proofs.PlacesLaws.{place-laws, counted}
-use Rattle.judge_call.specs.Places.{automataIn}
+use Rattle.judge_call.proofs.CodeLaws.{all-walked}
 use borrow.Author.Needs.{needs}
 use Rattle.judge_call.proofs.settled.all_hold.Statement.{statement}
 use Rattle.judge_call.proofs.settled.all_hold.Tie as tie
 
 abbrev Inv-loop : tie.InvT-loop
-Inv-loop words places part s count n at₀ k₀ at k = (at ≡ automatonAt words k) × (n ≡ automataIn words) × (eachFrom (afterAutomaton words) (locationHolds words part s) at k (n - k) ≡ allHold words part s)
+Inv-loop words x part s n places k₀ k = eachFrom (holdsAt words x part s places) k (n - k) ≡ eachFrom (holdsAt words x part s places) 0 n
 
 abbrev μ-loop : tie.MeasureT-loop
-μ-loop words places part s count n at₀ k₀ at k = n - k
+μ-loop words x part s n places k₀ k = n - k
 
-count-at-requires : tie.Need-count-at-requires Inv-loop μ-loop
-count-at-requires c κs = search needs
-
-word-requires : tie.Need-word-requires Inv-loop μ-loop
-word-requires c κs = search needs
-
-step-requires : tie.Need-step-requires Inv-loop μ-loop
-step-requires c κs = search needs
+automata-of-requires : tie.Need-automata-of-requires Inv-loop μ-loop
+automata-of-requires c κs = search needs
 
 loop-holds : tie.Need-loop-holds Inv-loop μ-loop
-loop-holds c = search (needs, all-first, place-laws, counted, walk-laws)
+loop-holds c = search (needs, walk-laws)
+
+mul-location-holds : tie.Need-mul-location-holds Inv-loop μ-loop
+mul-location-holds c = search needs
+
+array-read-location-holds : tie.Need-array-read-location-holds Inv-loop μ-loop
+array-read-location-holds c = search needs
 
 location-holds-requires : tie.Need-location-holds-requires Inv-loop μ-loop
 location-holds-requires c κs = search needs
 
 returns : tie.Need-returns Inv-loop μ-loop
-returns c = search (needs, all-first, place-laws, counted, walk-laws)
-
-next-requires : tie.Need-next-requires Inv-loop μ-loop
-next-requires c κs = search needs
+returns c = search (needs, all-walked, walk-laws)
 
 add-k : tie.Need-add-k Inv-loop μ-loop
 add-k c = search needs
@@ -46,10 +40,10 @@ loop-less : tie.Need-loop-less Inv-loop μ-loop
 loop-less c = search needs
 
 loop-again : tie.Need-loop-again Inv-loop μ-loop
-loop-again c = search (needs, all-first, place-laws, counted, walk-laws)
+loop-again c = search (needs, walk-laws)
 
 returns-2 : tie.Need-returns-2 Inv-loop μ-loop
-returns-2 c = search (needs, all-first, place-laws, counted, walk-laws)
+returns-2 c = search (needs, all-walked, walk-laws)
 
 pub all-hold-spec : {M : Type 1} → statement M
 all-hold-spec =
@@ -57,13 +51,12 @@ all-hold-spec =
     (tie.spec
     Inv-loop
     μ-loop
-    count-at-requires
-    word-requires
-    step-requires
+    automata-of-requires
     loop-holds
+    mul-location-holds
+    array-read-location-holds
     location-holds-requires
     returns
-    next-requires
     add-k
     loop-less
     loop-again

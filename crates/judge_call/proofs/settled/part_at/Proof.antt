@@ -4,8 +4,8 @@ use borrow.Author.Needs.{needs}
 use Rattle.judge_call.proofs.settled.part_at.Statement.{statement}
 use Rattle.judge_call.proofs.settled.part_at.Tie as tie
 
-step-requires : tie.Need-step-requires
-step-requires c κs = search needs
+first-location-requires : tie.Need-first-location-requires
+first-location-requires c κs = search needs
 
 location-at-requires : tie.Need-location-at-requires
 location-at-requires c κs = search needs
@@ -29,7 +29,7 @@ pub part-at-spec : {M : Type 1} → statement M
 part-at-spec =
     tie.close
     (tie.spec
-    step-requires
+    first-location-requires
     location-at-requires
     enum-told
     enum-told-2

@@ -1,20 +1,20 @@
 -- `judge_call::settled::part_holds` meets its contract: the part of the array is that of the definition.
-use Rattle.judge_call.proofs.CodeLaws.{shown-fits, shown-whole, part-holds-is}
+use Rattle.judge_call.proofs.CodeLaws.{front-fits, front-whole, part-holds-is}
 use borrow.Author.Needs.{needs}
 use Rattle.judge_call.proofs.settled.part_holds.Statement.{statement}
 use Rattle.judge_call.proofs.settled.part_holds.Tie as tie
 
-shown-requires : tie.Need-shown-requires
-shown-requires c κs = search needs
+variables-of-requires : tie.Need-variables-of-requires
+variables-of-requires c κs = search needs
 
-step-requires : tie.Need-step-requires
-step-requires c κs = search needs
+nodes-at-requires : tie.Need-nodes-at-requires
+nodes-at-requires c κs = search needs
 
 array-share-prefix-values : tie.Need-array-share-prefix-values
-array-share-prefix-values c = search (needs, shown-fits)
+array-share-prefix-values c = search (needs, front-fits)
 
 slice-aggregate-known : tie.Need-slice-aggregate-known
-slice-aggregate-known c = search (needs, shown-whole)
+slice-aggregate-known c = search (needs, front-whole)
 
 holds-requires : tie.Need-holds-requires
 holds-requires c κs = search needs
@@ -26,8 +26,8 @@ pub part-holds-spec : {M : Type 1} → statement M
 part-holds-spec =
     tie.close
     (tie.spec
-    shown-requires
-    step-requires
+    variables-of-requires
+    nodes-at-requires
     array-share-prefix-values
     slice-aggregate-known
     holds-requires

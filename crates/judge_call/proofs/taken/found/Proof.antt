@@ -7,26 +7,20 @@ use Rattle.judge_call.proofs.taken.found.Tie as tie
 gather-requires : tie.Need-gather-requires
 gather-requires c κs = search needs
 
-own-sets-requires : tie.Need-own-sets-requires
-own-sets-requires c κs = search needs
-
 still-requires : tie.Need-still-requires
 still-requires c κs = search needs
 
 changed-requires : tie.Need-changed-requires
 changed-requires c κs = search needs
 
-tree-requires : tie.Need-tree-requires
-tree-requires c κs = search needs
+nodes-at-requires : tie.Need-nodes-at-requires
+nodes-at-requires c κs = search needs
 
 slice-aggregate-found : tie.Need-slice-aggregate-found
-slice-aggregate-found c = search needs
+slice-aggregate-found c = search (needs, masks-size)
 
 slice-aggregate-found-2 : tie.Need-slice-aggregate-found-2
-slice-aggregate-found-2 c = search (needs, masks-size)
-
-slice-aggregate-found-3 : tie.Need-slice-aggregate-found-3
-slice-aggregate-found-3 c = search (needs, first-size)
+slice-aggregate-found-2 c = search (needs, first-size)
 
 found-requires : tie.Need-found-requires
 found-requires c κs = search needs
@@ -39,12 +33,10 @@ found-spec =
     tie.close
     (tie.spec
     gather-requires
-    own-sets-requires
     still-requires
     changed-requires
-    tree-requires
+    nodes-at-requires
     slice-aggregate-found
     slice-aggregate-found-2
-    slice-aggregate-found-3
     found-requires
     returns)

@@ -14,8 +14,8 @@ Inv-loop before after variables set₀ k₀ set k = Noted (differs before after)
 abbrev μ-loop : tie.MeasureT-loop
 μ-loop before after variables set₀ k₀ set k = variables - k
 
-cap-requires : tie.Need-cap-requires Inv-loop μ-loop
-cap-requires c κs = search needs
+at-most-requires : tie.Need-at-most-requires Inv-loop μ-loop
+at-most-requires c κs = search needs
 
 loop-holds : tie.Need-loop-holds Inv-loop μ-loop
 loop-holds c = search (needs, noted-start)
@@ -46,7 +46,7 @@ changed-spec =
     (tie.spec
     Inv-loop
     μ-loop
-    cap-requires
+    at-most-requires
     loop-holds
     differs-requires
     with-bit-requires

@@ -14,8 +14,8 @@ Inv-loop old new automata set₀ k₀ set k = Noted (agrees old new) maxAutomata
 abbrev μ-loop : tie.MeasureT-loop
 μ-loop old new automata set₀ k₀ set k = automata - k
 
-cap-requires : tie.Need-cap-requires Inv-loop μ-loop
-cap-requires c κs = search needs
+at-most-requires : tie.Need-at-most-requires Inv-loop μ-loop
+at-most-requires c κs = search needs
 
 loop-holds : tie.Need-loop-holds Inv-loop μ-loop
 loop-holds c = search (needs, noted-start)
@@ -49,7 +49,7 @@ still-spec =
     (tie.spec
     Inv-loop
     μ-loop
-    cap-requires
+    at-most-requires
     loop-holds
     agrees-requires
     with-bit-requires

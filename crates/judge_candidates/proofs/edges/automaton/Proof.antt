@@ -4,14 +4,11 @@ use borrow.Author.Needs.{needs}
 use Rattle.judge_candidates.proofs.edges.automaton.Statement.{statement}
 use Rattle.judge_candidates.proofs.edges.automaton.Tie as tie
 
-edges-at-requires : tie.Need-edges-at-requires
-edges-at-requires c κs = search needs
-
 word-requires : tie.Need-word-requires
 word-requires c κs = search needs
 
-step-requires : tie.Need-step-requires
-step-requires c κs = search needs
+first-edge-requires : tie.Need-first-edge-requires
+first-edge-requires c κs = search needs
 
 edges-requires : tie.Need-edges-requires
 edges-requires c κs = search needs
@@ -20,5 +17,4 @@ returns : tie.Need-returns
 returns c = search (needs, automaton-is)
 
 pub automaton-spec : {M : Type 1} → statement M
-automaton-spec =
-    tie.close (tie.spec edges-at-requires word-requires step-requires edges-requires returns)
+automaton-spec = tie.close (tie.spec word-requires first-edge-requires edges-requires returns)

@@ -4,8 +4,8 @@ use borrow.Author.Needs.{needs}
 use Rattle.judge_candidates.proofs.edges.edge.Statement.{statement}
 use Rattle.judge_candidates.proofs.edges.edge.Tie as tie
 
-step-requires : tie.Need-step-requires
-step-requires c κs = search needs
+update-at-requires : tie.Need-update-at-requires
+update-at-requires c κs = search needs
 
 after-predicate-requires : tie.Need-after-predicate-requires
 after-predicate-requires c κs = search needs
@@ -38,7 +38,7 @@ pub edge-spec : {M : Type 1} → statement M
 edge-spec =
     tie.close
     (tie.spec
-    step-requires
+    update-at-requires
     after-predicate-requires
     returns
     takes-requires

@@ -4,14 +4,14 @@ use borrow.Author.Needs.{needs}
 use Rattle.judge_candidates.proofs.edges.rest_at.Statement.{statement}
 use Rattle.judge_candidates.proofs.edges.rest_at.Tie as tie
 
-step-requires : tie.Need-step-requires
-step-requires c κs = search needs
+update-at-requires : tie.Need-update-at-requires
+update-at-requires c κs = search needs
 
 word-requires : tie.Need-word-requires
 word-requires c κs = search needs
 
-step-requires-2 : tie.Need-step-requires-2
-step-requires-2 c κs = search needs
+nodes-at-requires : tie.Need-nodes-at-requires
+nodes-at-requires c κs = search needs
 
 rest-requires : tie.Need-rest-requires
 rest-requires c κs = search needs
@@ -21,4 +21,4 @@ returns c = search (needs, rest-at-is)
 
 pub rest-at-spec : {M : Type 1} → statement M
 rest-at-spec =
-    tie.close (tie.spec step-requires word-requires step-requires-2 rest-requires returns)
+    tie.close (tie.spec update-at-requires word-requires nodes-at-requires rest-requires returns)

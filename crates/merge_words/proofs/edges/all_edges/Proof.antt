@@ -4,7 +4,7 @@ use Prim.Native.Nat.{_+_, _-_, _≤_}
 use Rattle.merge_words.proofs.AppendLaws.{Underway}
 use Rattle.merge_words.specs.MergedEdges.{edgesOf}
 use mathlib.Core.Path.{_≡_}
-use Rattle.merge_words.specs.Layout.{layoutOf}
+use Rattle.table_places.specs.Layout.{layoutOf}
 use borrow.Author.Needs.{needs}
 use Rattle.merge_words.proofs.edges.all_edges.Statement.{statement}
 use Rattle.merge_words.proofs.edges.all_edges.Tie as tie
@@ -15,8 +15,8 @@ Inv-loop t own last out₀ at x action₀ next₀ out action next = (x ≡ layou
 abbrev μ-loop : tie.MeasureT-loop
 μ-loop t own last out₀ at x action₀ next₀ out action next = last + 1 - action
 
-of-requires : tie.Need-of-requires Inv-loop μ-loop
-of-requires c κs = search needs
+layout-of-requires : tie.Need-layout-of-requires Inv-loop μ-loop
+layout-of-requires c κs = search needs
 
 loop-holds : tie.Need-loop-holds Inv-loop μ-loop
 loop-holds c = search (needs, all-laws)
@@ -42,7 +42,7 @@ all-edges-spec =
     (tie.spec
     Inv-loop
     μ-loop
-    of-requires
+    layout-of-requires
     loop-holds
     action-edges-requires
     add-action

@@ -5,6 +5,9 @@ use borrow.Author.Needs.{needs}
 use Rattle.merge_words.proofs.edges.places_of.Statement.{statement}
 use Rattle.merge_words.proofs.edges.places_of.Tie as tie
 
+nodes-at-requires : tie.Need-nodes-at-requires
+nodes-at-requires c κs = search needs
+
 pick-requires : tie.Need-pick-requires
 pick-requires c κs = search needs
 
@@ -15,4 +18,4 @@ returns : tie.Need-returns
 returns c = search (needs, places-are)
 
 pub places-of-spec : {M : Type 1} → statement M
-places-of-spec = tie.close (tie.spec pick-requires takers-of-requires returns)
+places-of-spec = tie.close (tie.spec nodes-at-requires pick-requires takers-of-requires returns)

@@ -11,6 +11,9 @@ index-requires c κs = search needs
 counts-of-requires : tie.Need-counts-of-requires
 counts-of-requires c κs = search (needs, layout-edges)
 
+nodes-at-requires : tie.Need-nodes-at-requires
+nodes-at-requires c κs = search needs
+
 slice-aggregate-plan : tie.Need-slice-aggregate-plan
 slice-aggregate-plan c = search needs
 
@@ -23,4 +26,4 @@ returns c = search (needs, plan-is)
 pub plan-spec : {M : Type 1} → statement M
 plan-spec =
     tie.close
-    (tie.spec index-requires counts-of-requires slice-aggregate-plan plan-requires returns)
+    (tie.spec index-requires counts-of-requires nodes-at-requires slice-aggregate-plan plan-requires returns)

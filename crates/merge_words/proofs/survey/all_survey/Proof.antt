@@ -3,7 +3,7 @@ use Rattle.merge_words.proofs.SurveyLaws.{all-survey-laws}
 use mathlib.Core.Path.{_≡_}
 use Prim.Native.Nat.{_+_, _-_, _≤_}
 use Rattle.merge_words.specs.Survey.{surveyOf}
-use Rattle.merge_words.specs.Layout.{layoutOf}
+use Rattle.table_places.specs.Layout.{layoutOf}
 use borrow.Author.Needs.{needs}
 use Rattle.merge_words.proofs.survey.all_survey.Statement.{statement}
 use Rattle.merge_words.proofs.survey.all_survey.Tie as tie
@@ -14,8 +14,8 @@ Inv-loop t own last x action₀ sofar₀ action sofar = (x ≡ layoutOf t) × (a
 abbrev μ-loop : tie.MeasureT-loop
 μ-loop t own last x action₀ sofar₀ action sofar = last + 1 - action
 
-of-requires : tie.Need-of-requires Inv-loop μ-loop
-of-requires c κs = search needs
+layout-of-requires : tie.Need-layout-of-requires Inv-loop μ-loop
+layout-of-requires c κs = search needs
 
 loop-holds : tie.Need-loop-holds Inv-loop μ-loop
 loop-holds c = search (needs, all-survey-laws)
@@ -41,7 +41,7 @@ all-survey-spec =
     (tie.spec
     Inv-loop
     μ-loop
-    of-requires
+    layout-of-requires
     loop-holds
     action-survey-requires
     add-action
