@@ -10,7 +10,7 @@ use Rattle.format.specs.Number.{decimal, signed}
 use Rattle.model.specs.Table.{unbiased}
 use Rattle.line_order.specs.declared.Key.{Key}
 use Rattle.line_order.specs.declared.Key.the-variants.{Format, Actions, Variables, Variable, Automata, Sync, Locations, Init, Inv, Edges, Edge, Compose, End}
-use Rattle.writer.specs.declared.line.Part.{Part}
+use Rattle.writer.specs.declared.growing.Part.{Part}
 use Rattle.writer.specs.declared.line.Shape.{Shape}
 use Rattle.text_bytes.specs.declared.answer.Written.{Written}
 use Rattle.writer.specs.Growing.{Grew}
@@ -120,7 +120,7 @@ key-part Edge = refl
 key-part Compose = refl
 key-part End = refl
 
-pub key-within : (key : Key) → (keyPart key .from ≤ keyPart key .to) × (keyPart key .to ≤ 86)
+key-within : (key : Key) → (keyPart key .from ≤ keyPart key .to) × (keyPart key .to ≤ 86)
 unfolding keyPart
 key-within Format = (omega arith, omega arith)
 key-within Actions = (omega arith, omega arith)

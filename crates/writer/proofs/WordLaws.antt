@@ -1,12 +1,13 @@
 -- Each way out of the code of src/words.rt.
 use Prim.Native.Nat.{ℕ, zero, suc, _+_, _-_, _≤_, _<_}
-use mathlib.Core.Path.{_≡_, refl, sym, ap}
+use mathlib.Core.Path.{_≡_, refl, sym, ap, subst, _∙_}
 use mathlib.Core.List.{List, [], _∷_, _++_, map, append-nil}
 use native.Mathlib.Numerals.{add-one}
-use lib.ListN.{length, getD, take}
+use native.Mathlib.Omega.{arith}
+use lib.ListN.{length, getD, take, drop}
 use lib.Seq.{take-suc, take-all}
 use lib.Dec.{eqb}
-use Rattle.format.specs.Bytes.{Bytes, ledBy, joined, space}
+use Rattle.format.specs.Bytes.{Bytes, bytes, ledBy, joined, space}
 use Rattle.format.specs.Number.{decimal, signed}
 use Rattle.format.specs.Spelling.{spelled}
 use Rattle.model.specs.Table.{unbiased, wordOf}
@@ -15,41 +16,82 @@ use Rattle.node_words.specs.declared.Node.the-variants.{All, Any, Not, Imp, Eq,
 use Rattle.node_words.specs.Nodes.{meant, nodeOf}
 use Rattle.node_words.proofs.NodeLaws.{word-by, Other, by-others}
 use Rattle.text_bytes.specs.declared.answer.Written.{Written}
+use Rattle.writer.specs.declared.growing.Part.{Part}
 use Rattle.writer.specs.Growing.{Grew, between}
-use Rattle.writer.specs.Text.{wordText, wordsText, nameText, argumentText}
+use Rattle.writer.specs.Text.{wordText, wordsText, namePart, nameText, argumentText}
 use Rattle.writer.proofs.GrowingLaws.{grew-none, grew-then}
 use Rattle.writer.proofs.JoinLaws.{isNone, joined-snoc, map-append, none-taken}
 
--- `name` and `argument`, by the node
-module _ (n m : Node) (e : n ≡ m) (at r : Written) (old new : Bytes) where
-  pub name-by : Grew (nameText m) at old new r → Grew (nameText n) at old new r
-  name-by g = rw e g
+-- `among_names` and `argument`, by the node
+module _ (n m : Node) (e : n ≡ m) where
+  pub place-by : (p : Part) → p ≡ namePart m → p ≡ namePart n
+  place-by p h = rw e h
 
-  pub argument-by : Grew (argumentText m) at old new r → Grew (argumentText n) at old new r
-  argument-by g = rw e g
+  pub argument-by : (at r : Written) (old new : Bytes) → Grew (argumentText m) at old new r → Grew (argumentText n) at old new r
+  argument-by at r old new g = rw e g
 
--- the nodes with a name, and those with an argument
-abbrev named : List Node
-named = All 0 ∷ Any 0 ∷ Not ∷ Imp ∷ Eq ∷ Le ∷ Old 0 ∷ New 0 ∷ Add ∷ Sub ∷ Mul ∷ If ∷ []
+pub ruleset place-laws = (place-by)
 
+-- `name`: the row of all names has each at its part
+unfoldable pub inNames : Part → Bytes
+inNames p = take (p .to - p .from) (drop (p .from) (bytes "all any notimpeqlevnaddsubmulif"))
+
+pub name-part : (n : Node) → inNames (namePart n) ≡ nameText n
+unfolding inNames namePart nameText
+name-part (All k) = refl
+name-part (Any k) = refl
+name-part Not = refl
+name-part Imp = refl
+name-part Eq = refl
+name-part Le = refl
+name-part (Number n) = refl
+name-part (Old k) = refl
+name-part (New k) = refl
+name-part Add = refl
+name-part Sub = refl
+name-part Mul = refl
+name-part If = refl
+name-part Stray = refl
+
+name-within : (n : Node) → (namePart n .from ≤ namePart n .to) × (namePart n .to ≤ 31)
+unfolding namePart
+name-within (All k) = (omega arith, omega arith)
+name-within (Any k) = (omega arith, omega arith)
+name-within Not = (omega arith, omega arith)
+name-within Imp = (omega arith, omega arith)
+name-within Eq = (omega arith, omega arith)
+name-within Le = (omega arith, omega arith)
+name-within (Number n) = (omega arith, omega arith)
+name-within (Old k) = (omega arith, omega arith)
+name-within (New k) = (omega arith, omega arith)
+name-within Add = (omega arith, omega arith)
+name-within Sub = (omega arith, omega arith)
+name-within Mul = (omega arith, omega arith)
+name-within If = (omega arith, omega arith)
+name-within Stray = (omega arith, omega arith)
+
+module _ (n : Node) (p : Part) (e : p ≡ namePart n) where
+  pub name-rises : p .from ≤ p .to
+  name-rises = rw e (name-within n .0)
+
+  pub name-inside : p .to ≤ 31
+  name-inside = rw e (name-within n .1)
+
+  pub name-grew : (at r : Written) (old new : Bytes) → Grew (inNames p) at old new r → Grew (nameText n) at old new r
+  name-grew at r old new g = subst (λ (t : Bytes). Grew t at old new r) (ap inNames e ∙ name-part n) g
+
+pub ruleset name-laws = (name-rises, name-inside, name-grew)
+
+-- the nodes with an argument
 abbrev argued : List Node
 argued = All 0 ∷ Any 0 ∷ Number 0 ∷ Old 0 ∷ New 0 ∷ []
 
-module _ (n : Node) (at : Written) (b : Bytes) where
-  pub name-other : Other named n → Grew (nameText n) at b b at
-  unfolding nameText
-  name-other o =
-      by-others (λ (m : Node). Grew (nameText m) at b b at) named n o
-      (tt, tt, tt, tt, tt, tt, (λ k. grew-none at b), tt, tt, tt, tt, tt, tt, grew-none at b)
-
-  pub argument-other : Other argued n → Grew (argumentText n) at b b at
-  unfolding argumentText
-  argument-other o =
-      let none = grew-none at b in
-      by-others (λ (m : Node). Grew (argumentText m) at b b at) argued n o
-      (tt, tt, none, none, none, none, tt, tt, tt, none, none, none, none, none)
-
-pub ruleset name-laws = (name-by, name-other)
+pub argument-other : (n : Node) (at : Written) (b : Bytes) → Other argued n → Grew (argumentText n) at b b at
+unfolding argumentText
+argument-other n at b o =
+    let none = grew-none at b in
+    by-others (λ (m : Node). Grew (argumentText m) at b b at) argued n o
+    (tt, tt, none, none, none, none, tt, tt, tt, none, none, none, none, none)
 
 pub ruleset argument-laws = (argument-by, argument-other)
 

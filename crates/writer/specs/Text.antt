@@ -16,7 +16,7 @@ use Rattle.line_order.specs.declared.Key.{Key}
 use Rattle.line_order.specs.declared.Key.the-variants.{Format, Actions, Variables, Variable, Automata, Sync, Locations, Init, Inv, Edges, Edge, Compose, End}
 use Rattle.line_order.specs.declared.Due.{Due}
 use Rattle.line_order.specs.Due.{isEnd, dueFirst, dueAfter}
-use Rattle.writer.specs.declared.line.Part.{Part}
+use Rattle.writer.specs.declared.growing.Part.{Part}
 use Rattle.writer.specs.declared.line.Shape.{Shape}
 use Rattle.writer.specs.declared.line.Shape.the-variants as S
 use Rattle.writer.specs.Growing.{between}
@@ -44,6 +44,26 @@ nameText Sub = bytes "sub"
 nameText Mul = bytes "mul"
 nameText If = bytes "if"
 nameText Stray = []
+
+-- Where a name stands among all names in one row; that part of it is its text (the law name-part).
+abbrev part : (from to : ℕ) → Part
+part from to = record { from = from; to = to }
+
+unfoldable pub namePart : Node → Part
+namePart (All k) = part 0 4
+namePart (Any k) = part 4 8
+namePart Not = part 8 11
+namePart Imp = part 11 14
+namePart Eq = part 14 16
+namePart Le = part 16 18
+namePart (Number n) = part 31 31
+namePart (Old k) = part 18 19
+namePart (New k) = part 19 20
+namePart Add = part 20 23
+namePart Sub = part 23 26
+namePart Mul = part 26 29
+namePart If = part 29 31
+namePart Stray = part 31 31
 
 unfoldable pub argumentText : Node → Bytes
 argumentText (All k) = decimal k
@@ -163,9 +183,6 @@ keyText Compose = spelling compose
 keyText End = []
 
 -- Where a key stands among all keys in one row; that part of it is its text (the law key-part).
-abbrev part : (from to : ℕ) → Part
-part from to = record { from = from; to = to }
-
 unfoldable pub keyPart : Key → Part
 keyPart Format = part 0 7
 keyPart Actions = part 7 15

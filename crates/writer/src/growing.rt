@@ -1,6 +1,8 @@
 // Writing on from a place; where there is no room, that is passed on.
 use text_bytes::Written;
 ghost use mathlib.Core.Path.{_≡_};
+ghost use Prim.Native.Nat.{_-_, _≤_};
+ghost use lib.ListN.{length, take, drop};
 ghost use Rattle.format.specs.Number as N;
 ghost use Rattle.model.specs.Table.{unbiased};
 ghost use Rattle.writer.specs.Growing.{Grew, between};
@@ -42,4 +44,20 @@ pub(crate) fn biased(word: u32, out: &mut [u8], at: Written) -> Written
         return number(32768 - word, out, a);
     }
     number(word - 32768, out, at)
+}
+
+// A part of a row of bytes.
+pub struct Part {
+    pub from: usize,
+    pub to: usize,
+}
+
+// Words stand in one row, and a part of it is put: a literal for each word would be checked much longer.
+pub(crate) fn put_part(row: &[u8], p: Part, out: &mut [u8], at: Written) -> Written
+    requires { ⌜ (p .from ≤ p .to) × (p .to ≤ length (now row)) ⌝ }
+    ensures { λ r. ⌜ Grew (take (p .to - p .from) (drop (p .from) (now (row .entry)))) at (now (out .entry)) (now (out .exit)) r ⌝ }
+{
+    let from = p.from;
+    let to = p.to;
+    put(&row[from..to], out, at)
 }

@@ -1,4 +1,5 @@
 // One line: its key, its value and a line feed.
+use crate::growing::Part;
 use crate::growing::{self};
 use crate::nodes::{self};
 use crate::read::{self};
@@ -6,8 +7,6 @@ use crate::words::{self};
 use line_order::Key;
 use text_bytes::Written;
 ghost use mathlib.Core.Path.{_≡_};
-ghost use Prim.Native.Nat.{_-_, _≤_};
-ghost use lib.ListN.{length, take, drop};
 ghost use Rattle.writer.specs.Growing.{Grew};
 ghost use Rattle.writer.specs.Text.{rangeText, predicateText, fieldText, edgeText, treeText, shapeOf, valueOf, keyPart, keyText, lineOf, sizeOf};
 
@@ -100,12 +99,6 @@ fn value(key: Key, ws: &[u32], out: &mut [u8], at: Written) -> Written
     }
 }
 
-// A part of a row of bytes.
-pub struct Part {
-    pub from: usize,
-    pub to: usize,
-}
-
 // Where a key stands among all keys.
 fn among_keys(key: Key) -> Part
     ensures { λ r. ⌜ r ≡ keyPart key ⌝ }
@@ -127,21 +120,12 @@ fn among_keys(key: Key) -> Part
     }
 }
 
-fn put_part(row: &[u8], p: Part, out: &mut [u8], at: Written) -> Written
-    requires { ⌜ (p .from ≤ p .to) × (p .to ≤ length (now row)) ⌝ }
-    ensures { λ r. ⌜ Grew (take (p .to - p .from) (drop (p .from) (now (row .entry)))) at (now (out .entry)) (now (out .exit)) r ⌝ }
-{
-    let from = p.from;
-    let to = p.to;
-    growing::put(&row[from..to], out, at)
-}
-
 // A key, the equals sign with it. All keys stand in one row, for a literal in each arm would be checked much longer.
 fn name(key: Key, out: &mut [u8], at: Written) -> Written
     ensures { λ r. ⌜ Grew (keyText key) at (now (out .entry)) (now (out .exit)) r ⌝ }
 {
     let p = among_keys(key);
-    put_part(
+    growing::put_part(
         b"format=actions=variables=variable=automata=sync=locations=init=inv=edges=edge=compose=",
         p,
         out,

@@ -1,30 +1,40 @@
 // Predicates: the nodes of a predicate, each one word, and spaces between them.
+use crate::growing::Part;
 use crate::growing::{self};
 use node_words::Node;
 use text_bytes::Written;
 ghost use mathlib.Core.Path.{_≡_};
 ghost use Rattle.writer.specs.Growing.{Grew};
-ghost use Rattle.writer.specs.Text.{nameText, argumentText, wordText, wordsText};
+ghost use Rattle.writer.specs.Text.{namePart, nameText, argumentText, wordText, wordsText};
+
+// Where a node's name stands among all names.
+fn among_names(node: Node) -> Part
+    ensures { λ r. ⌜ r ≡ namePart node ⌝ }
+{
+    match node {
+        Node::All(_) => Part { from: 0, to: 4 },
+        Node::Any(_) => Part { from: 4, to: 8 },
+        Node::Not => Part { from: 8, to: 11 },
+        Node::Imp => Part { from: 11, to: 14 },
+        Node::Eq => Part { from: 14, to: 16 },
+        Node::Le => Part { from: 16, to: 18 },
+        Node::Number(_) => Part { from: 31, to: 31 },
+        Node::Old(_) => Part { from: 18, to: 19 },
+        Node::New(_) => Part { from: 19, to: 20 },
+        Node::Add => Part { from: 20, to: 23 },
+        Node::Sub => Part { from: 23, to: 26 },
+        Node::Mul => Part { from: 26, to: 29 },
+        Node::If => Part { from: 29, to: 31 },
+        Node::Stray => Part { from: 31, to: 31 },
+    }
+}
 
 // What a node is called.
 fn name(node: Node, out: &mut [u8], at: Written) -> Written
     ensures { λ r. ⌜ Grew (nameText node) at (now (out .entry)) (now (out .exit)) r ⌝ }
 {
-    match node {
-        Node::All(_) => growing::put(b"all ", out, at),
-        Node::Any(_) => growing::put(b"any ", out, at),
-        Node::Not => growing::put(b"not", out, at),
-        Node::Imp => growing::put(b"imp", out, at),
-        Node::Eq => growing::put(b"eq", out, at),
-        Node::Le => growing::put(b"le", out, at),
-        Node::Old(_) => growing::put(b"v", out, at),
-        Node::New(_) => growing::put(b"n", out, at),
-        Node::Add => growing::put(b"add", out, at),
-        Node::Sub => growing::put(b"sub", out, at),
-        Node::Mul => growing::put(b"mul", out, at),
-        Node::If => growing::put(b"if", out, at),
-        _ => at,
-    }
+    let p = among_names(node);
+    growing::put_part(b"all any notimpeqlevnaddsubmulif", p, out, at)
 }
 
 // Its argument, where it has one.
