@@ -27,10 +27,10 @@ pub enum Ran {
     EndShort,
 }
 
-// Puts a list of proposals to the judges, over one check of the table and one walk over it. For each: its action, or 4294967295 for the
-// environment judge; its locations, which that judge does not read; its values. A yes moves the run to the proposed
-// state. The answers' numbers go into `answers`, the locations and values at the end into the other two, and what
-// follows them is as it was.
+// Puts a list of proposals to the judges, over one check of the table and one walk over it. For each: its action, or
+// 4294967295 for the environment judge; its locations, which that judge does not read; its values. A yes moves the run
+// to the proposed state. The answers' numbers go into `answers`, the locations and values at the end into the other
+// two, and what follows them is as it was.
 pub fn run(
     table: &[u32],
     phase: u32,

@@ -1,5 +1,6 @@
-// A list of proposals over a table that is known to be good: what `run` does once it has checked the table. `x` is the table's layout
-// and `own` the automata's own sets, found once for the list; and a state that a yes led to is not checked again.
+// A list of proposals over a table that is known to be good: what `run` does once it has checked the table. `x` is the
+// table's layout and `own` the automata's own sets, found once for the list; and a state that a yes led to is not
+// checked again.
 use crate::Ran;
 use judge_call::Admitted;
 use judge_call::Answer;
@@ -167,7 +168,8 @@ fn all(
     answers: &mut [u32],
 ) -> State
     requires { ⌜ length (now actions) ≤ length (now answers) ⌝ }
-    ensures { λ r. ⌜ r ≡ goOn (now (words .entry)) x (now (own .entry)) (automataOf x) (variablesOf x) start (now (answers .entry)) 0 (now (actions .entry)) (now («new_locations» .entry))
+    ensures { λ r. ⌜ r ≡ goOn (now (words .entry)) x (now (own .entry)) (automataOf x) (variablesOf x)
+        start (now (answers .entry)) 0 (now (actions .entry)) (now («new_locations» .entry))
         (now («new_values» .entry)) .state ⌝ }
     ensures { λ _. ⌜ now (answers .exit) ≡ goOn (now (words .entry)) x (now (own .entry)) (automataOf x)
         (variablesOf x) start (now (answers .entry)) 0 (now (actions .entry))
@@ -257,7 +259,8 @@ fn ended(
 ) -> Phase
     requires { ⌜ length (now actions) ≤ length (now answers) ⌝ }
     requires { ⌜ endFits x (length (now «end_locations»)) (length (now «end_values»)) ≡ true ⌝ }
-    ensures { λ r. ⌜ Leaves (ranOn (now (words .entry)) x (now (own .entry)) start (now (actions .entry)) (now («new_locations» .entry))
+    ensures { λ r. ⌜ Leaves (ranOn (now (words .entry)) x (now (own .entry)) start (now (actions .entry))
+        (now («new_locations» .entry))
         (now («new_values» .entry)) (now (answers .entry)) (now («end_locations» .entry)) (now («end_values» .entry)))
         (Ended r) (now (answers .exit)) (now («end_locations» .exit)) (now («end_values» .exit)) ⌝ }
 {
@@ -288,7 +291,8 @@ fn listed(
     end_locations: &mut [u32],
     end_values: &mut [i32],
 ) -> Ran
-    ensures { λ r. ⌜ Leaves (listedOn (now (words .entry)) x (now (own .entry)) start (now (actions .entry)) (now («new_locations» .entry))
+    ensures { λ r. ⌜ Leaves (listedOn (now (words .entry)) x (now (own .entry)) start (now (actions .entry))
+        (now («new_locations» .entry))
         (now («new_values» .entry)) (now (answers .entry)) (now («end_locations» .entry)) (now («end_values» .entry)))
         r (now (answers .exit)) (now («end_locations» .exit)) (now («end_values» .exit)) ⌝ }
 {

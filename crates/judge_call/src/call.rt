@@ -45,7 +45,8 @@ fn lists(
     new_locations: &[u32],
     new_values: &[i32],
 ) -> Checked
-    ensures { λ r. ⌜ r ≡ listsChecked (now (words .entry)) x (now (locations .entry)) (now (values .entry)) (now («new_locations» .entry)) (now («new_values» .entry)) ⌝ }
+    ensures { λ r. ⌜ r ≡ listsChecked (now (words .entry)) x (now (locations .entry)) (now (values .entry))
+        (now («new_locations» .entry)) (now («new_values» .entry)) ⌝ }
 {
     if !rows::lengths(x, locations.len(), values.len())
         | !rows::lengths(x, new_locations.len(), new_values.len())
@@ -73,7 +74,8 @@ pub(crate) fn admitted(
     new_locations: &[u32],
     new_values: &[i32],
 ) -> Admitted
-    ensures { λ r. ⌜ r ≡ admittedOn (now (words .entry)) x phase (now (locations .entry)) (now (values .entry)) (now («new_locations» .entry)) (now («new_values» .entry)) ⌝ }
+    ensures { λ r. ⌜ r ≡ admittedOn (now (words .entry)) x phase (now (locations .entry)) (now (values .entry))
+        (now («new_locations» .entry)) (now («new_values» .entry)) ⌝ }
 {
     let read = rows::phase_of(phase);
     match read {

@@ -1,4 +1,5 @@
-// The judgement over a table that is known to be good, by its layout and the automata's own sets, which a caller finds once.
+// The judgement over a table that is known to be good, by its layout and the automata's own sets, which a caller finds
+// once.
 use crate::Admitted;
 use crate::Answer;
 use crate::Phase;
@@ -32,7 +33,8 @@ pub(crate) fn environment_on(
     values: &[i32],
     new_values: &[i32],
 ) -> Answer
-    ensures { λ r. ⌜ r ≡ environmentOn (now (words .entry)) x phase (now (locations .entry)) (now (values .entry)) (now («new_values» .entry)) ⌝ }
+    ensures { λ r. ⌜ r ≡ environmentOn (now (words .entry)) x phase (now (locations .entry))
+        (now (values .entry)) (now («new_values» .entry)) ⌝ }
 {
     let admitted = call::admitted(words, x, phase, locations, values, locations, new_values);
     match admitted {
@@ -83,7 +85,9 @@ pub(crate) fn step_on(
     new_locations: &[u32],
     new_values: &[i32],
 ) -> Answer
-    ensures { λ r. ⌜ r ≡ stepOn (now (words .entry)) x (now (own .entry)) phase (now (locations .entry)) (now (values .entry)) action (now («new_locations» .entry)) (now («new_values» .entry)) ⌝ }
+    ensures { λ r. ⌜ r ≡ stepOn (now (words .entry)) x (now (own .entry)) phase
+        (now (locations .entry)) (now (values .entry)) action (now («new_locations» .entry))
+        (now («new_values» .entry)) ⌝ }
 {
     let admitted = call::admitted(
         words,
@@ -115,7 +119,8 @@ pub fn step_from(
     new_values: &[i32],
     t: State,
 ) -> Answer
-    ensures { λ r. ⌜ r ≡ stepFrom (now (words .entry)) x (now (own .entry)) s action (now («new_locations» .entry)) (now («new_values» .entry)) t ⌝ }
+    ensures { λ r. ⌜ r ≡ stepFrom (now (words .entry)) x (now (own .entry)) s action
+        (now («new_locations» .entry)) (now («new_values» .entry)) t ⌝ }
 {
     match call::state_checked(words, x, new_locations, new_values) {
         Checked::Refused(row) => Answer::Refused(row),

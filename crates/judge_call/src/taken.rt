@@ -15,7 +15,8 @@ fn found(
     after: &[i32],
     action: u32,
 ) -> bool
-    ensures { λ r. ⌜ r ≡ takenIn (now (words .entry)) x (now (own .entry)) (now (old .entry)) (now (new .entry)) (now (before .entry)) (now (after .entry)) action ⌝ }
+    ensures { λ r. ⌜ r ≡ takenIn (now (words .entry)) x (now (own .entry)) (now (old .entry))
+        (now (new .entry)) (now (before .entry)) (now (after .entry)) action ⌝ }
 {
     let mut masks = [0u64; 512];
     let mut first = [0usize; 17];
