@@ -1,0 +1,28 @@
+-- `writer::words::name` meets its contract: each way out is a law of WordLaws.
+use Rattle.writer.proofs.WordLaws.{name-laws}
+use Rattle.writer.proofs.WordLaws.{inNames}
+use borrow.Author.Needs.{needs}
+use Rattle.writer.proofs.words.name.Statement.{statement}
+use Rattle.writer.proofs.words.name.Tie as tie
+
+among-names-requires : tie.Need-among-names-requires
+among-names-requires c κs = search needs
+
+slice-aggregate-put-part : tie.Need-slice-aggregate-put-part
+slice-aggregate-put-part c = search needs
+
+put-part-requires : tie.Need-put-part-requires
+unfolding inNames
+put-part-requires c κs = search (needs, name-laws)
+
+same-length : tie.Need-same-length
+same-length c = search needs
+
+returns : tie.Need-returns
+unfolding inNames
+returns c = search (needs, name-laws)
+
+pub name-spec : {M : Type 1} → statement M
+name-spec =
+    tie.close
+    (tie.spec among-names-requires slice-aggregate-put-part put-part-requires same-length returns)
