@@ -19,7 +19,8 @@ fn smaller(a: u32, b: u32) -> u32
     if a < b { a } else { b }
 }
 
-// How many variables of u an edge between two places covers at most. The reads need no test, so several edges are counted at once.
+// How many variables of u an edge between two places covers at most. No read needs a test, so that the compiler can
+// count several edges at once.
 fn gain_within(masks: &[u64], from: usize, to: usize, u: u64) -> u32
     requires { ⌜ to ≤ length (now masks) ⌝ }
     ensures { λ r. ⌜ CoversAtMost (now (masks .entry)) from to u r ⌝ }

@@ -41,8 +41,8 @@ fn last(ends: &[usize], n: usize) -> usize {
     }
 }
 
-// Counts the edges up to the end of the last group. Where other edges stand between the groups they are counted too, which may
-// make the choice a worse one.
+// Counts the edges up to the end of the last group. Where other edges stand between the groups they are counted too,
+// which may make the choice a worse one.
 fn count(masks: &[u64], to: usize, u: u64) -> Tally {
     let mut t = Tally {
         ones: 0,
