@@ -53,81 +53,132 @@ fn bytes(n: usize) {
     run::run(build::first(&sheet, n));
 }
 
-fn sizes() {
+fn all_nodes() {
     run::say(b"4,096 nodes: ");
     nodes(b"");
     run::say(b"row 11, 4,097 nodes: ");
     nodes(b"not ");
+}
+
+fn all_edges() {
     run::say(b"512 edges in all: ");
     edges(212);
     run::say(b"row 15, 513 edges in all: ");
     edges(213);
+}
+
+// So many `syn 1` over a0.
+fn nested(n: u32) {
+    run::long(11, 12, b"compose=", b"syn 1 ", n, b"a0\n");
+}
+
+fn tree_nodes() {
     run::say(b"64 tree nodes:");
-    run::long(11, 12, b"compose=", b"syn 1 ", 63, b"a0\n");
+    nested(63);
     run::say(b"row 16, 65 tree nodes:");
-    run::long(11, 12, b"compose=", b"syn 1 ", 64, b"a0\n");
+    nested(64);
+}
+
+fn all_bytes() {
     run::say(b"65,536 bytes, the line after the last unfinished: ");
     bytes(65536);
     run::say(b"row 1, 65,537 bytes: ");
     bytes(65537);
 }
 
-fn counts() {
+fn actions() {
     run::changed(b"actions=63: ", 2, 3, b"actions=63\n");
     run::changed(b"actions=64: ", 2, 3, b"actions=64\n");
-    run::say(b"variables=48:");
-    run::long(3, 5, b"variables=48\n", b"variable=0,1\n", 48, b"");
-    run::say(b"variables=49:");
-    run::long(3, 5, b"variables=49\n", b"variable=0,1\n", 49, b"");
-    run::say(b"locations=32:");
-    run::long(
-        7,
-        10,
-        b"locations=32\n",
-        b"init=all 0\ninv=all 0\n",
-        32,
-        b"",
-    );
-    run::say(b"locations=33:");
-    run::long(
-        7,
-        10,
-        b"locations=33\n",
-        b"init=all 0\ninv=all 0\n",
-        33,
-        b"",
-    );
-    run::say(b"edges=512:");
-    run::long(10, 11, b"edges=512\n", b"edge=0,0,0,all 0\n", 512, b"");
-    run::say(b"edges=513:");
-    run::long(10, 11, b"edges=513\n", b"edge=0,0,0,all 0\n", 513, b"");
-    run::say(b"all 512:");
-    run::long(9, 10, b"inv=all 512", b" all 0", 512, b"\n");
-    run::say(b"all 513:");
-    run::long(9, 10, b"inv=all 513", b" all 0", 513, b"\n");
 }
 
-fn automata() {
+// After this line, so many variables, locations, edges; and so many operands of a predicate that begins so.
+fn declared(first: &[u8], n: u32) {
+    run::long(3, 5, first, b"variable=0,1\n", n, b"");
+}
+
+fn variables() {
+    run::say(b"variables=48:");
+    declared(b"variables=48\n", 48);
+    run::say(b"variables=49:");
+    declared(b"variables=49\n", 49);
+}
+
+fn located(first: &[u8], n: u32) {
+    run::long(7, 10, first, b"init=all 0\ninv=all 0\n", n, b"");
+}
+
+fn locations() {
+    run::say(b"locations=32:");
+    located(b"locations=32\n", 32);
+    run::say(b"locations=33:");
+    located(b"locations=33\n", 33);
+}
+
+fn edged(first: &[u8], n: u32) {
+    run::long(10, 11, first, b"edge=0,0,0,all 0\n", n, b"");
+}
+
+fn edge_lines() {
+    run::say(b"edges=512:");
+    edged(b"edges=512\n", 512);
+    run::say(b"edges=513:");
+    edged(b"edges=513\n", 513);
+}
+
+fn listed(first: &[u8], n: u32) {
+    run::long(9, 10, first, b" all 0", n, b"\n");
+}
+
+fn operands() {
+    run::say(b"all 512:");
+    listed(b"inv=all 512", 512);
+    run::say(b"all 513:");
+    listed(b"inv=all 513", 513);
+}
+
+// So many automata, after this line, and sixteen composed.
+fn composed(first: &[u8], n: u32) {
     let one = b"sync=\nlocations=1\ninit=all 0\ninv=all 0\nedges=0\n";
     let all =
         b"compose=par a0 par a1 par a2 par a3 par a4 par a5 par a6 par a7 par a8 par a9 par a10 par a11 par a12 par a13 par a14 a15\n";
-    run::say(b"automata=16:");
-    run::long(5, 12, b"automata=16\n", one, 16, all);
-    run::say(b"automata=17:");
-    run::long(5, 12, b"automata=17\n", one, 17, all);
+    run::long(5, 12, first, one, n, all);
 }
 
-fn ends() {
+fn automata() {
+    run::say(b"automata=16:");
+    composed(b"automata=16\n", 16);
+    run::say(b"automata=17:");
+    composed(b"automata=17\n", 17);
+}
+
+fn ranges() {
     run::changed(b"variable=-32768,32767: ", 4, 5, b"variable=-32768,32767\n");
     run::changed(b"variable=-32769,0: ", 4, 5, b"variable=-32769,0\n");
     run::changed(b"variable=0,32768: ", 4, 5, b"variable=0,32768\n");
-    run::changed(b"eq -32768 32767: ", 9, 10, b"inv=eq -32768 32767\n");
-    run::changed(b"eq -32769 0: ", 9, 10, b"inv=eq -32769 0\n");
-    run::changed(b"eq 0 32768: ", 9, 10, b"inv=eq 0 32768\n");
-    run::changed(b"v47, V 1: ", 9, 10, b"inv=eq v47 0\n");
-    run::changed(b"v48, V 1: ", 9, 10, b"inv=eq v48 0\n");
+}
+
+// The plain sheet with this inv.
+fn inv(label: &[u8], line: &[u8]) {
+    run::changed(label, 9, 10, line);
+}
+
+fn numbers() {
+    inv(b"eq -32768 32767: ", b"inv=eq -32768 32767\n");
+    inv(b"eq -32769 0: ", b"inv=eq -32769 0\n");
+    inv(b"eq 0 32768: ", b"inv=eq 0 32768\n");
+}
+
+fn variable_names() {
+    inv(b"v47, V 1: ", b"inv=eq v47 0\n");
+    inv(b"v48, V 1: ", b"inv=eq v48 0\n");
+}
+
+fn action_names() {
     run::changed(b"sync=63, A 2: ", 6, 7, b"sync=63\n");
     run::changed(b"sync=64, A 2: ", 6, 7, b"sync=64\n");
+}
+
+fn leaf_names() {
     run::changed(b"compose=a15, N 1: ", 11, 12, b"compose=a15\n");
     run::changed(b"compose=a16, N 1: ", 11, 12, b"compose=a16\n");
 }
@@ -140,10 +191,29 @@ fn short() {
     run::into(build::first(&sheet, a), &mut table);
 }
 
+fn sizes() {
+    all_nodes();
+    all_edges();
+    tree_nodes();
+    all_bytes();
+    actions();
+    variables();
+    locations();
+    edge_lines();
+    operands();
+    automata();
+}
+
+fn ends() {
+    ranges();
+    numbers();
+    variable_names();
+    action_names();
+    leaf_names();
+}
+
 pub(crate) fn limits() {
     sizes();
-    counts();
-    automata();
     ends();
     run::say(b"row 18, 8,191 words: ");
     short();
