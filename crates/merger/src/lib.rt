@@ -39,8 +39,7 @@ pub fn merge(table: &[u32], out: &mut [u8]) -> MergeAnswer
     if merged.row != 0 {
         return MergeAnswer::Refused(merged.row);
     }
-    let words = merged.table;
-    reported(writer::write_words(&words, out), merged.edges)
+    reported(writer::write_words(&merged.table, out), merged.edges)
 }
 
 fn passed_on(answer: MergeAnswer) -> Outcome

@@ -60,10 +60,7 @@ fn edge(label: &[u8], lines: &[u8]) {
 
 fn row_8() {
     run::changed(b"row 8, inv=eq n0 0: ", 9, 10, b"inv=eq n0 0\n");
-    edge(
-        b"neighbour, in an edge: ",
-        b"edges=1\nedge=0,1,0,eq n0 0\n",
-    );
+    edge(b"neighbour, in an edge: ", b"edges=1\nedge=0,1,0,eq n0 0\n");
 }
 
 // So many `not` before `all 0`.

@@ -1,4 +1,4 @@
--- `merger::merge` meets its contract: each way out is a law.
+-- `merger::merge` meets its contract: each way out is a law of MergeLaws.
 use Rattle.merger.proofs.MergeLaws.{merge-laws}
 use borrow.Author.Needs.{needs}
 use Rattle.merger.proofs.merge.Statement.{statement}
@@ -9,9 +9,6 @@ linearize-requires c κs = search needs
 
 returns : tie.Need-returns
 returns c = search (needs, merge-laws)
-
-slice-aggregate-write-words : tie.Need-slice-aggregate-write-words
-slice-aggregate-write-words c = search needs
 
 write-words-requires : tie.Need-write-words-requires
 write-words-requires c κs = search needs
@@ -31,7 +28,6 @@ merge-spec =
     (tie.spec
     linearize-requires
     returns
-    slice-aggregate-write-words
     write-words-requires
     reported-requires
     same-length
