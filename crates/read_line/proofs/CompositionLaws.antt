@@ -33,13 +33,13 @@ use Rattle.read_composition.proofs.AfterSyn.{list-case, syn-sound, lists-sound}
 use Rattle.read_composition.proofs.Meaning.{read-formed, read-size, read-is-formed, read-ordered, read-count, read-words}
 use Rattle.read_line.specs.declared.LineRead.{LineRead}
 use Rattle.read_line.specs.declared.LineRead.the-variants.{Sound, Fault}
-use Rattle.read_line.specs.Append.{nextPlace, put}
+use Rattle.table_append.specs.Append.{nextPlace, put}
 use Rattle.read_line.specs.Exact.{lineOf}
 use Rattle.read_line.specs.Form.{valueAfter, misformed, fieldsOf}
 use Rattle.read_line.specs.Outcome.{answered, written}
 use Rattle.read_line.specs.Composition.{blank, treeIn, treeFault, treeWords, treeRead, treeAfter, partOf, composeFault, composeRead, composeAfter}
 use Rattle.read_line.proofs.FormLaws.{row2-by}
-use Rattle.read_line.proofs.Joined.{next-then, put-then}
+use Rattle.table_append.proofs.Joined.{next-then, put-then}
 use Rattle.read_line.proofs.Outcomes.{breaks, not-broken, then-same, answered-fault, answered-sound, written-fault, written-sound}
 use Rattle.read_line.proofs.SyncLaws.{few-items}
 

@@ -28,7 +28,7 @@ use Rattle.read_nodes.specs.Nodes.{codesOf, nodesAfter}
 use Rattle.read_nodes.proofs.NodesRows.{broken-hit, broken-past}
 use Rattle.read_line.specs.declared.edge.Ends.{Ends}
 use Rattle.read_line.specs.declared.edge.Ends.the-variants.{Are, Unsound}
-use Rattle.read_line.specs.Append.{nextPlace, put}
+use Rattle.table_append.specs.Append.{nextPlace, put}
 use Rattle.read_line.specs.Form.{valueAfter, misformed}
 use Rattle.read_line.specs.Predicate.{mostWords, predicateRead, predicateFault, counted, lineTold, lineAfter}
 use Rattle.read_line.specs.Edge.{fieldIn, endsSound, endsIn, astray, thenRow, valueFault, valueWords, valueRead, afterValue, edgeName, edgeFault, edgeRead, edgeAfter}

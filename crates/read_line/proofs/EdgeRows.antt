@@ -24,7 +24,7 @@ use Rattle.format.specs.Rows.{Line, place, is, fields, field, valueOf, hasPred,
 use Rattle.format.specs.Spelling.{spelling}
 use Rattle.format.specs.Tokens.{tokens, sounds}
 use Rattle.read_line.specs.declared.LineRead.the-variants.{Sound, Fault}
-use Rattle.read_line.specs.Append.{nextPlace, put}
+use Rattle.table_append.specs.Append.{nextPlace, put}
 use Rattle.read_line.specs.Exact.{lineOf}
 use Rattle.read_line.specs.Form.{valueAfter, misformed, fieldsOf}
 use Rattle.read_nodes.specs.Nodes.{codesOf}

@@ -17,14 +17,14 @@ use Rattle.read_line.specs.declared.number.Count.{Count}
 use Rattle.read_line.specs.declared.number.Count.the-variants as Count
 use Rattle.read_line.specs.declared.number.Bounds.{Bounds}
 use Rattle.read_line.specs.declared.number.Bounds.the-variants as Bounds
-use Rattle.read_line.specs.Append.{put}
+use Rattle.table_append.specs.Append.{put}
 use Rattle.read_line.specs.Outcome.{written}
 use Rattle.read_line.specs.Number.{countIn, numberAfter, fewEdges, boundsIn, boundsAfter}
 use Rattle.read_line.specs.Sync.{syncFault, syncAfter}
 use Rattle.read_line.specs.Composition.{composeFault, composeAfter}
 use Rattle.read_line.specs.Predicate.{mostWords}
 use Rattle.read_line.specs.Line.{lineWithAfter, lineAfter}
-use Rattle.read_line.proofs.AppendLaws.{put-kept}
+use Rattle.table_append.proofs.AppendLaws.{put-kept}
 use Rattle.read_line.proofs.PredicateRows.{location-kept}
 use Rattle.read_line.proofs.EdgeRows.{edge-kept}
 

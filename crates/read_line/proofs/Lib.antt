@@ -1,5 +1,3 @@
-pub mod AppendLaws
-pub mod Joined
 pub mod FormLaws
 pub mod Answered
 pub mod Outcomes

@@ -33,7 +33,7 @@ use Rattle.read_line.specs.declared.number.Count.{Count}
 use Rattle.read_line.specs.declared.number.Count.the-variants.{Is, Unsound}
 use Rattle.read_line.specs.declared.number.Bounds.{Bounds}
 use Rattle.read_line.specs.declared.number.Bounds.the-variants as Bounds
-use Rattle.read_line.specs.Append.{nextPlace, put}
+use Rattle.table_append.specs.Append.{nextPlace, put}
 use Rattle.read_line.specs.Form.{valueAfter, misformed}
 use Rattle.read_line.specs.Number.{countIn, numberRead, numberAfter, fewEdges, lowPart, highPart, orderedFrom, boundsOf, boundsIn, boundsRead, boundsAfter}
 

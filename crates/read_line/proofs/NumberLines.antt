@@ -30,7 +30,7 @@ use Rattle.read_line.specs.declared.LineRead.{LineRead}
 use Rattle.read_line.specs.declared.LineRead.the-variants.{Sound, Fault}
 use Rattle.read_line.specs.declared.number.Count.{Count}
 use Rattle.read_line.specs.declared.number.Count.the-variants.{Is, Unsound}
-use Rattle.read_line.specs.Append.{nextPlace, put}
+use Rattle.table_append.specs.Append.{nextPlace, put}
 use Rattle.read_line.specs.Exact.{lineOf}
 use Rattle.read_line.specs.Form.{valueAfter, misformed, fieldsOf}
 use Rattle.read_line.specs.Number.{countIn, numberRead, numberAfter, fewEdges}

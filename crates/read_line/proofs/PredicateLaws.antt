@@ -17,10 +17,10 @@ use Rattle.read_nodes.specs.Nodes.{codesOf, nodesRead, nodesAfter}
 use Rattle.read_nodes.proofs.NodesRows.{broken-hit, broken-past, accepted, accepted-stands, room-same}
 use Rattle.read_line.specs.declared.LineRead.{LineRead}
 use Rattle.read_line.specs.declared.LineRead.the-variants.{Sound, Fault}
-use Rattle.read_line.specs.Append.{nextPlace, put}
+use Rattle.table_append.specs.Append.{nextPlace, put}
 use Rattle.read_line.specs.Form.{valueAfter, misformed}
 use Rattle.read_line.specs.Predicate.{mostWords, predicateRead, rowIn, predicateFault, lineTold, lineAfter, counted, locatedRead, locatedAfter, locationFault, locationRead, locationAfter}
-use Rattle.read_line.proofs.Joined.{next-then, put-then}
+use Rattle.table_append.proofs.Joined.{next-then, put-then}
 
 -- `predicate`
 pub predicate-by : (part : Bytes) (o : Bool) (c : Counts) (words rs : List ℕ) (room high : ℕ) (r : Nodes) → rs ≡ rangesIn words (c .variables)

@@ -31,7 +31,7 @@ use Rattle.read_line.specs.declared.LineRead.{LineRead}
 use Rattle.read_line.specs.declared.LineRead.the-variants.{Sound, Fault}
 use Rattle.read_line.specs.declared.number.Bounds.{Bounds}
 use Rattle.read_line.specs.declared.number.Bounds.the-variants.{Are, Unsound}
-use Rattle.read_line.specs.Append.{nextPlace, put}
+use Rattle.table_append.specs.Append.{nextPlace, put}
 use Rattle.read_line.specs.Exact.{lineOf}
 use Rattle.read_line.specs.Form.{valueAfter, misformed, fieldsOf}
 use Rattle.read_line.specs.Number.{lowPart, highPart, orderedFrom, boundsOf, boundsIn, boundsRead, boundsAfter}

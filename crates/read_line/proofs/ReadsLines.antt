@@ -17,7 +17,7 @@ use Rattle.format.specs.Rows.{fault, entry, theRange}
 use Rattle.model.specs.Predicate.{range}
 use Rattle.read_line.specs.declared.LineRead.{LineRead}
 use Rattle.read_line.specs.declared.LineRead.the-variants.{Sound, Fault}
-use Rattle.read_line.specs.Append.{nextPlace, put}
+use Rattle.table_append.specs.Append.{nextPlace, put}
 use Rattle.read_line.specs.Exact.{lineOf, ReadsLines}
 use Rattle.read_line.specs.Line.{lineWith, lineWithAfter, lineRead, lineAfter}
 use Rattle.read_line.proofs.Answered.{answered-fault, answered-sound, left-new}

@@ -29,12 +29,12 @@ use Rattle.read_composition.specs.declared.list.Listed.{Listed}
 use Rattle.read_composition.specs.List.{listOf}
 use Rattle.read_composition.proofs.Numbers.{list-sound, list-rising, list-set}
 use Rattle.read_line.specs.declared.LineRead.the-variants.{Sound, Fault}
-use Rattle.read_line.specs.Append.{nextPlace, put}
+use Rattle.table_append.specs.Append.{nextPlace, put}
 use Rattle.read_line.specs.Exact.{lineOf}
 use Rattle.read_line.specs.Form.{valueAfter, misformed, fieldsOf}
 use Rattle.read_line.specs.Sync.{syncListed, syncFault, syncRead, syncAfter}
 use Rattle.read_line.proofs.FormLaws.{row2-by}
-use Rattle.read_line.proofs.Joined.{next-then, put-then}
+use Rattle.table_append.proofs.Joined.{next-then, put-then}
 use Rattle.read_line.proofs.Outcomes.{breaks, not-broken, then-same, answered-fault, answered-sound, written-fault, written-sound}
 
 -- `sync`

@@ -14,7 +14,7 @@ use Rattle.read_composition.specs.declared.compose.Composition.{Composition}
 use Rattle.read_composition.specs.Lists.{listsKept}
 use Rattle.read_composition.specs.Read.{compositionOf, memoryOf}
 use Rattle.read_line.specs.declared.LineRead.{LineRead}
-use Rattle.read_line.specs.Append.{nextPlace, put}
+use Rattle.table_append.specs.Append.{nextPlace, put}
 use Rattle.read_line.specs.Form.{valueAfter, misformed}
 use Rattle.read_line.specs.Outcome.{answered, written}
 

@@ -17,7 +17,7 @@ use Rattle.format.specs.Bytes.{Bytes}
 use Rattle.format.specs.Rows.{Line, fault, entry}
 use Rattle.read_line.specs.declared.LineRead.{LineRead}
 use Rattle.read_line.specs.declared.LineRead.the-variants.{Sound, Fault}
-use Rattle.read_line.specs.Append.{nextPlace, put}
+use Rattle.table_append.specs.Append.{nextPlace, put}
 
 abbrev pub lineOf : Bytes → Bool → Line
 lineOf s ended = record { bytes = s; ended = ended }

@@ -1,4 +1,3 @@
-pub mod Append
 pub mod Form
 pub mod Outcome
 pub mod Number

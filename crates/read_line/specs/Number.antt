@@ -20,7 +20,7 @@ use Rattle.read_line.specs.declared.number.Count.{Count}
 use Rattle.read_line.specs.declared.number.Count.the-variants as Count
 use Rattle.read_line.specs.declared.number.Bounds.{Bounds}
 use Rattle.read_line.specs.declared.number.Bounds.the-variants as Bounds
-use Rattle.read_line.specs.Append.{nextPlace, put}
+use Rattle.table_append.specs.Append.{nextPlace, put}
 use Rattle.read_line.specs.Form.{valueAfter, misformed}
 
 -- rows 2 and 3 of a line with one number, from low to high

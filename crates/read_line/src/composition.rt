@@ -1,16 +1,16 @@
 // The line `compose=C`, the tree of the automata.
 use crate::LineRead;
-use crate::append::append;
-use crate::append::append_one;
 use crate::form::{self};
 use crate::sync::cap;
 use line_order::Counts;
 use model::Model;
 use model::Tree;
 use read_predicate::numbers_sound;
+use table_append::append;
+use table_append::append_one;
 ghost use mathlib.Core.Path.{_≡_};
 ghost use lib.ListN.{length, take};
-ghost use Rattle.read_line.specs.Append.{nextPlace, put};
+ghost use Rattle.table_append.specs.Append.{nextPlace, put};
 ghost use Rattle.read_line.specs.Composition.{treeRead, treeAfter, composeRead, composeAfter};
 
 // The first n words of the nodes that were read. An array of a known length, since `append` asks how long a slice is.

@@ -1,6 +1,5 @@
 // The line `edge=FROM,ACT,TO,P`.
 use crate::LineRead;
-use crate::append::{self};
 use crate::form::{self};
 use crate::predicates::{self};
 use line_order::Counts;
@@ -12,7 +11,7 @@ ghost use mathlib.Core.List.{_∷_};
 ghost use Prim.Native.Nat.{suc, _≤_};
 ghost use lib.ListN.{length, take};
 ghost use Rattle.model.specs.Bounds.{maxNodes};
-ghost use Rattle.read_line.specs.Append.{nextPlace, put};
+ghost use Rattle.table_append.specs.Append.{nextPlace, put};
 ghost use Rattle.read_line.specs.Edge.{fieldIn, endsIn, astray, valueRead, afterValue, edgeRead, edgeAfter};
 
 // FROM, ACT and TO, or that one of them is no number in its range.
@@ -78,9 +77,9 @@ fn append_edge(
     requires { ⌜ n ≤ maxNodes ⌝ }
     ensures { λ r. ⌜ (r ≡ nextPlace at (suc (suc (suc (suc (length (take n (now (nodes .entry))))))))) × (now (words .exit) ≡ put at (from ∷ action ∷ to ∷ n ∷ take n (now (nodes .entry))) (now (words .entry))) ⌝ }
 {
-    let second = append::append_one(words, at, from);
-    let third = append::append_one(words, second, action);
-    let fourth = append::append_one(words, third, to);
+    let second = table_append::append_one(words, at, from);
+    let third = table_append::append_one(words, second, action);
+    let fourth = table_append::append_one(words, third, to);
     predicates::append_nodes(words, fourth, nodes, n)
 }
 

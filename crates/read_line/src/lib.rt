@@ -1,5 +1,4 @@
 // One line of the sheet text: which row it breaks, or what it says, with its words put into the table that is being read.
-mod append;
 mod composition;
 mod edge;
 mod form;

@@ -1,9 +1,9 @@
 // The lines that have one number, and the line of a variable's range.
 use crate::LineRead;
-use crate::append::append_one;
-use crate::append::append_two;
 use crate::form::{self};
 use model::Model;
+use table_append::append_one;
+use table_append::append_two;
 use text_bytes::Integer;
 use text_bytes::Natural;
 ghost use mathlib.Core.Path.{_≡_};

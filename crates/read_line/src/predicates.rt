@@ -1,6 +1,5 @@
 // The lines `init=P` and `inv=P`, and the predicate P of these and of an edge, with memory for its nodes.
 use crate::LineRead;
-use crate::append::{self};
 use crate::form::{self};
 use line_order::Counts;
 use model::Model;
@@ -12,7 +11,7 @@ ghost use lib.ListN.{length, take};
 ghost use Rattle.model.specs.Bounds.{maxNodes};
 ghost use Rattle.read_predicate.specs.Scratch.{Scratch};
 ghost use Rattle.read_nodes.specs.Nodes.{nodesAfter};
-ghost use Rattle.read_line.specs.Append.{nextPlace, put};
+ghost use Rattle.table_append.specs.Append.{nextPlace, put};
 ghost use Rattle.read_line.specs.Predicate.{predicateRead, locatedRead, locatedAfter, locationRead, locationAfter};
 
 // The predicate that the bytes spell, by the table so far; where `old`, it may name only old values.
@@ -45,8 +44,8 @@ pub(crate) fn append_nodes(
     requires { ⌜ n ≤ maxNodes ⌝ }
     ensures { λ r. ⌜ (r ≡ nextPlace at (suc (length (take n (now (from .entry)))))) × (now (words .exit) ≡ put at (n ∷ take n (now (from .entry))) (now (words .entry))) ⌝ }
 {
-    let next = append::append_one(words, at, n as u32);
-    append::append(words, next, from, n)
+    let next = table_append::append_one(words, at, n as u32);
+    table_append::append(words, next, from, n)
 }
 
 // The value of a location's line: the rows of P. Nothing is written where one is broken.

@@ -1,9 +1,9 @@
 // The line `sync=LIST`, which begins an automaton with its synchronising set.
 use crate::LineRead;
-use crate::append::append_one;
 use crate::form::{self};
 use line_order::Counts;
 use model::Model;
+use table_append::append_one;
 ghost use mathlib.Core.Path.{_≡_};
 ghost use Rattle.table_check.specs.Line.{capped};
 ghost use Rattle.read_line.specs.Sync.{syncRead, syncAfter};

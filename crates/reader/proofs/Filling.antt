@@ -11,7 +11,7 @@ use lib.ListN.{length, take, drop, set, length-set, replicate, length-append, le
 use lib.Seq.{drop-set-lt, take-suc-set, append-snoc, take-all, take-at, drop-at, take-append-le, drop-append-add, take-append-seam, take-take, length-take-le}
 use lib.Dec.{leb, ltb}
 use Rattle.model.specs.Bounds.{tableWords}
-use Rattle.read_line.specs.Append.{nextPlace, put}
+use Rattle.table_append.specs.Append.{nextPlace, put}
 
 -- the buffer with the words `s` in it
 unfoldable pub filled : List ℕ → List ℕ

@@ -39,7 +39,7 @@ use Rattle.text_bytes.specs.Find.{firstFrom}
 use Rattle.text_bytes.proofs.FindLaws.{find-after, lines-found, lines-ended, lines-none}
 use Rattle.read_line.specs.declared.LineRead.{LineRead}
 use Rattle.read_line.specs.declared.LineRead.the-variants as LineRead
-use Rattle.read_line.specs.Append.{nextPlace, put}
+use Rattle.table_append.specs.Append.{nextPlace, put}
 use Rattle.read_line.specs.Exact.{lineOf, ReadsLines}
 use Rattle.read_line.specs.Line.{lineRead, lineAfter}
 use Rattle.reader.specs.declared.ReadAnswer.{ReadAnswer}

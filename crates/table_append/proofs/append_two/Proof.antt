@@ -1,8 +1,8 @@
 -- `append_two` meets its contract.
-use Rattle.read_line.proofs.Joined.{two-laws}
+use Rattle.table_append.proofs.Joined.{two-laws}
 use borrow.Author.Needs.{needs}
-use Rattle.read_line.proofs.append.append_two.Statement.{statement}
-use Rattle.read_line.proofs.append.append_two.Tie as tie
+use Rattle.table_append.proofs.append_two.Statement.{statement}
+use Rattle.table_append.proofs.append_two.Tie as tie
 
 append-one-requires : tie.Need-append-one-requires
 append-one-requires c κs = search needs

@@ -1,9 +1,9 @@
-// Words into the table that is being read. What finds no room is left out.
+// Words at the end of a table that is being filled. What finds no room is left out.
 use model::Model;
 ghost use mathlib.Core.Path.{_≡_};
 ghost use mathlib.Core.List.{[], _∷_};
 ghost use lib.ListN.{length, take};
-ghost use Rattle.read_line.specs.Append.{nextPlace, put};
+ghost use Rattle.table_append.specs.Append.{nextPlace, put};
 
 // One word.
 pub fn append_one(words: &mut [u32; Model::WORDS], at: usize, word: u32) -> usize

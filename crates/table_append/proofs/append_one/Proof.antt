@@ -1,8 +1,8 @@
 -- `append_one` meets its contract.
-use Rattle.read_line.proofs.AppendLaws.{one-laws}
+use Rattle.table_append.proofs.AppendLaws.{one-laws}
 use borrow.Author.Needs.{needs}
-use Rattle.read_line.proofs.append.append_one.Statement.{statement}
-use Rattle.read_line.proofs.append.append_one.Tie as tie
+use Rattle.table_append.proofs.append_one.Statement.{statement}
+use Rattle.table_append.proofs.append_one.Tie as tie
 
 returns : tie.Need-returns
 returns c = search (needs, one-laws)

@@ -10,7 +10,7 @@ use lib.ListN.{length, getD, take, drop, set, length-set, length-take, length-dr
 use lib.Seq.{drop-cons, getD-take, drop-nil}
 use lib.Dec.{leb, ltb}
 use Rattle.model.specs.Bounds.{tableWords}
-use Rattle.read_line.specs.Append.{nextPlace, put}
+use Rattle.table_append.specs.Append.{nextPlace, put}
 
 -- words put into a buffer leave it as long as it was
 pub put-kept : (new : List ℕ) (at : ℕ) (old : List ℕ) → length (put at new old) ≡ length old

@@ -1,21 +1,15 @@
--- Words that are put in two steps are put in one; and reading a line leaves the buffer as long as it was.
+-- Words that are put in two steps are put in one.
 use Prim.Native.Nat.{ℕ, suc, _+_, _≤_}
 use mathlib.Core.Path.{_≡_, refl, sym, _∙_, ap}
 use mathlib.Core.Bool.{Bool, true, false}
 use mathlib.Core.List.{List, [], _∷_, _++_}
-use mathlib.Core.Option.{Option, none, some}
 use native.Mathlib.Omega.{arith}
 use borrow.Author.Tests.{leb-true, leb-false, ltb-false}
 use lib.ListN.{length, set}
 use lib.Dec.{leb, ltb}
 use Rattle.model.specs.Bounds.{tableWords}
-use Rattle.line_order.specs.declared.Counts.{Counts}
-use Rattle.format.specs.Bytes.{Bytes}
-use Rattle.read_line.specs.Append.{nextPlace, put}
-use Rattle.read_line.specs.Outcome.{written}
-use Rattle.read_line.specs.Sync.{syncFault, syncAfter}
-use Rattle.read_line.specs.Composition.{composeFault, composeAfter}
-use Rattle.read_line.proofs.AppendLaws.{put-kept, put-past, next-past, next-in, next-over}
+use Rattle.table_append.specs.Append.{nextPlace, put}
+use Rattle.table_append.proofs.AppendLaws.{put-kept, put-past, next-past, next-in, next-over}
 
 pub next-then : (at a b : ℕ) → nextPlace (nextPlace at a) b ≡ nextPlace at (a + b)
 next-then at a b = go (leb (at + a) tableWords) refl (leb (at + (a + b)) tableWords) refl

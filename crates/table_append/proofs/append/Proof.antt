@@ -4,11 +4,11 @@ use mathlib.Core.Path.{_≡_}
 use native.Mathlib.Omega.{arith}
 use lib.ListN.{length, take, drop}
 use Rattle.model.specs.Bounds.{tableWords}
-use Rattle.read_line.specs.Append.{put}
-use Rattle.read_line.proofs.AppendLaws.{append-laws, append-on}
+use Rattle.table_append.specs.Append.{put}
+use Rattle.table_append.proofs.AppendLaws.{append-laws, append-on}
 use borrow.Author.Needs.{needs}
-use Rattle.read_line.proofs.append.append.Statement.{statement}
-use Rattle.read_line.proofs.append.append.Tie as tie
+use Rattle.table_append.proofs.append.Statement.{statement}
+use Rattle.table_append.proofs.append.Tie as tie
 
 abbrev Inv-loop : tie.InvT-loop
 Inv-loop words₀ at from n i₀ words i =
