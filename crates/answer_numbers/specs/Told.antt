@@ -1,4 +1,5 @@
--- The answers that the functions return, as one number each. Of a part that is larger than its bits the low bits are taken.
+-- The answers that the functions return, as one number each. Of a part that is larger than its bits the low bits are
+-- taken.
 use Prim.Native.Nat.{ℕ, _+_, _*_, _%_, _^_}
 use Rattle.model.specs.Runs.{phaseNumber}
 use Rattle.judge_call.specs.Answers.{phaseIs}
@@ -38,5 +39,6 @@ ranNumber J.EndShort = 203
 
 -- a table's size: actions, variables, automata
 unfoldable pub countedNumber : Counted → ℕ
-countedNumber (S.Counts actions variables automata) = actions % 2 ^ 16 * 2 ^ 16 + variables % 2 ^ 8 * 2 ^ 8 + automata % 2 ^ 8
+countedNumber (S.Counts actions variables automata) =
+    actions % 2 ^ 16 * 2 ^ 16 + variables % 2 ^ 8 * 2 ^ 8 + automata % 2 ^ 8
 countedNumber (S.Refused row) = row * 2 ^ 32

@@ -8,13 +8,15 @@ use lib.ListN.{length, getD}
 use mir.Syntax.{w32}
 use mir.Val.{SFits}
 use Rattle.model.specs.Basic.{between}
-use Rattle.model.specs.Predicate.{Pred, Preds, Expr, all, any, negate, imp, eq, le, none, more, num, old, new, add, sub, mul, choose, Range, range, value}
+use Rattle.model.specs.Predicate.{Pred, Preds, Expr, all, any, negate, imp, eq, le, none, more, num, old, new, add, sub}
+use Rattle.model.specs.Predicate.{mul, choose, Range, range, value}
 
 -- each declared variable's value lies in its range
 abbrev pub Inside : List Range → List ℤ → Type 0
 Inside declared values =
     (k : ℕ) → k < length declared →
-    between (getD declared k (range (pos 0) (pos 0)) .low) (getD declared k (range (pos 0) (pos 0)) .high) (getD values k (pos 0)) ≡ true
+    between (getD declared k (range (pos 0) (pos 0)) .low) (getD declared k (range (pos 0) (pos 0)) .high)
+    (getD values k (pos 0)) ≡ true
 
 -- an i32 holds the value of every expression in P, also of the ones inside an `if`'s predicate
 module _ (before after : List ℤ) where

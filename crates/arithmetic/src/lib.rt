@@ -1,5 +1,5 @@
-// Numbers of expressions: steps on i32 that never leave its range, and tests. Each is worked out in i64, where it always
-// fits, and then cut to the range; on checked expressions the cut changes nothing (proofs/Intervals.antt).
+// Numbers of expressions: steps on i32 that never leave its range, and tests. Each is worked out in i64, where it
+// always fits, and then cut to the range; on checked expressions the cut changes nothing (proofs/Intervals.antt).
 use model::Model;
 ghost use mathlib.Core.Path.{_≡_};
 ghost use mathlib.Core.Bool.{cond, _&&_};

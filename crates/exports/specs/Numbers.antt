@@ -1,6 +1,7 @@
--- Answers as one number, for callers in C and Rust: what the definitions answer. The parts stay apart, for a text has no more
--- lines than bytes and one (the law line-fits), no more than 65,536 bytes and 512 edges (merge-fits), and a sheet no more
--- than 63 actions, 48 variables and 16 automata (size-few). (The judges' numbers are `answerNumber` of judge_call.)
+-- Answers as one number, for callers in C and Rust: what the definitions answer. The parts stay apart, for a text has
+-- no more lines than bytes and one (the law line-fits), no more than 65,536 bytes and 512 edges (merge-fits), and a
+-- sheet no more than 63 actions, 48 variables and 16 automata (size-few). (The judges' numbers are `answerNumber` of
+-- judge_call.)
 use Prim.Native.Nat.{ℕ, _+_, _*_, _^_}
 use lib.ListN.{length}
 use Rattle.model.specs.Runs.{phaseNumber}

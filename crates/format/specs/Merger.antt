@@ -20,7 +20,10 @@ mergeModel m buffer =
     elim (mergeFault m) [
       | some row ↦ unmerged row
       | none ↦
-          elim (row35 buffer (textOf (linear m))) [ true ↦ unmerged 35 | false ↦ merged (textOf (linear m)) (mergedCount m) ]
+          elim (row35 buffer (textOf (linear m))) [
+            | true ↦ unmerged 35
+            | false ↦ merged (textOf (linear m)) (mergedCount m)
+          ]
     ]
 
 unfoldable pub mergeAnswer : List ℕ → (buffer : ℕ) → MergeAnswer

@@ -20,14 +20,17 @@ ontoLine b (l ∷ ls) = record { bytes = b ∷ l .bytes; ended = l .ended } ∷ 
 
 unfoldable pub linesOf : Bytes → List Line
 linesOf [] = []
-linesOf (b ∷ t) = elim (eqb b LF) [ true ↦ record { bytes = []; ended = true } ∷ linesOf t | false ↦ ontoLine b (linesOf t) ]
+linesOf (b ∷ t) =
+    elim (eqb b LF) [ true ↦ record { bytes = []; ended = true } ∷ linesOf t | false ↦ ontoLine b (linesOf t) ]
 
--- a refusal has its row and its line: 0 for rows 18 and 1, and counted from 1 for the others; an acceptance has its model
+-- a refusal has its row and its line: 0 for rows 18 and 1, and counted from 1 for the others; an acceptance has its
+-- model
 pub data ReadAnswer : Type 0 where
   refused : (row line : ℕ) → ReadAnswer
   accepted : Model → ReadAnswer
 
--- the lines from number n on against the keys that are due: too few lines, or too many, are row 2 at the place where it shows
+-- the lines from number n on against the keys that are due: too few lines, or too many, are row 2 at the place where it
+-- shows
 unfoldable pub read : Reading → List Key → ℕ → List Line → ReadAnswer
 read r [] n [] = accepted (r .model)
 read r [] n (l ∷ ls) = refused 2 n

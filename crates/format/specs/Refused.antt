@@ -4,7 +4,8 @@ use Prim.Native.Nat.{ℕ, suc, _<_}
 use mathlib.Core.Bool.{Bool, true}
 use mathlib.Core.List.{List, [], _∷_, _++_, List·Memᴰ}
 use Rattle.model.specs.Lines.{Key, Reading, noted, thenDue}
-use Rattle.format.specs.Rows.{Line, entry, row2, row3, row4, row5, row6, row7, row8, row9, row10, row11, row12, row13, row14, row15, row16}
+use Rattle.format.specs.Rows.{Line, entry, row2, row3, row4, row5, row6, row7, row8, row9, row10, row11, row12}
+use Rattle.format.specs.Rows.{row13, row14, row15, row16}
 
 -- rows by their numbers, each with whether its condition holds
 abbrev pub Conditions : Type 0
@@ -26,9 +27,9 @@ lineRows r k l =
     (7, row7 r k l) ∷ (8, row8 k l) ∷ (9, row9 k l) ∷ (10, row10 r k l) ∷ (11, row11 r k l) ∷
     (12, row12 r k l) ∷ (13, row13 k l) ∷ (14, row14 r k l) ∷ (15, row15 r k l) ∷ (16, row16 k l) ∷ []
 
--- Reading the lines, from what has been read and with what is due, stops with a row at the n-th of them: that line is extra
--- or lacking (row 2), or the row is the smallest whose condition holds there; and at no line before it does a row's condition
--- hold.
+-- Reading the lines, from what has been read and with what is due, stops with a row at the n-th of them: that line is
+-- extra or lacking (row 2), or the row is the smallest whose condition holds there; and at no line before it does a
+-- row's condition hold.
 pub data Stops : Reading → List Key → List Line → (row n : ℕ) → Type 0 where
   extra : {r : Reading} {l : Line} {ls : List Line} → Stops r [] (l ∷ ls) 2 1
   lacking : {r : Reading} {k : Key} {ks : List Key} → Stops r (k ∷ ks) [] 2 1

@@ -1,5 +1,5 @@
--- "Refused", rows 2 to 16 as a line of the text breaks them: `true` is broken. A row decides only where no smaller row is
--- broken, so it may take for granted that none is: what it says of other lines plays no part.
+-- "Refused", rows 2 to 16 as a line of the text breaks them: `true` is broken. A row decides only where no smaller row
+-- is broken, so it may take for granted that none is: what it says of other lines plays no part.
 use Prim.Native.Nat.{ℕ, _+_}
 use mathlib.Core.Bool.{Bool, true, false, not, _&&_, _||_}
 use mathlib.Core.List.{List, [], _∷_, map}
@@ -8,13 +8,17 @@ use lib.ListN.{length, getD, drop}
 use lib.IntN.{pos}
 use lib.Dec.{eqb, leb}
 use Rattle.model.specs.Basic.{every, lacks, orElse}
-use Rattle.model.specs.Bounds.{firstFormat, lastFormat, maxActions, maxVariables, maxAutomata, maxLocations, maxEdges, lastLocation, leastNumber, greatestNumber}
+use Rattle.model.specs.Bounds.{firstFormat, lastFormat, maxActions, maxVariables, maxAutomata, maxLocations, maxEdges}
+use Rattle.model.specs.Bounds.{lastLocation, leastNumber, greatestNumber}
 use Rattle.model.specs.Predicate as P
 use Rattle.model.specs.Predicate.{Pred, Range, range, Word, all, namesOutside, namesNew}
 use Rattle.model.specs.Composition.{Tree, Node, leaf}
 use Rattle.model.specs.Parse.{readPred, readTree}
-use Rattle.model.specs.Lines.{Key, Entry, format, actions, variables, variable, automata, sync, locations, init, inv, edges, edge, compose, formatLine, actionsLine, variablesLine, variableLine, automataLine, syncLine, locationsLine, initLine, invLine, edgesLine, edgeLine, composeLine, Reading}
-use Rattle.model.specs.Limits.{rises, isCrossed, isTooDeep, exceedsSpan, passesNodes, isAstray, isDisordered, isTooLarge, passesEdges, variableCount, broken}
+use Rattle.model.specs.Lines.{Key, Entry, format, actions, variables, variable, automata, sync, locations, init, inv}
+use Rattle.model.specs.Lines.{edges, edge, compose, formatLine, actionsLine, variablesLine, variableLine, automataLine}
+use Rattle.model.specs.Lines.{syncLine, locationsLine, initLine, invLine, edgesLine, edgeLine, composeLine, Reading}
+use Rattle.model.specs.Limits.{rises, isCrossed, isTooDeep, exceedsSpan, passesNodes, isAstray, isDisordered}
+use Rattle.model.specs.Limits.{isTooLarge, passesEdges, variableCount, broken}
 use Rattle.format.specs.Bytes.{Bytes, begins, parts, comma}
 use Rattle.format.specs.Number.{within, naturalOf, integerOf}
 use Rattle.format.specs.Tokens.{tokens, sounds, listsSound, readWords, readNodes}

@@ -1,10 +1,14 @@
 -- The one spelling of a model: `textOf`.
 use Prim.Native.Nat.{ℕ}
 use mathlib.Core.List.{List, [], _∷_, _++_, map, flatMap}
-use Rattle.model.specs.Predicate.{Pred, Range, Word, words, allOf, anyOf, notWord, impWord, eqWord, leWord, numWord, oldWord, newWord, addWord, subWord, mulWord, ifWord, stray}
+use Rattle.model.specs.Predicate.{Pred, Range, Word, words, allOf, anyOf, notWord, impWord, eqWord, leWord, numWord}
+use Rattle.model.specs.Predicate.{oldWord, newWord, addWord, subWord, mulWord, ifWord, stray}
 use Rattle.model.specs.Composition.{Tree, Node, nodes, parNode, synNode, leafNode, strayNode}
 use Rattle.model.specs.Model.{Edge, Model}
-use Rattle.model.specs.Lines.{Key, Entry, format, actions, variables, variable, automata, sync, locations, init, inv, edges, edge, compose, formatLine, actionsLine, variablesLine, variableLine, automataLine, syncLine, locationsLine, initLine, invLine, edgesLine, edgeLine, composeLine, keyOf, lines}
+use Rattle.model.specs.Lines.{Key, Entry, format, actions, variables, variable, automata, sync, locations, init, inv}
+use Rattle.model.specs.Lines.{edges, edge, compose, formatLine, actionsLine, variablesLine, variableLine, automataLine}
+use Rattle.model.specs.Lines.{syncLine, locationsLine, initLine, invLine, edgesLine, edgeLine, composeLine, keyOf}
+use Rattle.model.specs.Lines.{lines}
 use Rattle.format.specs.Bytes.{Bytes, bytes, joined, LF, space, comma, 'a, 'n, 'v}
 use Rattle.format.specs.Number.{decimal, signed}
 
@@ -66,7 +70,8 @@ valueText (locationsLine n) = decimal n
 valueText (initLine p) = textOfPred p
 valueText (invLine p) = textOfPred p
 valueText (edgesLine n) = decimal n
-valueText (edgeLine e) = joined comma (decimal (e .from) ∷ decimal (e .action) ∷ decimal (e .to) ∷ textOfPred (e .update) ∷ [])
+valueText (edgeLine e) =
+    joined comma (decimal (e .from) ∷ decimal (e .action) ∷ decimal (e .to) ∷ textOfPred (e .update) ∷ [])
 valueText (composeLine c) = textOfTree c
 
 -- a line: key, equals sign, value, LF

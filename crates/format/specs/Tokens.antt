@@ -1,5 +1,5 @@
--- "The sheet text": the tokens of P and C, the numbers in them (row 3), the lists after `syn` (row 5), and the words and nodes
--- that the tokens spell.
+-- "The sheet text": the tokens of P and C, the numbers in them (row 3), the lists after `syn` (row 5), and the words
+-- and nodes that the tokens spell.
 use Prim.Native.Nat.{ℕ}
 use mathlib.Core.Bool.{Bool, true, false, _&&_, _||_}
 use mathlib.Core.List.{List, [], _∷_, map}
@@ -7,7 +7,8 @@ use lib.IntN.{ℤ, pos}
 use lib.Dec.{eqb}
 use Rattle.model.specs.Basic.{every, same}
 use Rattle.model.specs.Bounds.{maxActions, maxOperands, lastVariable, lastAutomaton, leastNumber, greatestNumber}
-use Rattle.model.specs.Predicate.{Word, allOf, anyOf, notWord, impWord, eqWord, leWord, numWord, oldWord, newWord, addWord, subWord, mulWord, ifWord, stray}
+use Rattle.model.specs.Predicate.{Word, allOf, anyOf, notWord, impWord, eqWord, leWord, numWord, oldWord, newWord}
+use Rattle.model.specs.Predicate.{addWord, subWord, mulWord, ifWord, stray}
 use Rattle.model.specs.Composition.{Node, parNode, synNode, leafNode, strayNode}
 use Rattle.model.specs.Limits.{rises}
 use Rattle.format.specs.Bytes.{Bytes, bytes, parts, space, comma, minus, 'a, 'n, 'v}
@@ -17,7 +18,8 @@ use Rattle.format.specs.Number.{digit, within, naturalOf, integerOf}
 unfoldable pub tokens : Bytes → List Bytes
 tokens s = parts space s
 
--- Does a token hold a number? All of it, if it starts like one; or what follows its letter, if that starts with a digit.
+-- Does a token hold a number? All of it, if it starts like one; or what follows its letter, if that starts with a
+-- digit.
 pub data Numeral : Type 0 where
   unjudged : Numeral
   bare : Bytes → Numeral
@@ -32,14 +34,17 @@ numeral (b ∷ c ∷ t) =
       | false ↦ elim ((eqb b 'v || (eqb b 'n || eqb b 'a)) && digit c) [ true ↦ lettered b (c ∷ t) | false ↦ unjudged ]
     ]
 
--- Is the number well-formed and in its range? The token before decides which range: that of an operand count after `all` and
--- `any`, that of each action of a list after `syn`, and otherwise low to high.
+-- Is the number well-formed and in its range? The token before decides which range: that of an operand count after
+-- `all` and `any`, that of each action of a list after `syn`, and otherwise low to high.
 unfoldable pub numberSound : (before s : Bytes) (low high : ℤ) → Bool
 numberSound before s low high =
     elim (same before (bytes "all") || same before (bytes "any")) [
       | true ↦ within (pos 0) (pos maxOperands) s
       | false ↦
-          elim (same before (bytes "syn")) [ true ↦ every (within (pos 0) (pos maxActions)) (parts comma s) | false ↦ within low high s ]
+          elim (same before (bytes "syn")) [
+            | true ↦ every (within (pos 0) (pos maxActions)) (parts comma s)
+            | false ↦ within low high s
+          ]
     ]
 
 -- the largest number after a letter: an automaton's or a variable's
@@ -88,7 +93,8 @@ spellings =
     (bytes "add", addWord) ∷ (bytes "sub", subWord) ∷ (bytes "mul", mulWord) ∷ (bytes "if", ifWord) ∷ []
 
 unfoldable pub variableWord : ℕ → ℕ → Word
-variableWord letter k = elim (eqb letter 'v) [ true ↦ oldWord k | false ↦ elim (eqb letter 'n) [ true ↦ newWord k | false ↦ stray ] ]
+variableWord letter k =
+    elim (eqb letter 'v) [ true ↦ oldWord k | false ↦ elim (eqb letter 'n) [ true ↦ newWord k | false ↦ stray ] ]
 
 unfoldable pub word : Bytes → Word
 word token =
@@ -108,7 +114,8 @@ readWords (t ∷ []) = word t ∷ []
 readWords (t ∷ k ∷ ts) =
     elim (same t (bytes "all")) [
       | true ↦ counted allOf k ∷ readWords ts
-      | false ↦ elim (same t (bytes "any")) [ true ↦ counted anyOf k ∷ readWords ts | false ↦ word t ∷ readWords (k ∷ ts) ]
+      | false ↦
+          elim (same t (bytes "any")) [ true ↦ counted anyOf k ∷ readWords ts | false ↦ word t ∷ readWords (k ∷ ts) ]
     ]
 
 -- the same for C
@@ -130,4 +137,5 @@ synOf token = elim (numeral token) [ unjudged ↦ strayNode | bare s ↦ synNode
 unfoldable pub readNodes : List Bytes → List Node
 readNodes [] = []
 readNodes (t ∷ []) = node t ∷ []
-readNodes (t ∷ l ∷ ts) = elim (same t (bytes "syn")) [ true ↦ synOf l ∷ readNodes ts | false ↦ node t ∷ readNodes (l ∷ ts) ]
+readNodes (t ∷ l ∷ ts) =
+    elim (same t (bytes "syn")) [ true ↦ synOf l ∷ readNodes ts | false ↦ node t ∷ readNodes (l ∷ ts) ]

@@ -6,10 +6,12 @@ use lib.ListN.{length}
 use lib.Dec.{leb}
 use Rattle.model.specs.Predicate.{nodeCount}
 use Rattle.model.specs.Model.{edgeTotal}
-use Rattle.model.specs.Lines.{Entry, formatLine, actionsLine, variablesLine, variableLine, automataLine, syncLine, locationsLine, initLine, invLine, edgesLine, edgeLine, composeLine, Reading}
+use Rattle.model.specs.Lines.{Entry, formatLine, actionsLine, variablesLine, variableLine, automataLine, syncLine}
+use Rattle.model.specs.Lines.{locationsLine, initLine, invLine, edgesLine, edgeLine, composeLine, Reading}
 use Rattle.model.specs.Limits.{variableCount, locationCount}
 use Rattle.line_order.specs.declared.Key.{Key}
-use Rattle.line_order.specs.declared.Key.the-variants.{Format, Actions, Variables, Variable, Automata, Sync, Locations, Init, Inv, Edges, Edge, Compose, End}
+use Rattle.line_order.specs.declared.Key.the-variants.{Format, Actions, Variables, Variable, Automata, Sync}
+use Rattle.line_order.specs.declared.Key.the-variants.{Locations, Init, Inv, Edges, Edge, Compose, End}
 use Rattle.line_order.specs.declared.Counts.{Counts}
 
 abbrev pub mostCount : ℕ
@@ -33,14 +35,17 @@ unfoldable pub countsAfter : Counts → Key → (n p : ℕ) → Counts
 countsAfter c Format n p = c
 countsAfter c Actions n p = counts n (c .variables) (c .automata) (c .locations) (c .edges) (c .nodes)
 countsAfter c Variables n p = c
-countsAfter c Variable n p = counts (c .actions) (addUpTo (c .variables) 1) (c .automata) (c .locations) (c .edges) (c .nodes)
+countsAfter c Variable n p =
+    counts (c .actions) (addUpTo (c .variables) 1) (c .automata) (c .locations) (c .edges) (c .nodes)
 countsAfter c Automata n p = c
 countsAfter c Sync n p = counts (c .actions) (c .variables) (addUpTo (c .automata) 1) 0 (c .edges) (c .nodes)
 countsAfter c Locations n p = c
 countsAfter c Init n p = withNodes c p
-countsAfter c Inv n p = withNodes (counts (c .actions) (c .variables) (c .automata) (addUpTo (c .locations) 1) (c .edges) (c .nodes)) p
+countsAfter c Inv n p =
+    withNodes (counts (c .actions) (c .variables) (c .automata) (addUpTo (c .locations) 1) (c .edges) (c .nodes)) p
 countsAfter c Edges n p = c
-countsAfter c Edge n p = withNodes (counts (c .actions) (c .variables) (c .automata) (c .locations) (addUpTo (c .edges) 1) (c .nodes)) p
+countsAfter c Edge n p =
+    withNodes (counts (c .actions) (c .variables) (c .automata) (c .locations) (addUpTo (c .edges) 1) (c .nodes)) p
 countsAfter c Compose n p = c
 countsAfter c End n p = c
 

@@ -4,9 +4,13 @@ use mathlib.Core.Path.{_≡_}
 use mathlib.Core.Bool.{Bool, true, false}
 use mathlib.Core.List.{List, [], _∷_, _++_}
 use lib.ListN.{length}
-use Rattle.model.specs.Lines.{Key as LineKey, format, actions, variables, variable, automata, sync, locations, init, inv, edges, edge, compose, repeat, Entry, formatLine, actionsLine, variablesLine, variableLine, automataLine, syncLine, locationsLine, initLine, invLine, edgesLine, edgeLine, composeLine, Reading}
+use Rattle.model.specs.Lines.{Key as LineKey, format, actions, variables, variable, automata, sync, locations, init}
+use Rattle.model.specs.Lines.{inv, edges, edge, compose, repeat, Entry, formatLine, actionsLine, variablesLine}
+use Rattle.model.specs.Lines.{variableLine, automataLine, syncLine, locationsLine, initLine, invLine, edgesLine}
+use Rattle.model.specs.Lines.{edgeLine, composeLine, Reading}
 use Rattle.line_order.specs.declared.Key.{Key}
-use Rattle.line_order.specs.declared.Key.the-variants.{Format, Actions, Variables, Variable, Automata, Sync, Locations, Init, Inv, Edges, Edge, Compose, End}
+use Rattle.line_order.specs.declared.Key.the-variants.{Format, Actions, Variables, Variable, Automata, Sync}
+use Rattle.line_order.specs.declared.Key.the-variants.{Locations, Init, Inv, Edges, Edge, Compose, End}
 use Rattle.line_order.specs.declared.Due.{Due}
 
 -- no line is due any more
@@ -25,8 +29,8 @@ isEnd Edge = false
 isEnd Compose = false
 isEnd End = true
 
--- The code's own steps, for a format f. `a` automata are to come or under way, and then `l` locations or `e` edges of the one
--- under way.
+-- The code's own steps, for a format f. `a` automata are to come or under way, and then `l` locations or `e` edges of
+-- the one under way.
 abbrev pub due : Key → (f v a l e : ℕ) → Due
 due k f v a l e = record { key = k; format = f; variables = v; automata = a; locations = l; edges = e }
 

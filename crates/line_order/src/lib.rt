@@ -2,7 +2,8 @@
 // what has been counted so far.
 ghost use mathlib.Core.Path.{_≡_};
 ghost use Prim.Native.Nat.{_-_};
-ghost use Rattle.line_order.specs.Due.{isEnd, dueFirst, dueAfter, dueOnly, dueVariables, dueAutomata, dueLocations, dueEdges};
+ghost use Rattle.line_order.specs.Due.{isEnd, dueFirst, dueAfter, dueOnly, dueVariables, dueAutomata};
+ghost use Rattle.line_order.specs.Due.{dueLocations, dueEdges};
 ghost use Rattle.line_order.specs.Counts.{countsNone, countsAfter, withNodes, addUpTo};
 
 // The key of the line that is due; End after the last line.
@@ -158,7 +159,8 @@ impl Due {
         only(0, Key::Format)
     }
 
-    // What is due after the line that is due was read; `count` is its number, if it is the format's line or one that counts.
+    // What is due after the line that is due was read; `count` is its number, if it is the format's line or one that
+    // counts.
     pub fn after(self, count: usize) -> Due
         ensures { λ r. ⌜ r ≡ dueAfter self count ⌝ }
     {
@@ -195,8 +197,8 @@ impl Due {
     }
 }
 
-// What has been counted: the actions; the variable lines; the automata begun; the locations of the automaton under way; the
-// edge lines of all automata; the nodes of all predicates.
+// What has been counted: the actions; the variable lines; the automata begun; the locations of the automaton under way;
+// the edge lines of all automata; the nodes of all predicates.
 pub struct Counts {
     pub actions: usize,
     pub variables: usize,

@@ -48,8 +48,8 @@ row23 m s = not (each (length (m .variables)) (λ k. between (rangeOf m k .low) 
 unfoldable pub row24 : Model → ℕ → Bool
 row24 m a = ltb (m .actions) a
 
--- What holds of every automaton, whether it takes an edge or is still (rules 1 and 2): at its old location init (in phase
--- 0) and inv of the old values, at its new location inv of the new values.
+-- What holds of every automaton, whether it takes an edge or is still (rules 1 and 2): at its old location init (in
+-- phase 0) and inv of the old values, at its new location inv of the new values.
 unfoldable pub inits : Model → State → Bool
 inits m s = each (length (m .automata)) (λ k. holdsIn s (location m k (at s k) .init))
 
@@ -131,7 +131,8 @@ pub data Call : Type 0 where
   environment : (phase : ℕ) → List ℕ → List ℤ → List ℤ → Call
 
 unfoldable pub answerTo : List ℕ → Call → Answer
-answerTo table (step phase locations values action newLocations newValues) = stepAnswer table phase locations values action newLocations newValues
+answerTo table (step phase locations values action newLocations newValues) =
+    stepAnswer table phase locations values action newLocations newValues
 answerTo table (environment phase locations values newValues) = environmentAnswer table phase locations values newValues
 
 -- no row refuses the call

@@ -1,5 +1,6 @@
--- "Refused": what the rows up to 16 ask of what a line says. The text's rows cite these conditions, and so does row 19, since a
--- table says the same things. (Rows 2 and 6 are about spelling alone; the conditions of 7 and 8 stand in Predicate.)
+-- "Refused": what the rows up to 16 ask of what a line says. The text's rows cite these conditions, and so does row 19,
+-- since a table says the same things. (Rows 2 and 6 are about spelling alone; the conditions of 7 and 8 stand in
+-- Predicate.)
 use Prim.Native.Nat.{ℕ, _+_}
 use mathlib.Core.Bool.{Bool, true, false, not, _&&_, _||_}
 use mathlib.Core.List.{List, [], _∷_}
@@ -9,11 +10,17 @@ use lib.IntN.{ℤ}
 use lib.Signed.{leZ}
 use lib.Dec.{eqb, leb, ltb}
 use Rattle.model.specs.Basic.{between, every, same, countUp, lacks}
-use Rattle.model.specs.Bounds.{firstFormat, lastFormat, maxActions, maxVariables, maxAutomata, maxLocations, maxEdges, maxOperands, maxDepth, maxNodes, maxTreeNodes, lastVariable, lastLocation, lastAutomaton, leastNumber, greatestNumber}
-use Rattle.model.specs.Predicate.{Pred, Word, Range, words, depth, allStay, namesOutside, namesNew, allOf, anyOf, notWord, impWord, eqWord, leWord, numWord, oldWord, newWord, addWord, subWord, mulWord, ifWord, stray}
+use Rattle.model.specs.Bounds.{firstFormat, lastFormat, maxActions, maxVariables, maxAutomata, maxLocations}
+use Rattle.model.specs.Bounds.{maxEdges, maxOperands, maxDepth, maxNodes, maxTreeNodes, lastVariable}
+use Rattle.model.specs.Bounds.{lastLocation, lastAutomaton, leastNumber, greatestNumber}
+use Rattle.model.specs.Predicate.{Pred, Word, Range, words, depth, allStay, namesOutside, namesNew, allOf, anyOf}
+use Rattle.model.specs.Predicate.{notWord, impWord, eqWord, leWord, numWord, oldWord, newWord, addWord, subWord}
+use Rattle.model.specs.Predicate.{mulWord, ifWord, stray}
 use Rattle.model.specs.Composition.{Tree, par, syn, leaf, leaves, treeSize}
 use Rattle.model.specs.Model.{Edge, Model, edgeTotal}
-use Rattle.model.specs.Lines.{Entry, formatLine, actionsLine, variablesLine, variableLine, automataLine, syncLine, locationsLine, initLine, invLine, edgesLine, edgeLine, composeLine, lines, Reading, atFirst, noted, lastOf}
+use Rattle.model.specs.Lines.{Entry, formatLine, actionsLine, variablesLine, variableLine, automataLine, syncLine}
+use Rattle.model.specs.Lines.{locationsLine, initLine, invLine, edgesLine, edgeLine, composeLine, lines, Reading}
+use Rattle.model.specs.Lines.{atFirst, noted, lastOf}
 
 -- Row 3: every number is in its range.
 unfoldable pub inRange : Word → Bool
@@ -41,7 +48,8 @@ unfoldable pub numbersInRange : Entry → Bool
 numbersInRange (formatLine n) = leb firstFormat n && leb n lastFormat
 numbersInRange (actionsLine n) = leb n maxActions
 numbersInRange (variablesLine n) = leb n maxVariables
-numbersInRange (variableLine x) = between leastNumber greatestNumber (x .low) && between leastNumber greatestNumber (x .high)
+numbersInRange (variableLine x) =
+    between leastNumber greatestNumber (x .low) && between leastNumber greatestNumber (x .high)
 numbersInRange (automataLine n) = leb 1 n && leb n maxAutomata
 numbersInRange (syncLine list) = every (λ k. leb k maxActions) list
 numbersInRange (locationsLine n) = leb 1 n && leb n maxLocations
@@ -49,7 +57,8 @@ numbersInRange (initLine p) = every inRange (words p)
 numbersInRange (invLine p) = every inRange (words p)
 numbersInRange (edgesLine n) = leb n maxEdges
 numbersInRange (edgeLine e) =
-    leb (e .from) lastLocation && (leb (e .action) maxActions && (leb (e .to) lastLocation && every inRange (words (e .update))))
+    leb (e .from) lastLocation &&
+    (leb (e .action) maxActions && (leb (e .to) lastLocation && every inRange (words (e .update))))
 numbersInRange (composeLine c) = treeInRange c
 
 -- Row 4: the range is empty.

@@ -1,5 +1,6 @@
--- "The merged text": Definition 4 of source document 003, the linearization. The format departs from it twice: the pointers'
--- ranges say what its second conjunct of `init` says, and the edges are a list, in which an edge may stand again.
+-- "The merged text": Definition 4 of source document 003, the linearization. The format departs from it twice: the
+-- pointers' ranges say what its second conjunct of `init` says, and the edges are a list, in which an edge may stand
+-- again.
 use Prim.Native.Nat.{ℕ, suc, pred, _+_}
 use mathlib.Core.Bool.{Bool}
 use mathlib.Core.List.{List, [], _∷_, _++_, map, flatMap}
@@ -50,7 +51,13 @@ module _ (m : Model) where
   -- `all 3m`: the takers' updates, then their pointers
   unfoldable pub mergedEdge : ℕ → List Taker → Edge
   mergedEdge a takers =
-      record { from = 0; action = a; to = 0; update = all (preds (map (λ x. x .edge .update) takers ++ pointerMoves takers)) }
+      record {
+        from =
+            0;
+        action = a;
+        to = 0;
+        update = all (preds (map (λ x. x .edge .update) takers ++ pointerMoves takers));
+      }
 
   -- the silent action's edges first, those of action A last
   unfoldable pub mergedEdges : List Edge

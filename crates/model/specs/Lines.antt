@@ -1,5 +1,5 @@
--- "The sheet text", its lines in order: what each line says, apart from how it is spelled. The text spells these entries
--- with bytes, and the table with words.
+-- "The sheet text", its lines in order: what each line says, apart from how it is spelled. The text spells these
+-- entries with bytes, and the table with words.
 use Prim.Native.Nat.{ℕ, zero, suc, _+_}
 use mathlib.Core.List.{List, [], _∷_, _++_, map, flatMap}
 use lib.ListN.{length}
@@ -52,8 +52,8 @@ lines m =
     (flatMap automatonLines (m .automata) ++
     (composeLine (m .tree) ∷ []))))
 
--- Reading them back. What is due is the list of the keys to come: at first these, and a line that counts puts the keys of
--- what it counts in front. Which these are may depend on the format.
+-- Reading them back. What is due is the list of the keys to come: at first these, and a line that counts puts the keys
+-- of what it counts in front. Which these are may depend on the format.
 unfoldable pub dueAtFirst : List Key
 dueAtFirst = format ∷ actions ∷ variables ∷ automata ∷ compose ∷ []
 
@@ -83,7 +83,12 @@ pub record Reading : Type 0 where
   pub nodes : ℕ
 
 unfoldable pub atFirst : Reading
-atFirst = record { model = record { format = 0; actions = 0; variables = []; automata = []; tree = leaf 0 }; latest = all none; nodes = 0 }
+atFirst =
+    record {
+      model = record { format = 0; actions = 0; variables = []; automata = []; tree = leaf 0 };
+      latest = all none;
+      nodes = 0;
+    }
 
 -- the automaton that is being read is the last one
 unfoldable pub lastOf : List Automaton → Automaton
@@ -103,7 +108,12 @@ unfoldable pub addEdge : Edge → Automaton → Automaton
 addEdge e x = record { sync = x .sync; locations = x .locations; edges = x .edges ++ e ∷ [] }
 
 unfoldable pub withModel : Reading → (format actions : ℕ) → List Range → List Automaton → Tree → Reading
-withModel r f a vs xs c = record { model = record { format = f; actions = a; variables = vs; automata = xs; tree = c }; latest = r .latest; nodes = r .nodes }
+withModel r f a vs xs c =
+    record {
+      model = record { format = f; actions = a; variables = vs; automata = xs; tree = c };
+      latest = r .latest;
+      nodes = r .nodes;
+    }
 
 unfoldable pub withAutomata : Reading → List Automaton → Reading
 withAutomata r xs = withModel r (r .model .format) (r .model .actions) (r .model .variables) xs (r .model .tree)
@@ -116,7 +126,9 @@ unfoldable pub noted : Reading → Entry → Reading
 noted r (formatLine n) = withModel r n (r .model .actions) (r .model .variables) (r .model .automata) (r .model .tree)
 noted r (actionsLine n) = withModel r (r .model .format) n (r .model .variables) (r .model .automata) (r .model .tree)
 noted r (variablesLine n) = r
-noted r (variableLine x) = withModel r (r .model .format) (r .model .actions) (r .model .variables ++ x ∷ []) (r .model .automata) (r .model .tree)
+noted r (variableLine x) =
+    withModel r (r .model .format) (r .model .actions) (r .model .variables ++ x ∷ []) (r .model .automata)
+    (r .model .tree)
 noted r (automataLine n) = r
 noted r (syncLine list) = withAutomata r (r .model .automata ++ record { sync = list; locations = []; edges = [] } ∷ [])
 noted r (locationsLine n) = r
@@ -125,4 +137,5 @@ noted r (invLine p) =
     withAutomata (withPred r p) (onLast (addLocation (record { init = r .latest; inv = p })) (r .model .automata))
 noted r (edgesLine n) = r
 noted r (edgeLine e) = withAutomata (withPred r (e .update)) (onLast (addEdge e) (r .model .automata))
-noted r (composeLine c) = withModel r (r .model .format) (r .model .actions) (r .model .variables) (r .model .automata) c
+noted r (composeLine c) =
+    withModel r (r .model .format) (r .model .actions) (r .model .variables) (r .model .automata) c

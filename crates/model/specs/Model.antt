@@ -1,4 +1,5 @@
--- "The sheet text": what a sheet says. An item's number is its place in its list, and V, N, L and E are the lists' lengths.
+-- "The sheet text": what a sheet says. An item's number is its place in its list, and V, N, L and E are the lists'
+-- lengths.
 use Prim.Native.Nat.{ℕ, _+_}
 use mathlib.Core.Bool.{Bool, _||_}
 use mathlib.Core.List.{List, [], _∷_}
@@ -24,7 +25,8 @@ pub record Automaton : Type 0 where
   pub locations : List Location
   pub edges : List Edge
 
--- `format` is the number of the text's format; `actions` is A, the highest action; 0 is the silent action, which no set holds
+-- `format` is the number of the text's format; `actions` is A, the highest action; 0 is the silent action, which no set
+-- holds
 pub record Model : Type 0 where
   pub format : ℕ
   pub actions : ℕ

@@ -1,5 +1,5 @@
--- The action transitions of a composition: rules 17 to 19 and 21 of Table 3 of source document 003, each transition by its
--- takers, in the order of the merged text.
+-- The action transitions of a composition: rules 17 to 19 and 21 of Table 3 of source document 003, each transition by
+-- its takers, in the order of the merged text.
 use Prim.Native.Nat.{ℕ, _+_, _*_}
 use mathlib.Core.Bool.{Bool, true, false}
 use mathlib.Core.List.{List, [], _∷_, _++_, map}
@@ -15,8 +15,8 @@ unfoldable pub pairs : List (List Taker) → List (List Taker) → List (List Ta
 pairs [] ys = []
 pairs (x ∷ xs) ys = map (λ y. x ++ y) ys ++ pairs xs ys
 
--- by whether the action is in the left's set, and in the right's: in both (rule 19), or one side alone, if the other's set
--- lacks it (rule 18), the left's before the right's
+-- by whether the action is in the left's set, and in the right's: in both (rule 19), or one side alone, if the other's
+-- set lacks it (rule 18), the left's before the right's
 unfoldable pub sides : Bool → Bool → List (List Taker) → List (List Taker) → List (List Taker)
 sides true true left right = pairs left right
 sides true false left right = left

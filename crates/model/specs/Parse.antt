@@ -1,11 +1,13 @@
--- From words in prefix order back to a predicate, and from nodes back to a tree: the list is read from its right end, and
--- each word takes its operands off a stack and puts itself on. Well-formed is what leaves one predicate, one tree.
+-- From words in prefix order back to a predicate, and from nodes back to a tree: the list is read from its right end,
+-- and each word takes its operands off a stack and puts itself on. Well-formed is what leaves one predicate, one tree.
 use Prim.Native.Nat.{ℕ, zero, suc}
 use mathlib.Core.List.{List, [], _∷_}
 use mathlib.Core.Option.{Option, none, some}
 use Rattle.model.specs.Basic.{onSome}
 use Rattle.model.specs.Predicate as P
-use Rattle.model.specs.Predicate.{Pred, Preds, Expr, Word, all, any, negate, imp, eq, le, more, num, old, new, add, sub, mul, choose, allOf, anyOf, notWord, impWord, eqWord, leWord, numWord, oldWord, newWord, addWord, subWord, mulWord, ifWord, stray}
+use Rattle.model.specs.Predicate.{Pred, Preds, Expr, Word, all, any, negate, imp, eq, le, more, num, old, new}
+use Rattle.model.specs.Predicate.{add, sub, mul, choose, allOf, anyOf, notWord, impWord, eqWord, leWord, numWord}
+use Rattle.model.specs.Predicate.{oldWord, newWord, addWord, subWord, mulWord, ifWord, stray}
 use Rattle.model.specs.Composition.{Tree, Node, par, syn, leaf, parNode, synNode, leafNode, strayNode}
 
 pub data Item : Type 0 where

@@ -72,29 +72,35 @@ module _ (m : Model) (s t : State) where
     rule-7 : {list : List ℕ} {c : Tree} → Rests c → Rests (syn list c)
 
 module _ (m : Model) (s : State) (a : ℕ) (t : State) where
-  -- rules 1, 3, 4 and 6: the takers by whom a composition takes the action. Rule 3 is for an action that both sides of a `par`
-  -- synchronise on; rule 4 leaves the side at rest that does not.
+  -- rules 1, 3, 4 and 6: the takers by whom a composition takes the action. Rule 3 is for an action that both sides of
+  -- a `par` synchronise on; rule 4 leaves the side at rest that does not.
   pub data Moves : Tree → List Taker → Type 0 where
     rule-1 : {k : ℕ} {e : Edge} → Takes m s a t k e → Moves (leaf k) (record { automaton = k; edge = e } ∷ [])
-    rule-3 : {c d : Tree} {x y : List Taker} → inSet m a c ≡ true → inSet m a d ≡ true → Moves c x → Moves d y → Moves (par c d) (x ++ y)
+    rule-3 : {c d : Tree} {x y : List Taker} → inSet m a c ≡ true → inSet m a d ≡ true → Moves c x → Moves d y
+        → Moves (par c d) (x ++ y)
     rule-4-left : {c d : Tree} {x : List Taker} → Moves c x → Rests m s t d → inSet m a d ≡ false → Moves (par c d) x
     rule-4-right : {c d : Tree} {y : List Taker} → Rests m s t c → Moves d y → inSet m a c ≡ false → Moves (par c d) y
     rule-6 : {list : List ℕ} {c : Tree} {x : List Taker} → Moves c x → Moves (syn list c) x
 
   -- the same rules with the marks that Table 1 gives them; the law table-1-is says that both state the same
   pub data MarkedMoves : Tree → Bool → List Taker → Type 0 where
-    marked-1 : {k : ℕ} {e : Edge} → Takes m s a t k e → MarkedMoves (leaf k) (member a (automaton m k .sync)) (record { automaton = k; edge = e } ∷ [])
-    marked-3 : {c d : Tree} {x y : List Taker} → MarkedMoves c true x → MarkedMoves d true y → MarkedMoves (par c d) true (x ++ y)
-    marked-4-left : {c d : Tree} {b : Bool} {x : List Taker} → MarkedMoves c b x → Rests m s t d → inSet m a d ≡ false → MarkedMoves (par c d) b x
-    marked-4-right : {c d : Tree} {b : Bool} {y : List Taker} → Rests m s t c → MarkedMoves d b y → inSet m a c ≡ false → MarkedMoves (par c d) b y
-    marked-6 : {list : List ℕ} {c : Tree} {b : Bool} {x : List Taker} → MarkedMoves c b x → MarkedMoves (syn list c) (b || member a list) x
+    marked-1 : {k : ℕ} {e : Edge} → Takes m s a t k e
+        → MarkedMoves (leaf k) (member a (automaton m k .sync)) (record { automaton = k; edge = e } ∷ [])
+    marked-3 : {c d : Tree} {x y : List Taker} → MarkedMoves c true x → MarkedMoves d true y
+        → MarkedMoves (par c d) true (x ++ y)
+    marked-4-left : {c d : Tree} {b : Bool} {x : List Taker} → MarkedMoves c b x → Rests m s t d → inSet m a d ≡ false
+        → MarkedMoves (par c d) b x
+    marked-4-right : {c d : Tree} {b : Bool} {y : List Taker} → Rests m s t c → MarkedMoves d b y → inSet m a c ≡ false
+        → MarkedMoves (par c d) b y
+    marked-6 : {list : List ℕ} {c : Tree} {b : Bool} {x : List Taker} → MarkedMoves c b x
+        → MarkedMoves (syn list c) (b || member a list) x
 
   pub record Step (mark : Bool) : Type 0 where
     pub takers : List Taker
     pub moves : Moves (m .tree) takers
     pub ended : t .phase ≡ running
-    -- Where the format departs from Table 1: the takers' updates together say which variables they set, and the others stay.
-    -- (Table 1 holds the variables to their values for each automaton by itself.)
+    -- Where the format departs from Table 1: the takers' updates together say which variables they set, and the others
+    -- stay. (Table 1 holds the variables to their values for each automaton by itself.)
     pub frame : (k : ℕ) → k < length (m .variables) → mentioned k takers ≡ false → val s k ≡ val t k
     -- the mark: is the action in the whole's set?
     pub marked : mark ≡ inSet m a (m .tree)

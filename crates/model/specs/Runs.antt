@@ -7,7 +7,8 @@ use lib.IntN.{ℤ, pos}
 use lib.ListN.{length, drop}
 use Rattle.model.specs.Model.{Model}
 use Rattle.model.specs.Rules.{Phase, start, running, State, reached, changed}
-use Rattle.model.specs.Judge.{Answer, marked, yes, no, refused, hasValues, row21, row22, row23, judgeStep, judgeEnvironment, Call, step, environment, answerTo}
+use Rattle.model.specs.Judge.{Answer, marked, yes, no, refused, hasValues, row21, row22, row23, judgeStep}
+use Rattle.model.specs.Judge.{judgeEnvironment, Call, step, environment, answerTo}
 
 -- a state of the sheet: rows 21 to 23 do not hold of it
 pub record IsState (m : Model) (s : State) : Type 0 where
@@ -63,19 +64,21 @@ unfoldable pub run : Judge → State → List Proposal → Run Answer
 run judge s [] = record { answers = []; end = s }
 run judge s (p ∷ ps) = andThen (judge s p) (run judge (goes (judge s p) s (proposed s p)) ps)
 
--- The state of the merged automaton that goes with a state: its one location, and a pointer behind the values for each location.
+-- The state of the merged automaton that goes with a state: its one location, and a pointer behind the values for each
+-- location.
 unfoldable pub beside : State → State
 beside s = record { phase = s .phase; locations = 0 ∷ []; values = s .values ++ map pos (s .locations) }
 
--- The proposal that goes with a proposal: pointers are added to the values. For the environment judge they are those of state
--- u, where the merged run is: whatever comes after the first V values there.
+-- The proposal that goes with a proposal: pointers are added to the values. For the environment judge they are those of
+-- state u, where the merged run is: whatever comes after the first V values there.
 unfoldable pub translate : Model → State → Proposal → Proposal
 translate m u (toStep a locations values) = toStep a (0 ∷ []) (values ++ map pos locations)
 translate m u (toEnvironment values) = toEnvironment (values ++ drop (length (m .variables)) (u .values))
 
 -- is there one? The proposal must have the sheet's shape
 unfoldable pub translates : Model → Proposal → Bool
-translates m (toStep a locations values) = not (row21 m (reached locations values) || row22 m (reached locations values))
+translates m (toStep a locations values) =
+    not (row21 m (reached locations values) || row22 m (reached locations values))
 translates m (toEnvironment values) = hasValues m values
 
 -- what the merged run says beside an answer: its own answer, or nothing, because the proposal was not put to it
@@ -106,10 +109,11 @@ pub data Alike : Answer → Reply → Type 0 where
 
 pub data AllAlike : List Answer → List Reply → Type 0 where
   ended : AllAlike [] []
-  then : {a : Answer} {b : Reply} {as' : List Answer} {bs : List Reply} → Alike a b → AllAlike as' bs → AllAlike (a ∷ as') (b ∷ bs)
+  then : {a : Answer} {b : Reply} {as' : List Answer} {bs : List Reply} → Alike a b → AllAlike as' bs
+      → AllAlike (a ∷ as') (b ∷ bs)
 
--- Both runs over one list: the answers are alike, place by place, and the merged run ends at the state that goes with where the
--- run ends: phase, values, and pointers for its locations.
+-- Both runs over one list: the answers are alike, place by place, and the merged run ends at the state that goes with
+-- where the run ends: phase, values, and pointers for its locations.
 pub record RunsAlike (m : Model) (judge merged : Judge) (s : State) (ps : List Proposal) : Type 0 where
   pub answers : AllAlike (run judge s ps .answers) (mergedRun m merged (beside s) ps .answers)
   pub end : mergedRun m merged (beside s) ps .end ≡ beside (run judge s ps .end)

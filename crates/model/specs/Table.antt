@@ -8,12 +8,17 @@ use lib.IntN.{ℤ, pos, negsuc}
 use lib.Dec.{eqb, leb, ltb}
 use Rattle.model.specs.Basic.{keep, same, countUp, onSome, lacks}
 use Rattle.model.specs.Bounds.{tableWords, bias}
-use Rattle.model.specs.Predicate.{Pred, Range, range, Word, words, nodeCount, allOf, anyOf, notWord, impWord, eqWord, leWord, numWord, oldWord, newWord, addWord, subWord, mulWord, ifWord, stray}
+use Rattle.model.specs.Predicate.{Pred, Range, range, Word, words, nodeCount, allOf, anyOf, notWord, impWord}
+use Rattle.model.specs.Predicate.{eqWord, leWord, numWord, oldWord, newWord, addWord, subWord, mulWord, ifWord}
+use Rattle.model.specs.Predicate.{stray}
 use Rattle.model.specs.Composition.{Tree, Node, nodes, treeSize, parNode, synNode, leafNode}
 use Rattle.model.specs.Composition as C
 use Rattle.model.specs.Parse.{readPred, readTree}
 use Rattle.model.specs.Model.{Edge, Model}
-use Rattle.model.specs.Lines.{Key, Entry, format, actions, variables, variable, automata, sync, locations, init, inv, edges, edge, compose, formatLine, actionsLine, variablesLine, variableLine, automataLine, syncLine, locationsLine, initLine, invLine, edgesLine, edgeLine, composeLine, lines, dueAtFirst, thenDue, Reading, atFirst, noted}
+use Rattle.model.specs.Lines.{Key, Entry, format, actions, variables, variable, automata, sync, locations, init}
+use Rattle.model.specs.Lines.{inv, edges, edge, compose, formatLine, actionsLine, variablesLine, variableLine}
+use Rattle.model.specs.Lines.{automataLine, syncLine, locationsLine, initLine, invLine, edgesLine, edgeLine}
+use Rattle.model.specs.Lines.{composeLine, lines, dueAtFirst, thenDue, Reading, atFirst, noted}
 use Rattle.model.specs.Limits.{faultOf, limits}
 
 -- a number, moved up so that none is negative
@@ -176,7 +181,11 @@ decode zero r (k ∷ ks) ws = none
 decode (suc n) r [] ws = some (r .model)
 decode (suc n) r (k ∷ ks) ws =
     onSome
-    (λ t. elim (lacks (faultOf r (t .item))) [ true ↦ decode n (noted r (t .item)) (thenDue (r .model .format) (t .item) ++ ks) (t .rest) | false ↦ none ])
+    (λ t.
+    elim (lacks (faultOf r (t .item))) [
+      | true ↦ decode n (noted r (t .item)) (thenDue (r .model .format) (t .item) ++ ks) (t .rest)
+      | false ↦ none
+    ])
     (splitEntry k ws)
 
 -- do the first 8,192 words of t make up the table of m?
@@ -200,4 +209,5 @@ pub data Opened : Type 0 where
   opened : Model → Opened
 
 unfoldable pub openTable : List ℕ → Opened
-openTable t = elim (row18 (length t)) [ true ↦ unopened 18 | false ↦ elim (modelOf t) [ none ↦ unopened 19 | some m ↦ opened m ] ]
+openTable t =
+    elim (row18 (length t)) [ true ↦ unopened 18 | false ↦ elim (modelOf t) [ none ↦ unopened 19 | some m ↦ opened m ] ]

@@ -1,10 +1,12 @@
--- The nodes of predicates as the code has them, each beside the word of the definitions that it stands for, and the table
--- words that hold them.
+-- The nodes of predicates as the code has them, each beside the word of the definitions that it stands for, and the
+-- table words that hold them.
 use Prim.Native.Nat.{ℕ, _%_}
-use Rattle.model.specs.Predicate.{Word, allOf, anyOf, notWord, impWord, eqWord, leWord, numWord, oldWord, newWord, addWord, subWord, mulWord, ifWord, stray}
+use Rattle.model.specs.Predicate.{Word, allOf, anyOf, notWord, impWord, eqWord, leWord, numWord, oldWord, newWord}
+use Rattle.model.specs.Predicate.{addWord, subWord, mulWord, ifWord, stray}
 use Rattle.model.specs.Table.{biased, unbiased, code, wordOf}
 use Rattle.node_words.specs.declared.Node.{Node}
-use Rattle.node_words.specs.declared.Node.the-variants.{All, Any, Not, Imp, Eq, Le, Number, Old, New, Add, Sub, Mul, If, Stray}
+use Rattle.node_words.specs.declared.Node.the-variants.{All, Any, Not, Imp, Eq, Le, Number, Old, New, Add, Sub}
+use Rattle.node_words.specs.declared.Node.the-variants.{Mul, If, Stray}
 
 -- what a node stands for, and the node of a word
 unfoldable pub meant : Node → Word

@@ -14,7 +14,8 @@ unfoldable pub checkedTable : List ℕ → Checked
 checkedTable t =
     elim (row18 (length t)) [
       | true ↦ Refused 18
-      | false ↦ elim (scannedSheet (lineAt (take tableWords t)) (take tableWords t)) [ true ↦ Good | false ↦ Refused 19 ]
+      | false ↦
+          elim (scannedSheet (lineAt (take tableWords t)) (take tableWords t)) [ true ↦ Good | false ↦ Refused 19 ]
     ]
 
 -- the same as the definitions say it: the row that refuses a table, or that it is good (the law check-exact)

@@ -5,12 +5,14 @@ use mathlib.Core.List.{List, map}
 use lib.ListN.{length, getD, take, drop}
 use lib.Dec.{eqb, leb, ltb}
 use Rattle.model.specs.Basic.{every}
-use Rattle.model.specs.Bounds.{firstFormat, lastFormat, maxActions, maxVariables, maxAutomata, maxLocations, maxEdges, maxNodes, lastLocation}
+use Rattle.model.specs.Bounds.{firstFormat, lastFormat, maxActions, maxVariables, maxAutomata, maxLocations, maxEdges}
+use Rattle.model.specs.Bounds.{maxNodes, lastLocation}
 use Rattle.model.specs.Predicate.{namesOutside, namesNew}
 use Rattle.model.specs.Limits.{rises}
 use Rattle.model.specs.Table.{wordOf, setOf}
 use Rattle.line_order.specs.declared.Key.{Key}
-use Rattle.line_order.specs.declared.Key.the-variants.{Format, Actions, Variables, Variable, Automata, Sync, Locations, Init, Inv, Edges, Edge, Compose, End}
+use Rattle.line_order.specs.declared.Key.the-variants.{Format, Actions, Variables, Variable, Automata, Sync, Locations}
+use Rattle.line_order.specs.declared.Key.the-variants.{Init, Inv, Edges, Edge, Compose, End}
 use Rattle.line_order.specs.declared.Counts.{Counts}
 use Rattle.table_predicate.specs.declared.Walked.{Walked}
 use Rattle.table_predicate.specs.Walk.{walkAt}
@@ -50,13 +52,17 @@ module _ (t : List ℕ) where
 
   -- a number from least to most
   unfoldable pub numberAt : (at least most : ℕ) → Line
-  numberAt at least most = when (ltb at (length t) && (leb least (word at) && leb (word at) most)) (Sound (word at) 0 (at + 1))
+  numberAt at least most =
+      when (ltb at (length t) && (leb least (word at) && leb (word at) most)) (Sound (word at) 0 (at + 1))
 
   unfoldable pub variableAt : (at : ℕ) → Line
-  variableAt at = when (ltb (at + 1) (length t) && (leb (word (at + 1)) 65535 && leb (word at) (word (at + 1)))) (Sound 0 0 (at + 2))
+  variableAt at =
+      when (ltb (at + 1) (length t) && (leb (word (at + 1)) 65535 && leb (word at) (word (at + 1))))
+      (Sound 0 0 (at + 2))
 
   unfoldable pub syncAt : (at A : ℕ) → Line
-  syncAt at A = when (ltb (at + 1) (length t) && rises (capped A) 0 (setOf (word at) (word (at + 1)))) (Sound 0 0 (at + 2))
+  syncAt at A =
+      when (ltb (at + 1) (length t) && rises (capped A) 0 (setOf (word at) (word (at + 1)))) (Sound 0 0 (at + 2))
 
   -- the words of the first ranges, so many
   unfoldable pub rangesIn : (vs : ℕ) → List ℕ
@@ -72,7 +78,8 @@ module _ (t : List ℕ) where
 
   unfoldable pub predicateAt : (at : ℕ) → Counts → Line
   predicateAt at c =
-      when (ltb at (length t) && (leb (word at) (length t - (at + 1)) && nodesSound c (at + 1) (word at))) (Sound 0 (word at) (at + 1 + word at))
+      when (ltb at (length t) && (leb (word at) (length t - (at + 1)) && nodesSound c (at + 1) (word at)))
+      (Sound 0 (word at) (at + 1 + word at))
 
   -- init and inv: row 8 too
   unfoldable pub locationAt : (at : ℕ) → Counts → Line
@@ -82,7 +89,8 @@ module _ (t : List ℕ) where
   edgesAt at c = when (ltb at (length t) && leb (c .edges + word at) maxEdges) (Sound (word at) 0 (at + 1))
 
   unfoldable pub edgeAt : (at : ℕ) → Counts → Line
-  edgeAt at c = when (ltb (at + 2) (length t) && endsSound c (word at) (word (at + 1)) (word (at + 2))) (predicateAt (at + 3) c)
+  edgeAt at c =
+      when (ltb (at + 2) (length t) && endsSound c (word at) (word (at + 1)) (word (at + 2))) (predicateAt (at + 3) c)
 
   unfoldable pub composeAt : (at : ℕ) → Counts → Line
   composeAt at c = when (leb (c .automata) maxAutomata) (ofTree (treeCheck t at (capped (c .actions)) (c .automata)))

@@ -33,7 +33,8 @@ unfoldable pub zerosFrom : List ℕ → ℕ → Bool
 zerosFrom t at = every (λ w. eqb w 0) (drop at t)
 
 module _ (line : ℕ → Key → Counts → Line) where
-  -- the index after the last line, if every line is sound; the fuel bounds the rounds, of which the last only finds the end
+  -- the index after the last line, if every line is sound; the fuel bounds the rounds, of which the last only finds the
+  -- end
   unfoldable pub scanned : (fuel : ℕ) → Scan → Option ℕ
   scanned zero s = none
   scanned (suc fuel) s =
@@ -57,7 +58,8 @@ pub record Declared (t : List ℕ) (r : Reading) : Type 0 where
   pub lawful : (x : Range) → List·Memᴰ x (r .model .variables) → LawfulRange x
   pub words : take (2 * variableCount r) (drop 3 t) ≡ flatMap rangeWords (r .model .variables)
 
--- The words of t from `at` up to `next` are those of a line with the key k, which has this number and so many nodes and breaks no row.
+-- The words of t from `at` up to `next` are those of a line with the key k, which has this number and so many nodes and
+-- breaks no row.
 pub record LineAt (t : List ℕ) (r : Reading) (k : LineKey) (at number nodes next : ℕ) : Type 0 where
   pub entry : Entry
   pub keyed : keyOf entry ≡ k
@@ -69,7 +71,10 @@ pub record LineAt (t : List ℕ) (r : Reading) (k : LineKey) (at number nodes ne
 
 -- `line` finds sound exactly the lines that stand in the table t
 pub record LineExact (t : List ℕ) (line : ℕ → Key → Counts → Line) : Type 0 where
-  pub sound : (r : Reading) (c : Counts) (at : ℕ) (k : LineKey) (number nodes next : ℕ) → Counted r c → Declared t r → at ≤ length t
+  pub sound : (r : Reading) (c : Counts) (at : ℕ) (k : LineKey) (number nodes next : ℕ) → Counted r c → Declared t r
+      → at ≤ length t
       → line at (codeOf k) c ≡ Sound number nodes next → LineAt t r k at number nodes next
-  pub complete : (r : Reading) (c : Counts) (e : Entry) (at : ℕ) (rest : List ℕ) → Counted r c → Declared t r → faultOf r e ≡ none
-      → drop at t ≡ lineWords e ++ rest → line at (codeOf (keyOf e)) c ≡ Sound (numberOf e) (nodesOf e) (at + length (lineWords e))
+  pub complete : (r : Reading) (c : Counts) (e : Entry) (at : ℕ) (rest : List ℕ) → Counted r c → Declared t r
+      → faultOf r e ≡ none
+      → drop at t ≡ lineWords e ++ rest
+      → line at (codeOf (keyOf e)) c ≡ Sound (numberOf e) (nodesOf e) (at + length (lineWords e))

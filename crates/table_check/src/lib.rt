@@ -11,8 +11,8 @@ ghost use mathlib.Core.Path.{_≡_};
 ghost use Rattle.model.specs.Table.{openTable};
 ghost use Rattle.table_check.specs.Check.{answered};
 
-// What the words of a line say: its number if it counts something, the nodes of its predicate, and where the next line's
-// words begin. Bad: these words are no line's, or the line breaks a row.
+// What the words of a line say: its number if it counts something, the nodes of its predicate, and where the next
+// line's words begin. Bad: these words are no line's, or the line breaks a row.
 pub enum Line {
     Sound(usize, usize, usize),
     Bad,

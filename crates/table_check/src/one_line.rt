@@ -9,7 +9,8 @@ ghost use mathlib.Core.Path.{_≡_};
 ghost use mathlib.Core.List.{[]};
 ghost use lib.Dec.{leb};
 ghost use Prim.Native.Nat.{_+_};
-ghost use Rattle.table_check.specs.Line.{numberAt, variableAt, capped, syncAt, rangesIn, walkedTo, nodesSound, predicateAt, locationAt, edgesAt, endsSound, edgeAt, composeAt, lineAt};
+ghost use Rattle.table_check.specs.Line.{numberAt, variableAt, capped, syncAt, rangesIn, walkedTo, nodesSound};
+ghost use Rattle.table_check.specs.Line.{predicateAt, locationAt, edgesAt, endsSound, edgeAt, composeAt, lineAt};
 
 // A number from least to most.
 fn number(t: &[u32], at: usize, least: usize, most: usize) -> Line

@@ -1,4 +1,5 @@
--- Where the parts of a sheet stand, found by one walk. On a sheet's words they are the places of Outline: the laws of LayoutLaws.
+-- Where the parts of a sheet stand, found by one walk. On a sheet's words they are the places of Outline: the laws of
+-- LayoutLaws.
 use mathlib.Core.List.{List, [], _∷_, map}
 use Prim.Native.Nat.{ℕ, zero, suc}
 use lib.ListN.{length, replicate}
@@ -6,7 +7,8 @@ use lib.Seq.{sets}
 use Rattle.model.specs.Bounds.{maxAutomata, maxVariables}
 use Rattle.table_places.specs.declared.layout.Layout.{Layout}
 use Rattle.table_places.specs.AtMost.{atMost}
-use Rattle.table_places.specs.Outline.{actionsIn, variablesIn, automataIn, firstAutomaton, edgesAt, afterAutomaton, passed}
+use Rattle.table_places.specs.Outline.{actionsIn, variablesIn, automataIn, firstAutomaton, edgesAt}
+use Rattle.table_places.specs.Outline.{afterAutomaton, passed}
 
 -- the places of n automata, of which the first stands at a place
 unfoldable pub placesFrom : (t : List ℕ) (n at : ℕ) → List ℕ

@@ -4,8 +4,8 @@ ghost use mathlib.Core.Path.{_≡_};
 ghost use Prim.Native.Nat.{_≤_};
 ghost use Rattle.table_places.specs.Layout.{layoutOf, automataOf, variablesOf};
 
-// A, V and N; where each automaton's set stands, and where its number of edges does, the table's end for one that there is not; where
-// the tree stands, its number of nodes first.
+// A, V and N; where each automaton's set stands, and where its number of edges does, the table's end for one that there
+// is not; where the tree stands, its number of nodes first.
 pub struct Layout {
     pub actions: usize,
     pub variables: usize,

@@ -1,4 +1,5 @@
-// Where the parts of a sheet stand in a table. Any words will do: from a place within the table no answer is past its end.
+// Where the parts of a sheet stand in a table. Any words will do: from a place within the table no answer is past its
+// end.
 mod layout;
 mod own;
 mod parts;
@@ -29,7 +30,8 @@ ghost use mathlib.Core.Path.{_≡_};
 ghost use Prim.Native.Nat.{_≤_};
 ghost use lib.ListN.{getD};
 ghost use Rattle.table_places.specs.AtMost.{atMost};
-ghost use Rattle.table_places.specs.Outline.{reach, afterPredicate, locationAt, edgeAt, edgesAt, afterAutomaton, countAt, automatonAt, treeAt};
+ghost use Rattle.table_places.specs.Outline.{reach, afterPredicate, locationAt, edgeAt, edgesAt, afterAutomaton};
+ghost use Rattle.table_places.specs.Outline.{countAt, automatonAt, treeAt};
 
 // A number, as far as there can be so many.
 pub fn at_most(most: usize, n: usize) -> usize

@@ -1,6 +1,9 @@
-// The parts of a sheet by name: what stands at a place, and where a part's own parts stand. The distances are said here alone.
+// The parts of a sheet by name: what stands at a place, and where a part's own parts stand. The distances are said here
+// alone.
 ghost use mathlib.Core.Path.{_≡_};
-ghost use Rattle.table_places.specs.Outline.{actionsIn, variablesIn, automataIn, firstAutomaton, rangeAt, lowAt, highAt, setLow, setHigh, locationCount, firstLocation, firstEdge, edgeFrom, edgeAction, edgeTo, updatePlace, nodesPlace};
+ghost use Rattle.table_places.specs.Outline.{actionsIn, variablesIn, automataIn, firstAutomaton, rangeAt, lowAt};
+ghost use Rattle.table_places.specs.Outline.{highAt, setLow, setHigh, locationCount, firstLocation, firstEdge};
+ghost use Rattle.table_places.specs.Outline.{edgeFrom, edgeAction, edgeTo, updatePlace, nodesPlace};
 
 // A.
 pub fn actions(t: &[u32]) -> usize

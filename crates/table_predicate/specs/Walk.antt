@@ -1,4 +1,5 @@
--- What the walk finds on any words. On the words of a predicate it is what rows 9 and 10 ask: the laws walk-of, walk-deep and walk-back.
+-- What the walk finds on any words. On the words of a predicate it is what rows 9 and 10 ask: the laws walk-of,
+-- walk-deep and walk-back.
 use mathlib.Core.Bool.{Bool, true, false, not, _&&_, _||_}
 use mathlib.Core.List.{List, [], _∷_}
 use Prim.Native.Nat.{ℕ, zero, suc, _+_}
@@ -7,7 +8,8 @@ use lib.Signed.{leZ}
 use lib.ListN.{length, getD}
 use lib.Dec.{ltb}
 use Rattle.model.specs.Bounds.{leastValue, greatestValue, maxDepth}
-use Rattle.model.specs.Predicate.{Word, Range, range, hull, times, allOf, anyOf, notWord, impWord, eqWord, leWord, numWord, oldWord, newWord, addWord, subWord, mulWord, ifWord, stray}
+use Rattle.model.specs.Predicate.{Word, Range, range, hull, times, allOf, anyOf, notWord, impWord, eqWord, leWord}
+use Rattle.model.specs.Predicate.{numWord, oldWord, newWord, addWord, subWord, mulWord, ifWord, stray}
 use Rattle.model.specs.Table.{unbiased}
 use Rattle.node_words.specs.declared.Node.the-variants.{Stray}
 use Rattle.node_words.specs.Nodes.{meant, nodeOf}
@@ -28,7 +30,8 @@ sound deep leaves next = record { sound = true; deep = deep; leaves = leaves; ne
 
 -- no depth is left for the next node; the next word is of no use
 unfoldable pub deeper : Walked → Walked
-deeper w = elim (w .sound) [ true ↦ record { sound = false; deep = true; leaves = w .leaves; next = w .next } | false ↦ w ]
+deeper w =
+    elim (w .sound) [ true ↦ record { sound = false; deep = true; leaves = w .leaves; next = w .next } | false ↦ w ]
 
 unfoldable pub unsound : Walked → Walked
 unsound w = record { sound = false; deep = w .deep; leaves = w .leaves; next = w .next }
@@ -40,7 +43,11 @@ entered words w =
       | false ↦ record { walk = w; node = Stray }
       | true ↦ elim (ltb (w .next) (length words)) [
         | false ↦ record { walk = w; node = Stray }
-        | true ↦ record { walk = record { sound = w .sound; deep = w .deep; leaves = w .leaves; next = w .next + 1 }; node = nodeOf (getD words (w .next) 0) }
+        | true ↦
+            record {
+              walk = record { sound = w .sound; deep = w .deep; leaves = w .leaves; next = w .next + 1 };
+              node = nodeOf (getD words (w .next) 0);
+            }
       ]
     ]
 
@@ -121,12 +128,14 @@ module _ (words ranges : List ℕ) where
     pub predicateAt : (left : ℕ) → Walked → Walked
     predicateAt zero w = deeper w
     predicateAt (suc n) w =
-        predicateBy (λ v. predicateAt n v) (λ v. expressionAt n v) (meant (entered words w .node)) (entered words w .walk)
+        predicateBy (λ v. predicateAt n v) (λ v. expressionAt n v) (meant (entered words w .node))
+        (entered words w .walk)
 
     pub expressionAt : (left : ℕ) → Walked → Reach
     expressionAt zero w = unreached (deeper w)
     expressionAt (suc n) w =
-        expressionBy (λ v. predicateAt n v) (λ v. expressionAt n v) (declaredOf ranges) (meant (entered words w .node)) (entered words w .walk)
+        expressionBy (λ v. predicateAt n v) (λ v. expressionAt n v) (declaredOf ranges) (meant (entered words w .node))
+        (entered words w .walk)
 
   -- from a place on
   unfoldable pub walkAt : (at : ℕ) → Walked

@@ -1,18 +1,20 @@
-// The node words of one predicate: one word a node, in prefix order. The walk says whether a predicate stands there, and
-// where rows 9 and 10 are broken; the scans (scan.rt) are for rows 3, 7 and 8. All are total on any words.
+// The node words of one predicate: one word a node, in prefix order. The walk says whether a predicate stands there,
+// and where rows 9 and 10 are broken; the scans (scan.rt) are for rows 3, 7 and 8. All are total on any words.
 use node_words::Node;
 ghost use mathlib.Core.Path.{_≡_};
 ghost use lib.IntN.{pos};
 ghost use lib.ListN.{getD};
 ghost use Rattle.model.specs.Predicate.{range, hull, times};
 ghost use Rattle.model.specs.Table.{unbiased};
-ghost use Rattle.table_predicate.specs.Walk.{deeper, unsound, entered, unreached, reached, declaredOf, ends, plus, minus, gather, predicateAt, expressionAt, walkAt};
+ghost use Rattle.table_predicate.specs.Walk.{deeper, unsound, entered, unreached, reached, declaredOf, ends};
+ghost use Rattle.table_predicate.specs.Walk.{plus, minus, gather, predicateAt, expressionAt, walkAt};
 
 pub mod scan;
 
 // How far a walk came.
 pub struct Walked {
-    // What was walked is made of whole predicates and expressions, nested at most as deep as they may. Where it is not, the walk ended.
+    // What was walked is made of whole predicates and expressions, nested at most as deep as they may. Where it is not,
+    // the walk ended.
     pub sound: bool,
     // It ended because a node is nested too deep.
     pub deep: bool,
@@ -265,8 +267,8 @@ fn expression(words: &[u32], walk: Walked, left: usize, ranges: &[u32]) -> Reach
     }
 }
 
-// Walks the predicate whose node words stand from `at` on. `ranges` has the variables' declared ranges as table words: LO and
-// HI of variable K are the words 2K and 2K + 1.
+// Walks the predicate whose node words stand from `at` on. `ranges` has the variables' declared ranges as table words:
+// LO and HI of variable K are the words 2K and 2K + 1.
 pub fn walk(words: &[u32], at: usize, ranges: &[u32]) -> Walked
     ensures { λ r. ⌜ r ≡ walkAt (now (words .entry)) (now (ranges .entry)) at ⌝ }
 {

@@ -1,5 +1,5 @@
--- The check of a tree's words. It says Sound of the words of a lawful tree, and of no others: the laws tree-check-of and
--- tree-check-back.
+-- The check of a tree's words. It says Sound of the words of a lawful tree, and of no others: the laws tree-check-of
+-- and tree-check-back.
 use mathlib.Core.Bool.{true, false, _&&_}
 use mathlib.Core.List.{List}
 use Prim.Native.Nat.{ℕ, zero, suc, _+_, _-_}
@@ -17,11 +17,12 @@ use Rattle.table_tree.specs.declared.checked.TreeCheck.the-variants.{Sou
 use Rattle.table_tree.specs.Sets.{filled}
 use Rattle.table_tree.specs.Nodes.{nodeAt}
 
--- One node, where subtrees are owed. Rows 5 and 13 ask that a `syn` has a set, of actions up to A; row 14 that the leaves
--- come in order.
+-- One node, where subtrees are owed. Rows 5 and 13 ask that a `syn` has a set, of actions up to A; row 14 that the
+-- leaves come in order.
 unfoldable pub stepBy : (A owed leaves : ℕ) → Found → Step
 stepBy A owed leaves (Par next) = On next (owed + 1) leaves
-stepBy A owed leaves (Syn a b next) = elim (rises A 0 (setOf a b) && filled (setOf a b)) [ true ↦ On next owed leaves | false ↦ Off ]
+stepBy A owed leaves (Syn a b next) =
+    elim (rises A 0 (setOf a b) && filled (setOf a b)) [ true ↦ On next owed leaves | false ↦ Off ]
 stepBy A owed leaves (Leaf k next) = elim (eqb k leaves) [ true ↦ On next (owed - 1) (leaves + 1) | false ↦ Off ]
 stepBy A owed leaves Stray = Off
 
@@ -35,7 +36,8 @@ onward go Off = Bad
 -- `left` more nodes are to make up the subtrees owed, with N leaves in all
 unfoldable pub checkFrom : (words : List ℕ) (A N : ℕ) (left next owed leaves : ℕ) → TreeCheck
 checkFrom words A N zero next owed leaves = elim (eqb owed 0 && eqb leaves N) [ true ↦ Sound next | false ↦ Bad ]
-checkFrom words A N (suc n) next owed leaves = onward (λ m o l. checkFrom words A N n m o l) (stepOf A owed leaves (nodeAt words next))
+checkFrom words A N (suc n) next owed leaves =
+    onward (λ m o l. checkFrom words A N n m o l) (stepOf A owed leaves (nodeAt words next))
 
 -- the tree at `at`, where its count of nodes stands; row 16 says how many it may have
 unfoldable pub treeCheck : (words : List ℕ) (at A N : ℕ) → TreeCheck

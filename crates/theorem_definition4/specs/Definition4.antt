@@ -1,4 +1,5 @@
--- Definition 4 of source document 003, the linearization, part by part and in its order; and when the merger gives no text.
+-- Definition 4 of source document 003, the linearization, part by part and in its order; and when the merger gives no
+-- text.
 use mathlib.Core.Path.{_≡_}
 use mathlib.Core.Bool.{Bool, true, false}
 use mathlib.Core.List.{List, [], _∷_, _++_, map, List·Memᴰ}
@@ -37,9 +38,12 @@ pub record Unnamed (m : Model) (p : Pred) : Type 0 where
   pub unnamed : namesOutside (length (m .variables)) (words p) ≡ false
 
 pub record Fresh (m : Model) : Type 0 where
-  pub inits : (x : Automaton) → List·Memᴰ x (m .automata) → (l : Location) → List·Memᴰ l (x .locations) → Unnamed m (l .init)
-  pub invs : (x : Automaton) → List·Memᴰ x (m .automata) → (l : Location) → List·Memᴰ l (x .locations) → Unnamed m (l .inv)
-  pub updates : (x : Automaton) → List·Memᴰ x (m .automata) → (e : Edge) → List·Memᴰ e (x .edges) → Unnamed m (e .update)
+  pub inits : (x : Automaton) → List·Memᴰ x (m .automata) → (l : Location) → List·Memᴰ l (x .locations)
+      → Unnamed m (l .init)
+  pub invs : (x : Automaton) → List·Memᴰ x (m .automata) → (l : Location) → List·Memᴰ l (x .locations)
+      → Unnamed m (l .inv)
+  pub updates : (x : Automaton) → List·Memᴰ x (m .automata) → (e : Edge) → List·Memᴰ e (x .edges)
+      → Unnamed m (e .update)
 
 -- L(p) = (({x}, init, inv, E, act_S), ls), where p is the composition of m: l is this automaton, as a sheet.
 pub record IsLinearization (m l : Model) : Type 0 where
@@ -48,8 +52,8 @@ pub record IsLinearization (m l : Model) : Type 0 where
   pub gs : List (List Pred)
   pub leads-fs : Leads m (λ x. x .init) (m .tree) fs
   pub leads-gs : Leads m (λ x. x .inv) (m .tree) gs
-  -- a sheet declares its format, its actions and its variables: the composition's, and behind these the pointers ls, one for
-  -- each of fs, and none of them in FV(p)
+  -- a sheet declares its format, its actions and its variables: the composition's, and behind these the pointers ls,
+  -- one for each of fs, and none of them in FV(p)
   pub format : l .format ≡ m .format
   pub actions : l .actions ≡ m .actions
   pub variables : l .variables ≡ m .variables ++ map pointerTo fs
@@ -64,9 +68,11 @@ pub record IsLinearization (m l : Model) : Type 0 where
   pub init : x .init ≡ all (preds (clauses (length (m .variables)) 0 fs))
   -- inv(x)
   pub inv : x .inv ≡ all (preds (clauses (length (m .variables)) 0 gs))
-  -- E: an edge from x to x for each transition, whose update is r and the pointers' moves. Where the format departs: E is a list,
-  -- in which an edge may stand again.
-  pub edges : (e : Edge) → List·Memᴰ e (automaton .edges) ↔ ((a : ℕ) × (takers : List Taker) × Transition m a (m .tree) takers × (e ≡ mergedEdge m a takers))
+  -- E: an edge from x to x for each transition, whose update is r and the pointers' moves. Where the format departs: E
+  -- is a list, in which an edge may stand again.
+  pub edges : (e : Edge)
+      → List·Memᴰ e (automaton .edges)
+      ↔ ((a : ℕ) × (takers : List Taker) × Transition m a (m .tree) takers × (e ≡ mergedEdge m a takers))
   -- act_S is the A that p leads to (sync); a sheet's list of it rises, from 1 or more up to the highest action
   pub sync : (a : ℕ) → List·Memᴰ a (automaton .sync) ↔ (inSet m a (m .tree) ≡ true)
   pub rising : rises (m .actions) 0 (automaton .sync) ≡ true

@@ -1,1 +1,2 @@
-// Definition 4 and Table 3 of source document 003 as relations, and the law that the merger gives them: specs/, proofs/.
+// Definition 4 and Table 3 of source document 003 as relations, and the law that the merger gives them: specs/,
+// proofs/.

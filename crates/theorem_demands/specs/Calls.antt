@@ -22,7 +22,8 @@ use Rattle.format.specs.Merger.{unmerged, merged, mergeAnswer, mergeAfter}
 use Rattle.format.specs.Program.{refusal, programOutput}
 use Rattle.merger.specs.declared.Outcome.the-variants as Outcome
 use Rattle.merger.specs.Outcome.{outcome, outcomeAfter}
-use Rattle.theorem_demands.specs.Rows.{FirstFault, TextFault, tableRows, writerRows, mergerRows, stepRows, environmentRows}
+use Rattle.theorem_demands.specs.Rows.{FirstFault, TextFault, tableRows, writerRows, mergerRows, stepRows}
+use Rattle.theorem_demands.specs.Rows.{environmentRows}
 
 -- Lent memory after an acceptance: the first places have what was to go there, every other place what it had.
 pub record PutInto {A : Type 0} (lent content after : List A) : Type 0 where

@@ -13,7 +13,8 @@ use Rattle.model.specs.Table.{opened, openTable}
 use Rattle.model.specs.Rules.{State, reached, changed, Step, Environment}
 use Rattle.model.specs.Linear.{linear}
 use Rattle.model.specs.Judge.{Answer, marked, yes, no, refused, hasValues, row21, row22, row23, row24}
-use Rattle.model.specs.Runs.{IsState, Proposal, toStep, toEnvironment, proposed, tableJudge, run, beside, mergedRun, RunsAlike}
+use Rattle.model.specs.Runs.{IsState, Proposal, toStep, toEnvironment, proposed, tableJudge, run, beside, mergedRun}
+use Rattle.model.specs.Runs.{RunsAlike}
 
 -- Row 24 is about an action, so about proposals to the step judge alone.
 unfoldable pub lacksAction : Model → Proposal → Bool
@@ -30,11 +31,12 @@ firstRow m s p =
     (broken 24 (lacksAction m p)
     none)))
 
--- The answer that the rows and the rules give to a proposal from state s: the first row that refuses it; otherwise yes, with the
--- step's mark, where the rules allow it, and no where they don't. (The law one-answer: they give one.)
+-- The answer that the rows and the rules give to a proposal from state s: the first row that refuses it; otherwise yes,
+-- with the step's mark, where the rules allow it, and no where they don't. (The law one-answer: they give one.)
 pub data ByRules (m : Model) (s : State) : Proposal → Answer → Type 0 where
   by-row : {p : Proposal} {row : ℕ} → firstRow m s p ≡ some row → ByRules m s p (refused row)
-  step-yes : {a : ℕ} {locations : List ℕ} {values : List ℤ} {mark : Bool} → firstRow m s (toStep a locations values) ≡ none
+  step-yes : {a : ℕ} {locations : List ℕ} {values : List ℤ} {mark : Bool}
+      → firstRow m s (toStep a locations values) ≡ none
       → Step m s a (reached locations values) mark
       → ByRules m s (toStep a locations values) (marked mark)
   step-no : {a : ℕ} {locations : List ℕ} {values : List ℤ} → firstRow m s (toStep a locations values) ≡ none
@@ -63,12 +65,16 @@ pub record MovesAlike (m : Model) (s u : State) : Type 0 where
   -- the same steps, under every action and with the same mark
   pub steps : (a : ℕ) (t : State) (mark : Bool) → IsPlace m t → Step m s a t mark ↔ Step (linear m) u a (beside t) mark
   -- the same environment steps, where the merged automaton's pointers are kept still
-  pub environments : (values : List ℤ) → hasValues m values ≡ true → Environment m s values ↔ Environment (linear m) u (values ++ pointersIn m (u .values))
+  pub environments : (values : List ℤ) → hasValues m values ≡ true
+      → Environment m s values ↔ Environment (linear m) u (values ++ pointersIn m (u .values))
   -- so one can take a step to some state exactly when the other can
-  pub can-step : (a : ℕ) (mark : Bool) → ((t : State) × IsState m t × Step m s a t mark) ↔ ((w : State) × IsState (linear m) w × Step (linear m) u a w mark)
+  pub can-step : (a : ℕ) (mark : Bool)
+      → ((t : State) × IsState m t × Step m s a t mark)
+      ↔ ((w : State) × IsState (linear m) w × Step (linear m) u a w mark)
   -- and an environment step likewise
   pub can-change : ((values : List ℤ) × IsState m (changed s values) × Environment m s values)
-      ↔ ((values : List ℤ) × IsState (linear m) (changed u values) × (pointersIn m values ≡ pointersIn m (u .values)) × Environment (linear m) u values)
+      ↔ ((values : List ℤ) × IsState (linear m) (changed u values) × (pointersIn m values ≡ pointersIn m (u .values))
+      × Environment (linear m) u values)
 
 -- Demand 3: m is the model of the text, `table` and `table'` are read from it and from its merged text, and the list of
 -- proposals is put to the judges from state s on.
@@ -80,8 +86,8 @@ pub record RunsAsOne (m : Model) (table table' : List ℕ) (s : State) (ps : Lis
   pub alike : RunsAlike m (tableJudge table) (tableJudge table') s ps
   -- the run has one answer for each proposal
   pub answered : length (run (tableJudge table) s ps .answers) ≡ length ps
-  -- and its answer x to proposal p, with as many answers before it as proposals, is the one that the rows and the rules give
-  -- where the run stands
+  -- and its answer x to proposal p, with as many answers before it as proposals, is the one that the rows and the rules
+  -- give where the run stands
   pub by-rules : (before : List Proposal) (p : Proposal) (after : List Proposal) → ps ≡ before ++ p ∷ after
       → (given : List Answer) (x : Answer) (later : List Answer)
       → run (tableJudge table) s ps .answers ≡ given ++ x ∷ later

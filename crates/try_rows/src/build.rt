@@ -1,5 +1,5 @@
-// Building a sheet's text. Each function appends from a place on and gives the place after it; what does not fit is left out.
-// The longest text is one byte over the limit.
+// Building a sheet's text. Each function appends from a place on and gives the place after it; what does not fit is
+// left out. The longest text is one byte over the limit.
 use text_bytes::Written;
 
 fn place(w: Written, at: usize) -> usize {

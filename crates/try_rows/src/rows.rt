@@ -1,5 +1,5 @@
-// The rows of "Refused": the paper's example, and a neighbour that is accepted. A row with many cases has two functions, for a
-// short one is checked much sooner than a long one.
+// The rows of "Refused": the paper's example, and a neighbour that is accepted. A row with many cases has two
+// functions, for a short one is checked much sooner than a long one.
 use crate::run::{self};
 
 fn row_2_lines() {

@@ -1,4 +1,5 @@
-// Reading a text and saying what came of it: `refused=ROW,LINE`, or `accepted` and whether the writer gives the text back.
+// Reading a text and saying what came of it: `refused=ROW,LINE`, or `accepted` and whether the writer gives the text
+// back.
 use crate::build::{self};
 use model::Model;
 use reader::ReadAnswer;
