@@ -3,6 +3,8 @@
 use model::Model;
 ghost use mathlib.Core.Path.{_≡_};
 ghost use mathlib.Core.Bool.{cond, _&&_};
+ghost use Prim.Native.Nat.{_+_};
+ghost use lib.Dec.{leb};
 ghost use lib.IntN.{pos, _+ℤ_, _-ℤ_, _*ℤ_};
 ghost use lib.Signed.{leZ};
 ghost use lib.ListN.{getD};
@@ -16,6 +18,16 @@ pub fn index(x: u32) -> usize
     ensures { λ r. ⌜ r ≡ x ⌝ }
 {
     x as usize
+}
+
+// Is the sum no higher than `most`?
+pub fn fits(x: usize, y: usize, most: usize) -> bool
+    ensures { λ r. ⌜ r ≡ leb (x + y) most ⌝ }
+{
+    if most < y {
+        return false;
+    }
+    x <= most - y
 }
 
 pub fn choose(test: bool, a: i32, b: i32) -> i32

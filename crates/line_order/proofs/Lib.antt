@@ -1,3 +1,4 @@
 pub mod DueLaws
 pub mod CountsLaws
 pub mod KeyLaws
+pub mod CappedLaws

@@ -3,11 +3,12 @@ use Prim.Native.Nat.{ℕ, _+_, _≤_}
 use mathlib.Core.Path.{_≡_}
 use mathlib.Core.Bool.{cond}
 use lib.ListN.{length}
-use lib.Dec.{leb}
+use lib.Dec.{leb, ltb}
 use Rattle.model.specs.Predicate.{nodeCount}
 use Rattle.model.specs.Model.{edgeTotal}
 use Rattle.model.specs.Lines.{Entry, formatLine, actionsLine, variablesLine, variableLine, automataLine, syncLine}
 use Rattle.model.specs.Lines.{locationsLine, initLine, invLine, edgesLine, edgeLine, composeLine, Reading}
+use Rattle.model.specs.Bounds.{maxActions}
 use Rattle.model.specs.Limits.{variableCount, locationCount}
 use Rattle.line_order.specs.declared.Key.{Key}
 use Rattle.line_order.specs.declared.Key.the-variants.{Format, Actions, Variables, Variable, Automata, Sync}
@@ -87,3 +88,7 @@ pub record Paced (n : ℕ) (c : Counts) : Type 0 where
   pub automata : c .automata ≤ n
   pub locations : c .locations ≤ n
   pub edges : c .edges ≤ n
+
+-- the highest action of a list: A, or 63, since no list holds more
+unfoldable pub capped : ℕ → ℕ
+capped A = cond (ltb A maxActions) A maxActions

@@ -1,10 +1,22 @@
 // What the reader of sheets (over the text's lines) and the check of tables (over words) share: which line is due, and
 // what has been counted so far.
+use model::Model;
 ghost use mathlib.Core.Path.{_≡_};
 ghost use Prim.Native.Nat.{_-_};
 ghost use Rattle.line_order.specs.Due.{isEnd, dueFirst, dueAfter, dueOnly, dueVariables, dueAutomata};
 ghost use Rattle.line_order.specs.Due.{dueLocations, dueEdges};
-ghost use Rattle.line_order.specs.Counts.{countsNone, countsAfter, withNodes, addUpTo};
+ghost use Rattle.line_order.specs.Counts.{countsNone, countsAfter, withNodes, addUpTo, capped};
+
+// The highest action of a list: A, or 63, since no list holds more.
+pub fn capped(actions: usize) -> u32
+    ensures { λ r. ⌜ r ≡ capped actions ⌝ }
+{
+    if actions < Model::LAST_ACTION {
+        actions as u32
+    } else {
+        Model::ACTIONS
+    }
+}
 
 // The key of the line that is due; End after the last line.
 pub enum Key {

@@ -15,10 +15,10 @@ use Rattle.model.proofs.Tests.{and-left, every-append}
 use Rattle.table_check.specs.declared.Checked.{Checked}
 use Rattle.table_check.specs.declared.Checked.the-variants.{Good, Refused}
 use Rattle.table_check.specs.Scan.{scannedSheet}
-use Rattle.table_check.specs.Line.{lineAt}
+use Rattle.table_line.specs.Line.{lineAt}
 use Rattle.table_check.specs.Check.{checkedTable, answered}
 use Rattle.table_check.proofs.ScanLaws.{check-exact-by}
-use Rattle.table_check.proofs.LineLaws.{line-exact}
+use Rattle.table_line.proofs.LineLaws.{line-exact}
 
 abbrev narrow : ℕ → Bool
 narrow w = ltb w 4294967296

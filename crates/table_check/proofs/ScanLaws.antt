@@ -37,10 +37,11 @@ use Rattle.line_order.specs.Counts.{mostCount, nodesOf, Counted, Paced}
 use Rattle.line_order.proofs.KeyLaws.{named, no-end}
 use Rattle.line_order.proofs.DueLaws.{due-first, format-first, format-after, due-key, due-line, due-end, end-due, due-after}
 use Rattle.line_order.proofs.CountsLaws.{paced-first, paced-after, paced-room, counted-first, counted-after, begun-first, begun-at, begun-after}
-use Rattle.table_check.specs.declared.Line.{Line}
-use Rattle.table_check.specs.declared.Line.the-variants.{Sound, Bad}
+use Rattle.table_line.specs.declared.Line.{Line}
+use Rattle.table_line.specs.declared.Line.the-variants.{Sound, Bad}
 use Rattle.table_check.specs.declared.Scan.{Scan}
-use Rattle.table_check.specs.Scan.{scanFirst, scanAfter, zerosFrom, scanned, scannedSheet, rangeWords, Declared, LineAt, LineExact}
+use Rattle.table_line.specs.Exact.{rangeWords, Declared, LineAt, LineExact}
+use Rattle.table_check.specs.Scan.{scanFirst, scanAfter, zerosFrom, scanned, scannedSheet}
 
 -- words of which each is 0 are so many zeros
 zeros-are : (l : List ℕ) → every (λ w. eqb w 0) l ≡ true → l ≡ replicate (length l) 0

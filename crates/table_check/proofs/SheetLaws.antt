@@ -14,10 +14,10 @@ use Rattle.line_order.specs.declared.Due.{Due}
 use Rattle.line_order.specs.declared.Counts.{Counts}
 use Rattle.line_order.specs.Due.{isEnd, dueFirst, dueAfter}
 use Rattle.line_order.specs.Counts.{countsNone, countsAfter}
-use Rattle.table_check.specs.declared.Line.{Line}
-use Rattle.table_check.specs.declared.Line.the-variants.{Sound, Bad}
+use Rattle.table_line.specs.declared.Line.{Line}
+use Rattle.table_line.specs.declared.Line.the-variants.{Sound, Bad}
 use Rattle.table_check.specs.declared.Scan.{Scan}
-use Rattle.table_check.specs.Line.{lineAt}
+use Rattle.table_line.specs.Line.{lineAt}
 use Rattle.table_check.specs.Scan.{scanFirst, scanAfter, zerosFrom, scanned, scannedSheet}
 use Rattle.table_check.proofs.ScanLaws.{scanned-end, scanned-sound, scanned-bad}
 

@@ -10,7 +10,7 @@ use Rattle.model.specs.Bounds.{tableWords}
 use Rattle.model.specs.Table.{row18}
 use Rattle.table_check.specs.declared.Checked.the-variants.{Good, Refused}
 use Rattle.table_check.specs.Scan.{scannedSheet}
-use Rattle.table_check.specs.Line.{lineAt}
+use Rattle.table_line.specs.Line.{lineAt}
 use Rattle.table_check.specs.Check.{checkedTable}
 
 -- `check`

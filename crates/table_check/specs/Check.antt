@@ -8,7 +8,7 @@ use Rattle.model.specs.Table.{Opened, unopened, opened, row18}
 use Rattle.table_check.specs.declared.Checked.{Checked}
 use Rattle.table_check.specs.declared.Checked.the-variants.{Good, Refused}
 use Rattle.table_check.specs.Scan.{scannedSheet}
-use Rattle.table_check.specs.Line.{lineAt}
+use Rattle.table_line.specs.Line.{lineAt}
 
 unfoldable pub checkedTable : List ℕ → Checked
 checkedTable t =

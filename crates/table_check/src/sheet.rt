@@ -1,12 +1,11 @@
 // The scan over a table's lines.
-use crate::Line;
 use crate::Scan;
-use crate::one_line::{self};
 use line_order::Counts;
 use line_order::Due;
 use model::Model;
+use table_line::Line;
 ghost use mathlib.Core.Path.{_≡_};
-ghost use Rattle.table_check.specs.Line.{lineAt};
+ghost use Rattle.table_line.specs.Line.{lineAt};
 ghost use Rattle.table_check.specs.Scan.{scanFirst, scanAfter, zerosFrom, scannedSheet};
 
 // Every word from `at` on is 0. None ends the loop early, so that the compiler can test many at once.
@@ -63,7 +62,7 @@ pub(crate) fn sheet(t: &[u32]) -> bool
         if line_order::end(key) {
             return zeros(t, at);
         }
-        let Line::Sound(number, nodes, next) = one_line::line(t, at, key, counts) else {
+        let Line::Sound(number, nodes, next) = table_line::read(t, at, key, counts) else {
             return false;
         };
         scan = scan.after(number, nodes, next);

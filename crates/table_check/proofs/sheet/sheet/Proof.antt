@@ -1,6 +1,6 @@
 -- `table_check::sheet::sheet` meets its contract: from each turn on, the rounds that are left come to the same answer. The measure is how many they are.
 use mathlib.Core.Path.{_≡_}
-use Rattle.table_check.specs.Line.{lineAt}
+use Rattle.table_line.specs.Line.{lineAt}
 use Rattle.table_check.specs.Scan.{scanned, scannedSheet}
 use Rattle.table_check.proofs.SheetLaws.{zerosAfter, sheet-laws}
 use borrow.Author.Needs.{needs}
@@ -31,8 +31,8 @@ zeros-requires c κs = search needs
 returns : tie.Need-returns Inv-loop μ-loop
 returns c = search (needs, sheet-laws)
 
-line-requires : tie.Need-line-requires Inv-loop μ-loop
-line-requires c κs = search needs
+read-requires : tie.Need-read-requires Inv-loop μ-loop
+read-requires c κs = search needs
 
 enum-known-number : tie.Need-enum-known-number Inv-loop μ-loop
 enum-known-number c = search needs
@@ -70,7 +70,7 @@ sheet-spec =
     end-requires
     zeros-requires
     returns
-    line-requires
+    read-requires
     enum-known-number
     enum-told
     returns-2

@@ -1,0 +1,4 @@
+pub mod NumberLines
+pub mod PredicateLines
+pub mod LineLaws
+pub mod CodeLaws

@@ -1,0 +1,276 @@
+-- The lines with a predicate: `init`, `inv` and `edge`.
+use Prim.Native.Nat.{ℕ, suc, _+_, _-_, _≤_, _<_}
+use mathlib.Core.Path.{_≡_, refl, sym, ap, ap₂, _∙_}
+use mathlib.Core.Bool.{true, false, not, _&&_, and-eq-true-iff}
+use mathlib.Core.List.{List, _∷_, _++_, map, List·Memᴰ}
+use mathlib.Core.Option.{none}
+use native.Mathlib.Omega.{arith}
+use borrow.Author.Tests.{leb-true, leb-false, le-leb, lt-leb, lt-ltb, le-ltb, ltb-true, ltb-false, eqb-true, eq-eqb, not-true, not-false}
+use lib.ListN.{length, take, drop, length-append, length-drop, length-map, take-append-drop}
+use lib.Seq.{drop-drop, take-at}
+use lib.Dec.{leb, ltb}
+use Rattle.model.specs.Basic.{every, lacks}
+use Rattle.model.specs.Bounds.{maxActions, maxDepth, maxNodes, lastLocation}
+use Rattle.model.specs.Predicate.{Pred, Range, Word, words, depth, nodeCount, allStay, namesOutside, namesNew}
+use Rattle.model.specs.Model.{Edge}
+use Rattle.model.specs.Lines.{init, inv, edge, initLine, invLine, edgeLine, keyOf, Reading}
+use Rattle.model.specs.Limits.{inRange, numbersInRange, isTooDeep, exceedsSpan, passesNodes, variableCount, locationCount, isAstray, predFault, contentFault, faultOf}
+use Rattle.model.specs.Lawful.{LawfulRange, LawfulPred}
+use Rattle.model.specs.Table.{code, wordOf, predWords, lineWords}
+use Rattle.model.proofs.Tests.{and-intro, and-left, and-right, or-none, or-none-left, or-none-right}
+use Rattle.model.proofs.Decode.{unbroken, none-lacks, words-back}
+use Rattle.model.proofs.LimitLines.{state-line}
+use Rattle.line_order.specs.declared.Counts.{Counts}
+use Rattle.line_order.specs.Due.{numberOf}
+use Rattle.line_order.specs.Counts.{nodesOf, Counted}
+use Rattle.table_predicate.specs.declared.Walked.{Walked}
+use Rattle.table_predicate.specs.Walk.{declaredOf, walkAt}
+use Rattle.table_predicate.specs.Scan.{isCoded}
+use Rattle.table_predicate.proofs.ScanLaws.{coded-words, words-coded}
+use Rattle.table_predicate.proofs.WalkLaws.{declared-back, walk-of, walk-back}
+use Rattle.table_line.specs.declared.Line.the-variants.{Sound}
+use Rattle.table_line.specs.Exact.{Declared, LineAt}
+use Rattle.table_line.specs.Line.{word, rangesIn, walkedTo, nodesSound, predicateAt, locationAt, endsSound, edgeAt}
+use Rattle.table_line.proofs.NumberLines.{when-sound, when-true, mended, first-of, head-of, two-of, two-there, line-at}
+
+module _ (t : List ℕ) (r : Reading) (c : Counts) (k : Counted r c) (d : Declared t r) where
+  -- the declared ranges are those that have been read
+  pub declared-are : declaredOf (rangesIn t (c .variables)) ≡ r .model .variables
+  unfolding rangesIn lineWords
+  declared-are = rw (k .variables, d .words) (declared-back (r .model .variables) (d .lawful))
+
+  pub declared-lawful : (x : Range) → List·Memᴰ x (declaredOf (rangesIn t (c .variables))) → LawfulRange x
+  declared-lawful = rw declared-are (d .lawful)
+
+  -- n nodes from `start` on are a predicate's, which breaks no row
+  record NodesAt (start n : ℕ) : Type 0 where
+    pred : Pred
+    count : nodeCount pred ≡ n
+    lawful : LawfulPred (r .model .variables) pred
+    few : r .nodes + nodeCount pred ≤ maxNodes
+    said : map wordOf (take n (drop start t)) ≡ words pred
+    coded : take n (drop start t) ≡ map code (words pred)
+
+  nodes-back : (start n : ℕ) → nodesSound t c start n ≡ true → NodesAt start n
+  unfolding nodesSound walkedTo variableCount
+  nodes-back start n h =
+      let slice = take n (drop start t) in
+      let w = walkAt t (rangesIn t (c .variables)) start in
+      let outside = namesOutside (c .variables) (map wordOf slice) in
+      let codes = coded-words slice (and-left (every isCoded slice) _ h) in
+      let h1 = and-right (every isCoded slice) _ h in
+      let named = not-true outside (and-left (not outside) _ h1) in
+      let h2 = and-right (not outside) _ h1 in
+      let few = leb-true (c .nodes + n) maxNodes (and-right (walkedTo w (start + n)) (leb (c .nodes + n) maxNodes) h2) in
+      let h3 = and-left (walkedTo w (start + n)) (leb (c .nodes + n) maxNodes) h2 in
+      let h4 = and-right (not (w .deep)) _ (and-right (w .sound) _ h3) in
+      let stays = not-true (w .leaves) (and-left (not (w .leaves)) _ h4) in
+      let next = eqb-true (w .next) (start + n) (and-right (not (w .leaves)) _ h4) in
+      let back = walk-back t (rangesIn t (c .variables)) declared-lawful start (and-left (w .sound) _ h3) in
+      let p = back .0 in
+      let s = back .1 in
+      let end : start + n ≡ start + nodeCount p = sym next ∙ ap (λ (v : Walked). v .next) (s .walked) in
+      let size : nodeCount p ≡ n = omega arith in
+      let said : map wordOf slice ≡ words p = ap (λ (m : ℕ). map wordOf (take m (drop start t))) (sym size) ∙ s .there in
+      let spanned = not-false _ (sym (ap (λ (v : Walked). v .leaves) (s .walked)) ∙ stays) in
+      record {
+        pred = p;
+        count = size;
+        lawful =
+            record {
+              ranged = ap (every inRange) (sym said) ∙ codes .1;
+              named = ap₂ namesOutside (sym (k .variables)) (sym said) ∙ named;
+              shallow = s .shallow;
+              spanned = ap (λ (l : List Range). allStay l p) (sym declared-are) ∙ spanned;
+            };
+        few = omega (arith, k .nodes);
+        said = said;
+        coded = codes .0 ∙ ap (map code) said;
+      }
+
+  -- and the nodes of such a predicate pass the tests
+  nodes-of : (start : ℕ) (p : Pred) → LawfulPred (r .model .variables) p → r .nodes + nodeCount p ≤ maxNodes → take (nodeCount p) (drop start t) ≡ map code (words p) → nodesSound t c start (nodeCount p) ≡ true
+  unfolding nodesSound walkedTo variableCount
+  nodes-of start p l few e =
+      let said : map wordOf (take (nodeCount p) (drop start t)) ≡ words p = ap (map wordOf) e ∙ words-back (words p) (l .ranged) in
+      let walked = walk-of t (rangesIn t (c .variables)) declared-lawful start p e (l .ranged) (l .shallow) in
+      let named : namesOutside (c .variables) (map wordOf (take (nodeCount p) (drop start t))) ≡ false = ap₂ namesOutside (k .variables) said ∙ l .named in
+      let stays : allStay (declaredOf (rangesIn t (c .variables))) p ≡ true = ap (λ (v : List Range). allStay v p) declared-are ∙ l .spanned in
+      and-intro (ap (every isCoded) e ∙ words-coded (words p) (l .ranged))
+      (and-intro (ap not named)
+      (and-intro (ap (λ (v : Walked). walkedTo v (start + nodeCount p)) walked ∙ rw (stays, eq-eqb (start + nodeCount p) (start + nodeCount p) refl))
+      (le-leb (c .nodes + nodeCount p) maxNodes (omega (arith, k .nodes)))))
+
+  -- at a place, a predicate's count of nodes and its nodes
+  module _ (at : ℕ) where
+    record PredAt : Type 0 where
+      nodes : NodesAt (at + 1) (word t at)
+      there : drop at t ≡ predWords (nodes .pred) ++ drop (at + 1 + word t at) t
+
+    predicate-back : (number nodes next : ℕ) → predicateAt t at c ≡ Sound number nodes next → PredAt × (Sound 0 (word t at) (at + 1 + word t at) ≡ Sound number nodes next)
+    unfolding predicateAt predWords
+    predicate-back number nodes next h =
+        let n = word t at in
+        let s = when-sound _ _ number nodes next h in
+        let tests = and-right (ltb at (length t)) (leb n (length t - (at + 1)) && nodesSound t c (at + 1) n) (s .0) in
+        let found = nodes-back (at + 1) n (and-right (leb n (length t - (at + 1))) (nodesSound t c (at + 1) n) tests) in
+        let rest = drop (at + 1 + n) t in
+        let after : drop (at + 1) t ≡ map code (words (found .pred)) ++ rest =
+        sym (take-append-drop n (drop (at + 1) t)) ∙ ap₂ (λ (x y : List ℕ). x ++ y) (found .coded) (drop-drop n (at + 1) t) in (
+          record {
+            nodes = found;
+            there = head-of t at (ltb-true at (length t) (and-left (ltb at (length t)) _ (s .0))) ∙ ap₂ (λ (x : ℕ) (l : List ℕ). x ∷ l) (sym (found .count)) after;
+          },
+          s .1,
+        )
+
+    -- the same, of a predicate that is given
+    record Said (p : Pred) : Type 0 where
+      sound : predicateAt t at c ≡ Sound 0 (nodeCount p) (at + 1 + nodeCount p)
+      words-are : map wordOf (take (word t at) (drop (at + 1) t)) ≡ words p
+
+    predicate-of : (p : Pred) (rest : List ℕ) → LawfulPred (r .model .variables) p → r .nodes + nodeCount p ≤ maxNodes → drop at t ≡ predWords p ++ rest → Said p
+    unfolding predicateAt predWords nodeCount
+    predicate-of p rest l few e =
+        let f = first-of t at (nodeCount p) (map code (words p) ++ rest) e in
+        let long = length-map (words p) code in
+        let slice : take (nodeCount p) (drop (at + 1) t) ≡ map code (words p) = ap (take (nodeCount p)) (f .then) ∙ take-at (map code (words p)) rest (nodeCount p) long in
+        let fits : nodeCount p ≤ length t - (at + 1) = omega (arith, length-drop (at + 1) t, ap (length {A = ℕ}) (f .then), length-append (map code (words p)) rest) in
+        record {
+          sound =
+              rw (f .is)
+              (when-true _ (and-intro (lt-ltb at (length t) (f .below)) (and-intro (le-leb (nodeCount p) (length t - (at + 1)) fits) (nodes-of (at + 1) p l few slice))));
+          words-are = ap (λ (n : ℕ). map wordOf (take n (drop (at + 1) t))) (f .is) ∙ ap (map wordOf) slice ∙ words-back (words p) (l .ranged);
+        }
+
+    -- how many words they are
+    pred-long : (p : Pred) → at + 1 + nodeCount p ≡ at + length (predWords p)
+    unfolding predWords nodeCount
+    pred-long p = omega (arith, length-map (words p) code)
+
+    -- init and inv
+    location-back : (number nodes next : ℕ) → locationAt t at c ≡ Sound number nodes next → (a : PredAt) × (faultOf r (initLine (a .nodes .pred)) ≡ none) × (Sound 0 (nodeCount (a .nodes .pred)) (at + length (predWords (a .nodes .pred))) ≡ Sound number nodes next)
+    unfolding locationAt
+    location-back number nodes next h =
+        let s = when-sound _ _ number nodes next h in
+        let b = predicate-back number nodes next (s .1) in
+        let p = b .0 .nodes .pred in
+        let old : namesNew (words p) ≡ false = ap namesNew (sym (b .0 .nodes .said)) ∙ not-true _ (s .0) in
+        let size = b .0 .nodes .count in (
+          b .0,
+          none-lacks _ (state-line r p .1 (b .0 .nodes .lawful, old, b .0 .nodes .few)),
+          ap₂ (λ (m n : ℕ). Sound 0 m n) size (sym (pred-long p) ∙ ap (λ (n : ℕ). at + 1 + n) size) ∙ b .1,
+        )
+
+    pub init-sound : (number nodes next : ℕ) → locationAt t at c ≡ Sound number nodes next → LineAt t r init at number nodes next
+    unfolding keyOf numberOf nodesOf lineWords
+    init-sound number nodes next h =
+        let b = location-back number nodes next h in
+        line-at t r (initLine (b .0 .nodes .pred)) at number nodes next _ (b .1) (b .0 .there) (b .2)
+
+    pub inv-sound : (number nodes next : ℕ) → locationAt t at c ≡ Sound number nodes next → LineAt t r inv at number nodes next
+    unfolding keyOf numberOf nodesOf lineWords faultOf numbersInRange contentFault
+    inv-sound number nodes next h =
+        let b = location-back number nodes next h in
+        line-at t r (invLine (b .0 .nodes .pred)) at number nodes next _ (b .1) (b .0 .there) (b .2)
+
+    pub location-of : (p : Pred) (rest : List ℕ) → faultOf r (initLine p) ≡ none → drop at t ≡ predWords p ++ rest → locationAt t at c ≡ Sound 0 (nodeCount p) (at + length (predWords p))
+    unfolding locationAt lacks
+    location-of p rest g e =
+        let l = state-line r p .0 (ap lacks g) in
+        let s = predicate-of p rest (l .0) (l .2) e in
+        when-true _ (ap (λ (ws : List Word). not (namesNew ws)) (s .words-are) ∙ ap not (l .1)) ∙ s .sound ∙ ap (λ (n : ℕ). Sound 0 (nodeCount p) n) (pred-long p)
+
+  -- edges: what the rows ask of one, beside what they ask of its predicate
+  abbrev Ends : (from action to : ℕ) → Type 0
+  Ends from action to = (from ≤ lastLocation) × (action ≤ maxActions) × (to ≤ lastLocation) × (from < locationCount r) × (action ≤ r .model .actions) × (to < locationCount r)
+
+  ends-back : (from action to : ℕ) → endsSound c from action to ≡ true → Ends from action to
+  unfolding endsSound
+  ends-back from action to h =
+      let g = simp and-eq-true-iff at h in (
+        leb-true from lastLocation (g .0 .0),
+        leb-true action maxActions (g .0 .1 .0),
+        leb-true to lastLocation (g .0 .1 .1),
+        omega (arith, ltb-true from (c .locations) (g .1 .0), k .locations),
+        omega (arith, leb-true action (c .actions) (g .1 .1 .0), k .actions),
+        omega (arith, ltb-true to (c .locations) (g .1 .1 .1), k .locations),
+      )
+
+  ends-of : (from action to : ℕ) → Ends from action to → endsSound c from action to ≡ true
+  unfolding endsSound
+  ends-of from action to e =
+      and-intro
+      (and-intro (le-leb from lastLocation (e .0)) (and-intro (le-leb action maxActions (e .1)) (le-leb to lastLocation (e .2))))
+      (and-intro (lt-ltb from (c .locations) (omega (arith, e .3, k .locations)))
+      (and-intro (le-leb action (c .actions) (omega (arith, e .4, k .actions))) (lt-ltb to (c .locations) (omega (arith, e .5, k .locations)))))
+
+  edge-mended : (e : Edge) → Ends (e .from) (e .action) (e .to) → LawfulPred (r .model .variables) (e .update) → r .nodes + nodeCount (e .update) ≤ maxNodes → faultOf r (edgeLine e) ≡ none
+  unfolding faultOf numbersInRange contentFault predFault isTooDeep exceedsSpan passesNodes isAstray nodeCount variableCount
+  edge-mended e h l few =
+      mended 3 (ap not (and-intro (le-leb (e .from) lastLocation (h .0)) (and-intro (le-leb (e .action) maxActions (h .1)) (and-intro (le-leb (e .to) lastLocation (h .2)) (l .ranged)))))
+      (mended 7 (l .named)
+      (mended 9 (le-ltb maxDepth (depth (e .update)) (l .shallow))
+      (mended 10 (ap not (l .spanned))
+      (mended 11 (le-ltb maxNodes (r .nodes + length (words (e .update))) few)
+      (mended 12 (or-none (lt-leb (locationCount r) (e .from) (h .3)) (or-none (le-ltb (r .model .actions) (e .action) (h .4)) (lt-leb (locationCount r) (e .to) (h .5))))
+      refl)))))
+
+  edge-facts : (e : Edge) → faultOf r (edgeLine e) ≡ none → Ends (e .from) (e .action) (e .to) × LawfulPred (r .model .variables) (e .update) × (r .nodes + nodeCount (e .update) ≤ maxNodes)
+  unfolding faultOf numbersInRange contentFault predFault isTooDeep exceedsSpan passesNodes isAstray nodeCount variableCount
+  edge-facts e g =
+      let row3 = unbroken 3 _ _ g in
+      let row7 = unbroken 7 _ _ (row3 .1) in
+      let row9 = unbroken 9 _ _ (row7 .1) in
+      let row10 = unbroken 10 _ _ (row9 .1) in
+      let row11 = unbroken 11 _ _ (row10 .1) in
+      let row12 = unbroken 12 _ _ (row11 .1) .0 in
+      let ranged = numbersInRange (edgeLine e) in
+      let n = simp and-eq-true-iff at (not-false ranged (row3 .0)) in
+      let later = or-none-right (leb (locationCount r) (e .from)) _ row12 in (
+        (
+          leb-true (e .from) lastLocation (n .0),
+          leb-true (e .action) maxActions (n .1 .0),
+          leb-true (e .to) lastLocation (n .1 .1 .0),
+          leb-false (locationCount r) (e .from) (or-none-left (leb (locationCount r) (e .from)) _ row12),
+          ltb-false (r .model .actions) (e .action) (or-none-left (ltb (r .model .actions) (e .action)) _ later),
+          leb-false (locationCount r) (e .to) (or-none-right (ltb (r .model .actions) (e .action)) _ later),
+        ),
+        record { ranged = n .1 .1 .1; named = row7 .0; shallow = ltb-false maxDepth (depth (e .update)) (row9 .0); spanned = not-false _ (row10 .0) },
+        ltb-false maxNodes (r .nodes + length (words (e .update))) (row11 .0),
+      )
+
+  module _ (at : ℕ) where
+    pub edge-sound : (number nodes next : ℕ) → edgeAt t at c ≡ Sound number nodes next → LineAt t r edge at number nodes next
+    unfolding edgeAt keyOf numberOf nodesOf lineWords
+    edge-sound number nodes next h =
+        let from = word t at in
+        let action = word t (at + 1) in
+        let to = word t (at + 2) in
+        let s = when-sound _ _ number nodes next h in
+        let inside = ltb-true (at + 2) (length t) (and-left (ltb (at + 2) (length t)) (endsSound c from action to) (s .0)) in
+        let ends = ends-back from action to (and-right (ltb (at + 2) (length t)) (endsSound c from action to) (s .0)) in
+        let b = predicate-back (at + 3) number nodes next (s .1) in
+        let p = b .0 .nodes .pred in
+        let size = b .0 .nodes .count in
+        let two : at + 1 + 1 ≡ at + 2 = omega arith in
+        let three : at + 2 + 1 ≡ at + 3 = omega arith in
+        let last : drop (at + 1 + 1) t ≡ to ∷ drop (at + 3) t = rw (two, ← three) (head-of t (at + 2) inside) in
+        let there = two-there t at (omega arith) ∙ ap (λ (l : List ℕ). from ∷ action ∷ l) (last ∙ ap (λ (l : List ℕ). to ∷ l) (b .0 .there)) in
+        let end : at + suc (suc (suc (length (predWords p)))) ≡ at + 3 + 1 + word t (at + 3) = omega (arith, pred-long (at + 3) p) in
+        line-at t r (edgeLine (record { from = from; action = action; to = to; update = p })) at number nodes next _
+        (edge-mended _ ends (b .0 .nodes .lawful) (b .0 .nodes .few)) there (ap₂ (λ (m n : ℕ). Sound 0 m n) size end ∙ b .1)
+
+    pub edge-of : (e : Edge) (rest : List ℕ) → faultOf r (edgeLine e) ≡ none → drop at t ≡ lineWords (edgeLine e) ++ rest → edgeAt t at c ≡ Sound 0 (nodeCount (e .update)) (at + length (lineWords (edgeLine e)))
+    unfolding edgeAt lineWords
+    edge-of e rest g w =
+        let p = e .update in
+        let facts = edge-facts e g in
+        let f = two-of t at (e .from) (e .action) (e .to ∷ (predWords p ++ rest)) w in
+        let two : at + 1 + 1 ≡ at + 2 = omega arith in
+        let three : at + 2 + 1 ≡ at + 3 = omega arith in
+        let last = first-of t (at + 2) (e .to) (predWords p ++ rest) (rw (← two) (f .1 .then)) in
+        let s = predicate-of (at + 3) p rest (facts .1) (facts .2) (rw (← three) (last .then)) in
+        let end : at + 3 + 1 + nodeCount p ≡ at + suc (suc (suc (length (predWords p)))) = omega (arith, pred-long (at + 3) p) in
+        rw (f .0 .is, f .1 .is, last .is) (when-true _ (and-intro (lt-ltb (at + 2) (length t) (last .below)) (ends-of (e .from) (e .action) (e .to) (facts .0))))
+        ∙ s .sound ∙ ap (λ (n : ℕ). Sound 0 (nodeCount p) n) end

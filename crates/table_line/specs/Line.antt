@@ -1,0 +1,108 @@
+-- What the words of one line say, on any words: `lineAt`. That it is exact is the law line-exact.
+use Prim.Native.Nat.{ℕ, _+_, _-_, _*_}
+use mathlib.Core.Bool.{Bool, true, false, not, cond, _&&_}
+use mathlib.Core.List.{List, map}
+use lib.ListN.{length, getD, take, drop}
+use lib.Dec.{eqb, leb, ltb}
+use Rattle.model.specs.Basic.{every}
+use Rattle.model.specs.Bounds.{firstFormat, lastFormat, maxActions, maxVariables, maxAutomata, maxLocations, maxEdges}
+use Rattle.model.specs.Bounds.{maxNodes, lastLocation}
+use Rattle.model.specs.Predicate.{namesOutside, namesNew}
+use Rattle.model.specs.Limits.{rises}
+use Rattle.model.specs.Table.{wordOf, setOf}
+use Rattle.line_order.specs.declared.Key.{Key}
+use Rattle.line_order.specs.declared.Key.the-variants.{Format, Actions, Variables, Variable, Automata, Sync, Locations}
+use Rattle.line_order.specs.declared.Key.the-variants.{Init, Inv, Edges, Edge, Compose, End}
+use Rattle.line_order.specs.declared.Counts.{Counts}
+use Rattle.line_order.specs.Counts.{capped}
+use Rattle.table_predicate.specs.declared.Walked.{Walked}
+use Rattle.table_predicate.specs.Walk.{walkAt}
+use Rattle.table_predicate.specs.Scan.{isCoded}
+use Rattle.table_tree.specs.declared.checked.TreeCheck as TreeCheck
+use Rattle.table_tree.specs.declared.checked.TreeCheck.{TreeCheck}
+use Rattle.table_tree.specs.Checked.{treeCheck}
+use Rattle.table_line.specs.declared.Line.{Line}
+use Rattle.table_line.specs.declared.Line.the-variants.{Sound, Bad}
+
+-- a line, if the test holds
+unfoldable pub when : Bool → Line → Line
+when true l = l
+when false l = Bad
+
+-- the walk over a predicate went well and ended there
+unfoldable pub walkedTo : Walked → (next : ℕ) → Bool
+walkedTo w next = w .sound && (not (w .deep) && (not (w .leaves) && eqb (w .next) next))
+
+-- an edge's ends and action: numbers of the format, and of this automaton and model
+unfoldable pub endsSound : Counts → (from action to : ℕ) → Bool
+endsSound c from action to =
+    (leb from lastLocation && (leb action maxActions && leb to lastLocation)) &&
+    (ltb from (c .locations) && (leb action (c .actions) && ltb to (c .locations)))
+
+unfoldable pub ofTree : TreeCheck → Line
+ofTree (TreeCheck.Sound next) = Sound 0 0 next
+ofTree TreeCheck.Bad = Bad
+
+module _ (t : List ℕ) where
+  abbrev pub word : ℕ → ℕ
+  word at = getD t at 0
+
+  -- a number from least to most
+  unfoldable pub numberAt : (at least most : ℕ) → Line
+  numberAt at least most =
+      when (ltb at (length t) && (leb least (word at) && leb (word at) most)) (Sound (word at) 0 (at + 1))
+
+  unfoldable pub variableAt : (at : ℕ) → Line
+  variableAt at =
+      when (ltb (at + 1) (length t) && (leb (word (at + 1)) 65535 && leb (word at) (word (at + 1))))
+      (Sound 0 0 (at + 2))
+
+  unfoldable pub syncAt : (at A : ℕ) → Line
+  syncAt at A =
+      when (ltb (at + 1) (length t) && rises (capped A) 0 (setOf (word at) (word (at + 1)))) (Sound 0 0 (at + 2))
+
+  -- the words of the first ranges, so many
+  unfoldable pub rangesIn : (vs : ℕ) → List ℕ
+  rangesIn vs = take (2 * vs) (drop 3 t)
+
+  -- n nodes from `start` on: rows 3, 7, 6 with 9 and 10, and 11
+  unfoldable pub nodesSound : Counts → (start n : ℕ) → Bool
+  nodesSound c start n =
+      every isCoded (take n (drop start t)) &&
+      (not (namesOutside (c .variables) (map wordOf (take n (drop start t)))) &&
+      (walkedTo (walkAt t (rangesIn (c .variables)) start) (start + n) &&
+      leb (c .nodes + n) maxNodes))
+
+  unfoldable pub predicateAt : (at : ℕ) → Counts → Line
+  predicateAt at c =
+      when (ltb at (length t) && (leb (word at) (length t - (at + 1)) && nodesSound c (at + 1) (word at)))
+      (Sound 0 (word at) (at + 1 + word at))
+
+  -- init and inv: row 8 too
+  unfoldable pub locationAt : (at : ℕ) → Counts → Line
+  locationAt at c = when (not (namesNew (map wordOf (take (word at) (drop (at + 1) t))))) (predicateAt at c)
+
+  unfoldable pub edgesAt : (at : ℕ) → Counts → Line
+  edgesAt at c = when (ltb at (length t) && leb (c .edges + word at) maxEdges) (Sound (word at) 0 (at + 1))
+
+  unfoldable pub edgeAt : (at : ℕ) → Counts → Line
+  edgeAt at c =
+      when (ltb (at + 2) (length t) && endsSound c (word at) (word (at + 1)) (word (at + 2))) (predicateAt (at + 3) c)
+
+  unfoldable pub composeAt : (at : ℕ) → Counts → Line
+  composeAt at c = when (leb (c .automata) maxAutomata) (ofTree (treeCheck t at (capped (c .actions)) (c .automata)))
+
+  unfoldable pub lineAt : (at : ℕ) → Key → Counts → Line
+  lineAt at Format c = numberAt at firstFormat lastFormat
+  lineAt at Actions c = numberAt at 0 maxActions
+  lineAt at Variables c = numberAt at 0 maxVariables
+  lineAt at Variable c = variableAt at
+  lineAt at Automata c = numberAt at 1 maxAutomata
+  lineAt at Sync c = syncAt at (c .actions)
+  lineAt at Locations c = numberAt at 1 maxLocations
+  lineAt at Init c = locationAt at c
+  lineAt at Inv c = locationAt at c
+  lineAt at Edges c = edgesAt at c
+  lineAt at Edge c = edgeAt at c
+  lineAt at Compose c = composeAt at c
+  lineAt at End c = Bad
