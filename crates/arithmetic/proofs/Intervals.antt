@@ -10,27 +10,18 @@ use lib.ListN.{length, getD}
 use lib.Dec.{leb}
 use Rattle.model.specs.Basic.{between, exists}
 use Rattle.model.specs.Predicate.{Pred, Preds, Expr, Word, all, any, negate, imp, eq, le, none, more, num, old, new, add, sub, mul, choose, holds, value, words, wordsAll, wordsOf, named, isOutside, namesOutside, Range, range, interval, stays, allStay, allStayAll, allStayIn}
-use Rattle.model.proofs.Tests.{and-left, and-right, exists-append}
+use Rattle.model.proofs.Tests.{and-left, and-right, exists-append, or-none-left, or-none-right}
 use Rattle.arithmetic.specs.Values.{Inside, Small, SmallAll, SmallIn, Held}
 use Rattle.arithmetic.proofs.Order.{Within, Le-refl, between-Within, Within-between, add-within, sub-within, times-within, hull-either, span-fits}
-
--- neither of two
-or-first : (a b : Bool) → (a || b) ≡ false → a ≡ false
-or-first true b e = e
-or-first false b e = refl
-
-or-next : (a b : Bool) → (a || b) ≡ false → b ≡ false
-or-next true b e = absurd (true≢false e)
-or-next false b e = e
 
 module _ (count : ℕ) (k l : List Word) (h : namesOutside count (k ++ l) ≡ false) where
   pub named-first : namesOutside count k ≡ false
   unfolding namesOutside
-  named-first = or-first _ (namesOutside count l) (sym (exists-append _ k l) ∙ h)
+  named-first = or-none-left _ (namesOutside count l) (sym (exists-append _ k l) ∙ h)
 
   pub named-next : namesOutside count l ≡ false
   unfolding namesOutside
-  named-next = or-next (namesOutside count k) _ (sym (exists-append _ k l) ∙ h)
+  named-next = or-none-right (namesOutside count k) _ (sym (exists-append _ k l) ∙ h)
 
 module _ (declared : List Range) (before after : List ℤ) (olds : Inside declared before) (news : Inside declared after) where
   abbrev count : ℕ
@@ -38,7 +29,7 @@ module _ (declared : List Range) (before after : List ℤ) (olds : Inside declar
 
   -- a named variable is declared, so its value lies in its range
   variable : (values : List ℤ) → Inside declared values → (k : ℕ) → (leb count k || false) ≡ false → Within (getD values k (pos 0)) (getD declared k (range (pos 0) (pos 0)))
-  variable values inside k h = between-Within _ _ (inside k (leb-false count k (or-first _ false h)))
+  variable values inside k h = between-Within _ _ (inside k (leb-false count k (or-none-left _ false h)))
 
   within : (x : Expr) → namesOutside count (wordsOf x) ≡ false → Within (value before after x) (interval declared x)
   unfolding value interval wordsOf namesOutside exists named isOutside range

@@ -22,9 +22,9 @@ use Rattle.format.specs.Merger.{MergeAnswer, unmerged, merged, mergeModel, merg
 use Rattle.format.specs.Spelling.{textOf}
 use Rattle.format.specs.Writer.{row35}
 use Rattle.format.proofs.FitsLaws.{text-fits}
-use Rattle.format.proofs.LineLaws.{broken-inv}
 use Rattle.merger.specs.Answers.{mergeOf}
 use Rattle.answer_numbers.specs.Told.{mergedNumber}
+use Rattle.model.proofs.Decode.{unbroken}
 use Rattle.exports.specs.Numbers.{mergeNumber}
 use Rattle.exports.proofs.OpenCases.{open-cases}
 
@@ -46,8 +46,8 @@ parts-apart text edges short few =
 few-edges : (m : Model) → mergeFault m ≡ none → mergedCount m ≤ maxEdges
 unfolding mergeFault row32
 few-edges m h =
-    let a = broken-inv 31 (row31 m) _ h in
-    let b = broken-inv 32 (row32 m) _ (a .1) in
+    let a = unbroken 31 (row31 m) _ h in
+    let b = unbroken 32 (row32 m) _ (a .1) in
     ltb-false maxEdges (mergedCount m) (b .0)
 
 model-apart : (m : Model) (buffer : ℕ) → Lawful m → Apart (mergeModel m buffer)

@@ -9,11 +9,6 @@ use lib.Dec.{eqb}
 use Rattle.model.specs.Basic.{same}
 use Rattle.format.specs.Bytes.{Bytes, joined, ledBy, onto, parts}
 
-pub flat-append : {A B : Type 0} (f : A → List B) (a b : List A) → flatMap f (a ++ b) ≡ flatMap f a ++ flatMap f b
-unfolding flatMap
-flat-append f [] b = refl
-flat-append f (x ∷ a) b = ap (λ l. f x ++ l) (flat-append f a b) ∙ sym (append-assoc (f x) (flatMap f a) (flatMap f b))
-
 module _ {A : Type 0} where
   -- P holds of each item
   abbrev pub Each : (A → Type 0) → List A → Type 0

@@ -17,13 +17,14 @@ use Rattle.model.specs.Model.{Model}
 use Rattle.model.proofs.LinesBack.{lines-follow}
 use Rattle.model.proofs.LinesLaws.{Follows, follow-lines}
 use Rattle.model.proofs.Tests.{and-intro, and-left, and-right}
+use Rattle.model.proofs.Decode.{none-lacks, unbroken}
 use Rattle.format.specs.Bytes.{Bytes}
 use Rattle.format.specs.Reader.{ReadAnswer, accepted, linesOf, read, readAnswer, refused, row1}
 use Rattle.format.specs.Rows.{Line, entry, fault}
 use Rattle.format.specs.Spelling.{lineText, textOf}
 use Rattle.format.proofs.EntryLines.{ListedEntry, entry-line, lines-all, same-lines}
 use Rattle.format.proofs.FaultLaws.{actions-fault, automata-fault, edge-fault, edges-fault, format-fault, init-fault, inv-fault, locations-fault, sync-fault, variable-fault, variables-fault}
-use Rattle.format.proofs.LineLaws.{broken-inv, entry-key, line-written, lineOf}
+use Rattle.format.proofs.LineLaws.{entry-key, line-written, lineOf}
 use Rattle.format.proofs.NumberLaws.{false-true}
 use Rattle.format.proofs.TreeFaults.{compose-fault}
 
@@ -58,9 +59,9 @@ listed-entry r (invLine p) h = tt
 listed-entry r (edgesLine n) h = tt
 listed-entry r (edgeLine e) h = tt
 listed-entry r (composeLine c) h =
-    let a = broken-inv 3 (not (numbersInRange (composeLine c))) _ h in
-    let b = broken-inv 5 (not (treeRises (r .model .actions) c)) _ (a .1) in
-    not-false (listsFilled c) (broken-inv 13 (not (listsFilled c)) _ (b .1) .0)
+    let a = unbroken 3 (not (numbersInRange (composeLine c))) _ h in
+    let b = unbroken 5 (not (treeRises (r .model .actions) c)) _ (a .1) in
+    not-false (listsFilled c) (unbroken 13 (not (listsFilled c)) _ (b .1) .0)
 
 -- one step of reading
 pub read-case : (r : Reading) (k : Key) (ks : List Key) (n : ℕ) (l : Line) (ls : List Line) (o : Option ℕ) → fault r k l ≡ o → read r (k ∷ ks) n (l ∷ ls) ≡ elim o [ some row ↦ refused row n | none ↦ read (noted r (entry k l)) (thenDue (r .model .format) (entry k l) ++ ks) (suc n) ls ]
@@ -73,11 +74,6 @@ read-entry r e ks n ls h =
     read-case r (keyOf e) ks n (lineOf e) ls none (fault-law r e ∙ h) ∙
     ap (λ (x : Entry). read (noted r x) (thenDue (r .model .format) x ++ ks) (suc n) ls) (entry-line e (listed-entry r e h))
 
-no-fault : (o : Option ℕ) → lacks o ≡ true → o ≡ none
-unfolding lacks
-no-fault none h = refl
-no-fault (some row) h = absurd (false-true h)
-
 read-last : (r : Reading) (n : ℕ) → read r [] n [] ≡ accepted (r .model)
 unfolding read
 read-last r n = refl
@@ -89,7 +85,7 @@ follow-read [] r (k ∷ ks) n m f w = absurd f
 follow-read (e ∷ es) r [] n m f w = absurd f
 follow-read (e ∷ es) r (k ∷ ks) n m f w =
     ap (λ q. read r (q ∷ ks) n (lineOf e ∷ map lineOf es)) (sym (f .0)) ∙
-    read-entry r e ks n (map lineOf es) (no-fault (faultOf r e) (and-left (lacks (faultOf r e)) (withinLimits (noted r e) es) w)) ∙
+    read-entry r e ks n (map lineOf es) (none-lacks (faultOf r e) (and-left (lacks (faultOf r e)) (withinLimits (noted r e) es) w)) ∙
     follow-read es (noted r e) (thenDue (r .model .format) e ++ ks) (suc n) m (f .1) (and-right (lacks (faultOf r e)) (withinLimits (noted r e) es) w)
 
 read-text-of : (m : Model) → limits m ≡ true → read atFirst dueAtFirst 1 (linesOf (textOf m)) ≡ accepted m

@@ -17,7 +17,8 @@ use Rattle.model.specs.Model.{Edge}
 use Rattle.model.specs.Parse.{readPred}
 use Rattle.model.specs.Predicate as P
 use Rattle.model.specs.Predicate.{Pred, Range, all, namesOutside, range, words}
-use Rattle.model.proofs.Tests.{and-intro, and-same}
+use Rattle.model.proofs.Tests.{and-intro, and-same, both-ways}
+use Rattle.model.proofs.Decode.{not-broken}
 use Rattle.format.specs.Bytes.{Bytes, begins, comma, parts}
 use Rattle.format.specs.Number.{naturalOf, decimal, integerOf, signed, within}
 use Rattle.format.specs.Rows.{Line, fault, field, fieldCount, fields, hasPred, is, listItems, numbersSound, place, predOf, predTokens, wordsIn, printable, row10, row11, row12, row13, row14, row15, row16, row2, row3, row4, row5, row6, row7, row8, row9, syncList, thePred, theRange, valueOf}
@@ -67,17 +68,6 @@ row2-of e =
       print-every (spelling (keyOf e) ++ valueText e) (line-span e),
     )
 
--- a row that is not broken
-pub skip : (n : ℕ) (b : Bool) (o : Option ℕ) → b ≡ false → broken n b o ≡ o
-unfolding broken
-skip n b o h = rw h
-
-same-truth : (a b : Bool) → (a ≡ true → b ≡ true) → (b ≡ true → a ≡ true) → a ≡ b
-same-truth true true f g = refl
-same-truth true false f g = sym (f refl)
-same-truth false true f g = g refl
-same-truth false false f g = refl
-
 within-nat : (lo hi n : ℕ) → within (pos lo) (pos hi) (decimal n) ≡ leb lo n && leb n hi
 unfolding signed between
 within-nat lo hi n = within-signed (pos lo) (pos hi) (pos n)
@@ -92,7 +82,7 @@ every-decimal (k ∷ ks) = and-same (within-zero maxActions k) (every-decimal ks
 
 -- a line that is one number breaks row 3 or none
 one-number : (r : Reading) (e : Entry) (b : Bool) → fault r (keyOf e) (lineOf e) ≡ broken 2 (row2 (keyOf e) (lineOf e)) (broken 3 (row3 (keyOf e) (lineOf e)) none) → row3 (keyOf e) (lineOf e) ≡ b → fault r (keyOf e) (lineOf e) ≡ broken 3 b none
-one-number r e b h k = h ∙ skip 2 (row2 (keyOf e) (lineOf e)) (broken 3 (row3 (keyOf e) (lineOf e)) none) (row2-of e) ∙ ap (λ x. broken 3 x none) k
+one-number r e b h k = h ∙ not-broken 2 (row2 (keyOf e) (lineOf e)) (broken 3 (row3 (keyOf e) (lineOf e)) none) (row2-of e) ∙ ap (λ x. broken 3 x none) k
 
 module _ (r : Reading) where
   pub format-fault : (n : ℕ) → fault r format (lineOf (formatLine n)) ≡ faultOf r (formatLine n)
@@ -119,13 +109,13 @@ module _ (r : Reading) where
   unfolding fault row3 row4 row5 row6 row7 row8 row9 row10 row11 row12 row13 row14 row15 row16 is place hasPred broken keyOf numbersSound field fields valueOf valueText faultOf contentFault numbersInRange
   edges-fault n =
       let e : getD (parts comma (valueOf edges (lineOf (edgesLine n)))) 0 [] ≡ decimal n = sole-field edges (decimal n) (decimal-free n) in
-      skip 2 (row2 edges (lineOf (edgesLine n))) _ (row2-of (edgesLine n)) ∙
+      not-broken 2 (row2 edges (lineOf (edgesLine n))) _ (row2-of (edgesLine n)) ∙
       ap (λ x. broken 3 (not (within (pos 0) (pos maxEdges) x)) (broken 15 (passesEdges r (naturalOf x)) none)) e ∙
       rw (within-zero maxEdges n, count-decimal n)
 
   -- the tokens of a predicate are sound exactly when its numbers are in range
   sounds-of : (p : Pred) → sounds [] (tokens (textOfPred p)) ≡ every inRange (words p)
-  sounds-of p = same-truth (sounds [] (tokens (textOfPred p))) (every inRange (words p)) (λ h. read-text (textOfPred p) p h (text-read p) .ranged) (text-sound p)
+  sounds-of p = both-ways (sounds [] (tokens (textOfPred p))) (every inRange (words p)) (λ h. read-text (textOfPred p) p h (text-read p) .ranged) (text-sound p)
 
   -- rows 3 and 6 to 11 of a line with P
   module _ (k : Key) (l : Line) (p : Pred) (t : predTokens k l ≡ tokens (textOfPred p)) (has : hasPred k ≡ true) where
@@ -193,14 +183,14 @@ module _ (r : Reading) where
   unfolding fault faultOf contentFault numbersInRange row3 row4 row5 row6 row7 row8 row9 row10 row11 row12 row13 row14 row15 row16 is place hasPred broken keyOf numbersSound field fields valueOf valueText theRange syncList range every
   variable-fault x =
       let e = more-fields variable (signed (x .low)) (signed (x .high) ∷ []) (signed-free (x .low)) (signed-free (x .high), tt) in
-      skip 2 (row2 variable (lineOf (variableLine x))) _ (row2-of (variableLine x)) ∙
+      not-broken 2 (row2 variable (lineOf (variableLine x))) _ (row2-of (variableLine x)) ∙
       ap (λ (q : List Bytes). broken 3 (not (every (within leastNumber greatestNumber) q)) (broken 4 (isCrossed (range (integerOf (getD q 0 [])) (integerOf (getD q 1 [])))) none)) e ∙
       rw (within-signed leastNumber greatestNumber (x .low), within-signed leastNumber greatestNumber (x .high), and-true (between leastNumber greatestNumber (x .high)), integer-signed (x .low), integer-signed (x .high))
 
   pub sync-fault : (l : List ℕ) → fault r sync (lineOf (syncLine l)) ≡ faultOf r (syncLine l)
   unfolding fault faultOf contentFault numbersInRange row3 row4 row5 row6 row7 row8 row9 row10 row11 row12 row13 row14 row15 row16 is place hasPred broken keyOf numbersSound field fields valueOf valueText theRange syncList range every
   sync-fault l =
-      skip 2 (row2 sync (lineOf (syncLine l))) _ (row2-of (syncLine l)) ∙
+      not-broken 2 (row2 sync (lineOf (syncLine l))) _ (row2-of (syncLine l)) ∙
       ap (λ (v : Bytes). broken 3 (not (every (within (pos 0) (pos maxActions)) (listItems v))) (broken 5 (not (rises (r .model .actions) 0 (map naturalOf (listItems v))) || false) none)) (dropped (spelling sync) (textOfList l)) ∙
       rw (list-back l, items-back l, every-decimal l, or-false (not (rises (r .model .actions) 0 l)))
 

@@ -20,10 +20,10 @@ use Rattle.model.specs.Limits.{inRange, rises, treeRises, treeInRange}
 use Rattle.model.specs.Lawful.{locationNodes, automatonNodes, nodeTotal, LawfulRange, LawfulLocation, LawfulEdge, LawfulAutomaton, LawfulTree, Lawful}
 use Rattle.model.proofs.LimitLines.{tree-ranged}
 use Rattle.model.proofs.Tests.{every-append}
+use Rattle.model.proofs.Lists.{flat-append}
 use Rattle.format.specs.Bytes.{LF, Bytes, bytes, ledBy, joined, space, comma, '0}
 use Rattle.format.specs.Number.{decimalIn, decimal, signed}
 use Rattle.format.specs.Spelling.{spelling, valueText, lineText, textOf, spelled, textOfPred, textOfList, spelledNode, textOfTree}
-use Rattle.format.proofs.BytesLaws.{flat-append}
 use Rattle.format.proofs.NumberLaws.{split}
 
 -- a number below 10 ^ (d + 1) takes at most d + 1 digits

@@ -19,6 +19,7 @@ use Rattle.model.specs.Predicate as P
 use Rattle.model.specs.Predicate.{Pred, all, range}
 use Rattle.model.proofs.Parsing.{none-some}
 use Rattle.model.proofs.Tests.{and-left, and-right}
+use Rattle.model.proofs.Decode.{unbroken}
 use Rattle.format.specs.Bytes.{Bytes, begins, comma, joined, ledBy, parts}
 use Rattle.format.specs.Number.{naturalOf, decimal, integerOf, signed, within}
 use Rattle.format.specs.Rows.{Line, entry, fault, field, fieldCount, fields, hasPred, is, listItems, numbersSound, place, predOf, predTokens, wordsIn, printable, row10, row11, row12, row13, row2, row3, row4, row5, row6, row7, row8, row9, syncList, thePred, theRange, theTree, treeTokens, nodesIn, treeOf, valueOf}
@@ -38,26 +39,21 @@ record Faultless (k : Key) (l : Line) : Type 0 where
   f6 : row6 k l ≡ false
   f13 : row13 k l ≡ false
 
-pub broken-inv : (n : ℕ) (b : Bool) (o : Option ℕ) → broken n b o ≡ none → (b ≡ false) × (o ≡ none)
-unfolding broken
-broken-inv n true o h = absurd (none-some n (sym h))
-broken-inv n false o h = (refl, h)
-
 faultless : (r : Reading) (k : Key) (l : Line) → fault r k l ≡ none → Faultless k l
 unfolding fault
 faultless r k l h =
-    let b2 = broken-inv 2 (row2 k l) _ h in
-    let b3 = broken-inv 3 (row3 k l) _ (b2 .1) in
-    let b4 = broken-inv 4 (row4 k l) _ (b3 .1) in
-    let b5 = broken-inv 5 (row5 r k l) _ (b4 .1) in
-    let b6 = broken-inv 6 (row6 k l) _ (b5 .1) in
-    let b7 = broken-inv 7 (row7 r k l) _ (b6 .1) in
-    let b8 = broken-inv 8 (row8 k l) _ (b7 .1) in
-    let b9 = broken-inv 9 (row9 k l) _ (b8 .1) in
-    let b10 = broken-inv 10 (row10 r k l) _ (b9 .1) in
-    let b11 = broken-inv 11 (row11 r k l) _ (b10 .1) in
-    let b12 = broken-inv 12 (row12 r k l) _ (b11 .1) in
-    let b13 = broken-inv 13 (row13 k l) _ (b12 .1) in
+    let b2 = unbroken 2 (row2 k l) _ h in
+    let b3 = unbroken 3 (row3 k l) _ (b2 .1) in
+    let b4 = unbroken 4 (row4 k l) _ (b3 .1) in
+    let b5 = unbroken 5 (row5 r k l) _ (b4 .1) in
+    let b6 = unbroken 6 (row6 k l) _ (b5 .1) in
+    let b7 = unbroken 7 (row7 r k l) _ (b6 .1) in
+    let b8 = unbroken 8 (row8 k l) _ (b7 .1) in
+    let b9 = unbroken 9 (row9 k l) _ (b8 .1) in
+    let b10 = unbroken 10 (row10 r k l) _ (b9 .1) in
+    let b11 = unbroken 11 (row11 r k l) _ (b10 .1) in
+    let b12 = unbroken 12 (row12 r k l) _ (b11 .1) in
+    let b13 = unbroken 13 (row13 k l) _ (b12 .1) in
     record { f2 = b2 .0; f3 = b3 .0; f6 = b6 .0; f13 = b13 .0 }
 
 -- what row 2 asks

@@ -50,7 +50,7 @@ unfolding mergeModel
 merge-refuses m buffer row e = rw (e, mergeModel)
 
 -- a text that the merger gave is the merged text
-no-merge : (row edges : ℕ) (text : Bytes) → unmerged row ≡ merged text edges → ⊥
+pub no-merge : (row edges : ℕ) (text : Bytes) → unmerged row ≡ merged text edges → ⊥
 no-merge row edges text h = let z : _≡_ {A = ℕ} 0 1 = cc in omega arith
 
 pub merged-then : (m : Model) (buffer : ℕ) (text : Bytes) (edges : ℕ) → mergeModel m buffer ≡ merged text edges → (mergeFault m ≡ none) × (text ≡ textOf (linear m))

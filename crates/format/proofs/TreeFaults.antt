@@ -16,14 +16,16 @@ use Rattle.model.specs.Lines.{Reading, compose, composeLine, keyOf}
 use Rattle.model.specs.Parse.{readTree}
 use Rattle.model.proofs.Parsing.{nodes-of-read}
 use Rattle.model.proofs.Tests.{and-intro}
+use Rattle.model.proofs.Decode.{not-broken}
+use Rattle.model.proofs.Lists.{flat-append}
 use Rattle.format.specs.Bytes.{'a, Bytes, bytes, comma, joined, ledBy}
 use Rattle.format.specs.Number.{decimal, digit, within}
 use Rattle.format.specs.Rows.{fault, field, fields, hasPred, is, numbersSound, place, row10, row11, row12, row13, row14, row15, row16, row2, row3, row4, row5, row6, row7, row8, row9, theTree, treeTokens, nodesIn, treeOf, valueOf}
 use Rattle.format.specs.Spelling.{spelledNode, spelling, textOfList, textOfTree, valueText}
 use Rattle.format.specs.Tokens.{listsSound, lastAfter, listSound, node, numeral, readNodes, sound, sounds, synOf, tokens}
-use Rattle.format.proofs.BytesLaws.{Free, flat-append}
+use Rattle.format.proofs.BytesLaws.{Free}
 use Rattle.format.proofs.EntryLines.{dropped}
-use Rattle.format.proofs.FaultLaws.{every-decimal, row2-of, skip, within-zero}
+use Rattle.format.proofs.FaultLaws.{every-decimal, row2-of, within-zero}
 use Rattle.format.proofs.LineLaws.{lineOf}
 use Rattle.format.proofs.NumberLaws.{false-true, leading}
 use Rattle.format.proofs.PredText.{plain-nil}
@@ -187,5 +189,5 @@ tree-rows N c false h = rw (h, unread c (readTree (readNodes (tokens (textOfTree
 pub compose-fault : (r : Reading) (c : Tree) → fault r compose (lineOf (composeLine c)) ≡ faultOf r (composeLine c)
 unfolding fault faultOf contentFault numbersInRange row3 row4 row5 row6 row7 row8 row9 row10 row11 row12 row13 row14 row15 row16 is place hasPred broken keyOf numbersSound field fields valueOf valueText treeOf treeTokens nodesIn theTree
 compose-fault r c =
-    skip 2 (row2 compose (lineOf (composeLine c))) _ (row2-of (composeLine c)) ∙
+    not-broken 2 (row2 compose (lineOf (composeLine c))) _ (row2-of (composeLine c)) ∙
     rw (dropped (spelling compose) (textOfTree c), whole-sounds c, whole-listed (r .model .actions) c, tree-rows (length (r .model .automata)) c (listsFilled c) refl)

@@ -10,11 +10,12 @@ use Rattle.model.specs.Limits.{listsFilled}
 use Rattle.model.specs.Parse.{readTree}
 use Rattle.model.proofs.Parsing.{read-nodes-of}
 use Rattle.model.proofs.Tests.{and-left, and-right}
+use Rattle.model.proofs.Lists.{flat-append}
 use Rattle.format.specs.Bytes.{'a, Bytes, bytes, comma, joined, ledBy, parts}
 use Rattle.format.specs.Number.{naturalOf, decimal, digit}
 use Rattle.format.specs.Spelling.{spelledNode, textOfList, textOfTree}
 use Rattle.format.specs.Tokens.{bare, find, items, leafOf, lettered, node, numeral, readNodes, synOf, tokens}
-use Rattle.format.proofs.BytesLaws.{flat-append, parts-joined}
+use Rattle.format.proofs.BytesLaws.{parts-joined}
 use Rattle.format.proofs.NumberLaws.{false-true, is-digit, leading}
 use Rattle.format.proofs.PredText.{tokens-joined}
 use Rattle.format.proofs.Spans.{decimals-free, nodes-free}

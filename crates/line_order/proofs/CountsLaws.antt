@@ -11,6 +11,7 @@ use Rattle.model.specs.Model.{Automaton, Location, edgeTotal}
 use Rattle.model.specs.Predicate.{nodeCount}
 use Rattle.model.specs.Lines.{Key as LineKey, Entry, formatLine, actionsLine, variablesLine, variableLine, automataLine, syncLine, locationsLine, initLine, invLine, edgesLine, edgeLine, composeLine, keyOf, Reading, atFirst, lastOf, onLast, addLocation, addEdge, withModel, withAutomata, withPred, noted}
 use Rattle.model.specs.Limits.{variableCount, locationCount}
+use Rattle.model.proofs.LimitsLaws.{last-is}
 use Rattle.line_order.specs.declared.Key.{Key}
 use Rattle.line_order.specs.declared.Key.the-variants.{Format, Actions, Variables, Variable, Automata, Sync, Locations, Init, Inv, Edges, Edge, Compose, End}
 use Rattle.line_order.specs.declared.Due.{Due}
@@ -84,13 +85,6 @@ module _ (f : Automaton → Automaton) where
   edges-on-last n g (x ∷ []) h = omega (arith, g x)
   edges-on-last n g (x ∷ y ∷ xs) h = omega (arith, edges-on-last n g (y ∷ xs) (omega arith))
 
--- an automaton that is begun
-last-begun : (xs : List Automaton) (x : Automaton) → lastOf (xs ++ x ∷ []) ≡ x
-unfolding lastOf
-last-begun [] x = refl
-last-begun (y ∷ []) x = refl
-last-begun (y ∷ z ∷ xs) x = last-begun (z ∷ xs) x
-
 edges-begun : (xs : List Automaton) (x : Automaton) → length (x .edges) ≡ 0 → edgeTotal (xs ++ x ∷ []) ≡ edgeTotal xs
 unfolding edgeTotal
 edges-begun [] x h = omega arith
@@ -121,7 +115,7 @@ counted-after r c (syncLine list) h room begun =
       actions = h .actions;
       variables = h .variables;
       automata = add-fits (c .automata) 1 (room .automata) ∙ omega (arith, h .automata, length-append (r .model .automata) (x ∷ []));
-      locations = ap (λ (y : Automaton). length (y .locations)) (sym (last-begun (r .model .automata) x));
+      locations = ap (λ (y : Automaton). length (y .locations)) (sym (last-is (r .model .automata) x));
       edges = h .edges ∙ sym (edges-begun (r .model .automata) x refl);
       nodes = h .nodes;
     }

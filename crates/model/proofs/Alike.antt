@@ -22,7 +22,7 @@ use Rattle.model.proofs.Pointers.{pointer-value}
 use Rattle.model.proofs.Merged.{Shaped, shaped, step-same, settled-same, marks-same}
 
 -- variable k's value is in its range
-abbrev inside : Model → State → ℕ → Bool
+abbrev pub inside : Model → State → ℕ → Bool
 inside m s k = between (rangeOf m k .low) (rangeOf m k .high) (val s k)
 
 -- the merged automaton's variables: the model's, then the pointers

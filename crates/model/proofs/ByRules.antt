@@ -311,13 +311,13 @@ not-no false x y h n = absurd (n h)
 pub refused-marked : {b : Bool} (j : ℕ) → refused j ≡ marked b → ⊥
 refused-marked j h = let z : _≡_ {A = ℕ} 0 1 = cc in omega arith
 
-no-marked : {b : Bool} → no ≡ marked b → ⊥
+pub no-marked : {b : Bool} → no ≡ marked b → ⊥
 no-marked h = let z : _≡_ {A = ℕ} 0 1 = cc in omega arith
 
 pub refused-yes : (j : ℕ) → refused j ≡ yes → ⊥
 refused-yes j h = let z : _≡_ {A = ℕ} 0 1 = cc in omega arith
 
-no-yes : no ≡ yes → ⊥
+pub no-yes : no ≡ yes → ⊥
 no-yes h = let z : _≡_ {A = ℕ} 0 1 = cc in omega arith
 
 marked-same : {b c : Bool} → marked b ≡ marked c → b ≡ c

@@ -116,6 +116,15 @@ unfolding broken
 unbroken row true rest h = absurd (none-some row (sym h))
 unbroken row false rest h = (refl, h)
 
+-- a row that is not broken, and one that is
+pub not-broken : (row : ℕ) (b : Bool) (rest : Option ℕ) → b ≡ false → broken row b rest ≡ rest
+unfolding broken
+not-broken row b rest h = rw h
+
+pub is-broken : (row : ℕ) (b : Bool) (rest : Option ℕ) → b ≡ true → broken row b rest ≡ some row
+unfolding broken
+is-broken row b rest h = rw h
+
 pub in-range : (r : Reading) (e : Entry) → faultOf r e ≡ none → numbersInRange e ≡ true
 unfolding faultOf
 in-range r e h = not-false _ (unbroken 3 (not (numbersInRange e)) (contentFault r e) h .0)

@@ -45,7 +45,7 @@ same-is k l = (same-of k l, λ e. rw e (same-self l))
 ruleset rows = (clear, unless, at-most, above, neither, same-is, and-eq-true-iff)
 
 -- a list that rises to A, and the leaves in their order, have no number above the limit (row 3)
-rises-ranged : (A last : ℕ) (list : List ℕ) → A ≤ maxActions → rises A last list ≡ true → every (λ k. leb k maxActions) list ≡ true
+pub rises-ranged : (A last : ℕ) (list : List ℕ) → A ≤ maxActions → rises A last list ≡ true → every (λ k. leb k maxActions) list ≡ true
 unfolding rises every
 rises-ranged A last [] a h = refl
 rises-ranged A last (k ∷ ks) a h = go (ltb last k && leb k A) refl h (λ g. rises-ranged A k ks a g)

@@ -104,7 +104,7 @@ nodes-edges [] r = omega arith
 nodes-edges (x ∷ xs) r = let ih = nodes-edges xs (noted r (edgeLine x)) in omega arith
 
 -- the lines of an automaton, which is the last one
-last-is : (done : List Automaton) (x : Automaton) → lastOf (done ++ x ∷ []) ≡ x
+pub last-is : (done : List Automaton) (x : Automaton) → lastOf (done ++ x ∷ []) ≡ x
 unfolding lastOf
 last-is [] x = refl
 last-is (a ∷ []) x = refl

@@ -205,7 +205,7 @@ imp-fine declared p q g h = record {
 }
 
 -- a kept part of the numbers from n to A rises
-keep-rises : (f : ℕ → Bool) (A last n count : ℕ) → last < n → n + count ≤ suc A → rises A last (keep f (countUp n count)) ≡ true
+pub keep-rises : (f : ℕ → Bool) (A last n count : ℕ) → last < n → n + count ≤ suc A → rises A last (keep f (countUp n count)) ≡ true
 unfolding countUp
 keep-rises f A last n zero l h = unfold keep rises in refl
 keep-rises f A last n (suc count) l h = go (f n) refl (λ k i. keep-rises f A k (suc n) count i (omega arith))

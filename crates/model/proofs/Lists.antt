@@ -1,13 +1,15 @@
 -- Laws of the list functions of specs/Basic, and of `map` beside them.
 use mathlib.Core.Path.{_≡_, refl, sym, ap, ap₂, _∙_}
 use mathlib.Core.Bool.{Bool, true, false, _&&_, _||_, true≢false, and-false}
-use mathlib.Core.List.{List, [], _∷_, _++_, map, List·Memᴰ, List·Memᴰ·head, List·Memᴰ·tail, List·Memᴰ·cases-cons, List·Memᴰ·not-nil}
+use mathlib.Core.List.{List, [], _∷_, _++_, map, List·Memᴰ, List·Memᴰ·head, List·Memᴰ·tail, List·Memᴰ·cases-cons, List·Memᴰ·not-nil, flatMap, append-assoc}
 use mathlib.Core.Logic.{_≢_, _⊎_, inl, inr}
 use Prim.Native.Nat.{ℕ, zero, suc, _+_, _≤_, _<_}
 use native.Mathlib.Omega.{arith}
-use lib.ListN.{getD}
+use native.Mathlib.Nat.{zero-add, suc-add}
+use lib.ListN.{length, getD, take}
+use lib.Seq.{length-take-le, take-all}
 use lib.Dec.{eqb}
-use Rattle.model.specs.Basic.{every, exists, keep, member, same, countUp}
+use Rattle.model.specs.Basic.{every, exists, keep, member, same, countUp, sum}
 use Rattle.model.proofs.Tests.{and-left, and-right, eq-self, eq-of, of-eq, or-left, or-right, or-none, or-none-left, or-none-right, exists-append}
 
 module _ {A : Type 0} (f : A → Bool) where
@@ -144,3 +146,37 @@ same-of (a ∷ s) (b ∷ t) h =
 pub same-self : (s : List ℕ) → same s s ≡ true
 same-self [] = unfold same in refl
 same-self (a ∷ s) = same-cons a a s s true (eq-self a) ∙ same-self s
+
+pub flat-append : {A B : Type 0} (f : A → List B) (k l : List A) → flatMap f (k ++ l) ≡ flatMap f k ++ flatMap f l
+unfolding flatMap
+flat-append f [] l = refl
+flat-append f (x ∷ k) l = rw (flat-append f k l) (sym (append-assoc (f x) (flatMap f k) (flatMap f l)))
+
+pub sum-append : (k l : List ℕ) → sum (k ++ l) ≡ sum k + sum l
+unfolding sum
+sum-append [] l = omega arith
+sum-append (x ∷ k) l = let ih = sum-append k l in omega arith
+
+-- numbers counted up, in two parts; and the last of them
+pub count-split : (n a b : ℕ) → countUp n (a + b) ≡ countUp n a ++ countUp (n + a) b
+unfolding countUp
+count-split n zero b = let e : n + 0 ≡ n = omega arith in rw (e, zero-add)
+count-split n (suc a) b = let e : n + suc a ≡ suc n + a = omega arith in rw (e, suc-add) (ap (λ (l : List ℕ). n ∷ l) (count-split (suc n) a b))
+
+pub count-last : (n a : ℕ) → countUp n (suc a) ≡ countUp n a ++ (n + a) ∷ []
+unfolding countUp
+count-last n zero = let e : n + 0 ≡ n = omega arith in rw e
+count-last n (suc a) = let e : n + suc a ≡ suc n + a = omega arith in rw e (ap (λ (l : List ℕ). n ∷ l) (count-last (suc n) a))
+
+-- the first so many items, where there are so many, and where there are not
+pub first-long : (l : List ℕ) (n : ℕ) → n ≤ length l → n ≡ length (take n l)
+first-long l n h = sym (length-take-le n l h)
+
+pub first-all : (l : List ℕ) (n : ℕ) → length l < n → l ≡ take n l
+first-all l n h = let k : length l ≤ n = omega arith in sym (take-all n l k)
+
+-- past its end a list reads 0
+pub word-past : (l : List ℕ) (i : ℕ) → length l ≤ i → 0 ≡ getD l i 0
+word-past [] i h = refl
+word-past (x ∷ l) zero h = absurd (omega arith)
+word-past (x ∷ l) (suc i) h = word-past l i (omega arith)

@@ -13,7 +13,7 @@ use Rattle.model.specs.Bounds.{tableWords}
 use Rattle.model.specs.Model.{Model}
 use Rattle.model.specs.Lines.{lines, dueAtFirst, atFirst}
 use Rattle.model.specs.Limits.{limits}
-use Rattle.model.specs.Table.{sheetWords, tableOf, decode, isTableOf, modelOf, row19}
+use Rattle.model.specs.Table.{sheetWords, tableOf, decode, isTableOf, modelOf, row19, row18, openTable, unopened, opened}
 use Rattle.model.proofs.Tests.{and-intro, and-left, and-right}
 use Rattle.model.proofs.Lists.{same-of, same-self}
 use Rattle.model.proofs.Parsing.{none-some, got}
@@ -91,3 +91,19 @@ table-given t = (from-row (modelOf t) refl, to-row)
         let parts = ap (λ s. s ++ drop tableWords t) (sym (g .2)) ∙ take-append-drop tableWords t in
         let back : modelOf t ≡ some (g .0) = rw (← parts) (model-back m (g .1) (drop tableWords t)) in
         rw back
+
+-- a table that opens as a model is that model's
+pub opened-model : (t : List ℕ) (m : Model) → openTable t ≡ opened m → modelOf t ≡ some m
+unfolding openTable
+opened-model t m e = go (row18 (length t)) refl (modelOf t) refl
+  where
+    go : (b : Bool) → row18 (length t) ≡ b → (o : Option Model) → modelOf t ≡ o → o ≡ some m
+    go true f o g =
+        let never : unopened 18 ≡ opened m = rw (f, openTable) at e in
+        cc
+    go false f none g =
+        let never : unopened 19 ≡ opened m = rw (f, openTable, g, openTable) at e in
+        cc
+    go false f (some n) g =
+        let same : opened n ≡ opened m = rw (f, openTable, g, openTable) at e in
+        cc

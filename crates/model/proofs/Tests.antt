@@ -8,7 +8,7 @@ use native.Mathlib.Omega.{arith}
 use native.Mathlib.Nat.{zero-add, suc-add}
 use lib.IntN.{ℤ, pos, negsuc}
 use lib.ListN.{getD}
-use lib.Dec.{T, eqb, leb, ltb, le→leb, eqb→eq, eqb-refl, ltb→lt, lt→ltb, nltb→le, nleb→lt}
+use lib.Dec.{T, eqb, leb, ltb, le→leb, leb→le, eqb→eq, eqb-refl, ltb→lt, lt→ltb, nltb→le, nleb→lt}
 use Rattle.model.specs.Basic.{eqZ, each, every, exists}
 
 pub of-T : (b : Bool) → T b → b ≡ true
@@ -90,6 +90,24 @@ pub not-true : (b : Bool) → not b ≡ true → b ≡ false
 not-true true h = sym h
 not-true false h = refl
 
+pub not-not : (b : Bool) → not (not b) ≡ b
+not-not true = refl
+not-not false = refl
+
+pub or-self : (b : Bool) → (b || b) ≡ b
+or-self true = refl
+or-self false = refl
+
+pub and-no-right : (a b : Bool) → b ≡ false → (a && b) ≡ false
+and-no-right true b e = e
+and-no-right false b e = refl
+
+-- two answers are equal where each is true if the other is
+pub both-ways : (a b : Bool) → (a ≡ true → b ≡ true) → (b ≡ true → a ≡ true) → a ≡ b
+both-ways true b f g = sym (f refl)
+both-ways false true f g = g refl
+both-ways false false f g = refl
+
 pub eq-of : (a b : ℕ) → eqb a b ≡ true → a ≡ b
 eq-of a b h = eqb→eq a b (to-T (eqb a b) h)
 
@@ -121,6 +139,15 @@ of-le a b h = of-T (leb a b) (le→leb a b h)
 
 pub below-of : (a b : ℕ) → leb a b ≡ false → b < a
 below-of a b h = nleb→lt a b (rw h tt)
+
+pub not-leb : (a b : ℕ) → not (leb a b) ≡ ltb b a
+not-leb a b = go (leb a b) refl (ltb b a) refl
+  where
+    go : (t : Bool) → leb a b ≡ t → (u : Bool) → ltb b a ≡ u → not t ≡ u
+    go true e true f = let l = leb→le a b (to-T (leb a b) e) in let m = lt-of b a f in absurd (omega arith)
+    go true e false f = refl
+    go false e true f = refl
+    go false e false f = let l = below-of a b e in let m = le-of b a f in absurd (omega arith)
 
 pub eqZ-of : (a b : ℤ) → eqZ a b ≡ true → a ≡ b
 unfolding eqZ

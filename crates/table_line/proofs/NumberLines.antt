@@ -26,7 +26,7 @@ use Rattle.model.proofs.LimitLines.{variable-line, sync-line, edges-line}
 use Rattle.line_order.specs.declared.Counts.{Counts}
 use Rattle.line_order.specs.Due.{numberOf}
 use Rattle.line_order.specs.Counts.{nodesOf, Counted}
-use Rattle.node_words.proofs.NodeLaws.{biased-unbiased, number-span}
+use Rattle.node_words.proofs.NodeLaws.{biased-unbiased, number-span, biased-small}
 use Rattle.table_tree.proofs.SetLaws.{words-back}
 use Rattle.table_tree.proofs.NodeLaws.{later}
 use Rattle.line_order.specs.Counts.{capped}
@@ -140,11 +140,6 @@ biased-le (pos a) (negsuc b) h = absurd (true≢false (sym h))
 biased-le (negsuc a) (pos b) h = omega arith
 biased-le (negsuc a) (negsuc b) h = let l = leb-true b a h in omega arith
 
-biased-few : (z : ℤ) → between leastNumber greatestNumber z ≡ true → biased z ≤ 65535
-unfolding biased between
-biased-few (pos n) h = let l = leb-true n 32767 h in omega arith
-biased-few (negsuc n) h = omega arith
-
 -- two words at a place
 pub two-of : (t : List ℕ) (at a b : ℕ) (rest : List ℕ) → drop at t ≡ a ∷ b ∷ rest → First t at a (b ∷ rest) × First t (at + 1) b rest
 two-of t at a b rest e = let f = first-of t at a (b ∷ rest) e in (f, first-of t (at + 1) b rest (f .then))
@@ -177,7 +172,7 @@ module _ (t : List ℕ) (r : Reading) (at : ℕ) where
       rw (f .0 .is, f .1 .is)
       (when-true _
       (and-intro (lt-ltb (at + 1) (length t) (f .1 .below))
-      (and-intro (le-leb (biased (x .high)) 65535 (biased-few (x .high) (l .high))) (le-leb (biased (x .low)) (biased (x .high)) (biased-le (x .low) (x .high) (l .ordered))))))
+      (and-intro (le-leb (biased (x .high)) 65535 (biased-small (x .high) (l .high))) (le-leb (biased (x .low)) (biased (x .high)) (biased-le (x .low) (x .high) (l .ordered))))))
 
 -- a list that rises up to 63 holds nothing above it: so says row 5's own law, of a reading with so many actions
 rises-few : (r : Reading) (A : ℕ) (list : List ℕ) → A ≤ maxActions → rises A 0 list ≡ true → every (λ k. leb k maxActions) list ≡ true

@@ -10,28 +10,13 @@ use Rattle.model.specs.Model.{Model}
 use Rattle.model.specs.Lawful.{Lawful}
 use Rattle.model.specs.Table.{sheetWords, tableOf, modelOf, row18, unopened, opened, openTable}
 use Rattle.model.proofs.LimitsLaws.{lawful-is}
-use Rattle.model.proofs.TableLaws.{model-given}
+use Rattle.model.proofs.TableLaws.{model-given, opened-model}
 use Rattle.table_places.proofs.OutlineLaws.{table-sheet}
 
 pub record Sheet (t : List ℕ) (m : Model) : Type 0 where
   pub lawful : Lawful m
   pub rest : List ℕ
   pub stands : t ≡ sheetWords m ++ rest
-
-opened-model : (t : List ℕ) (m : Model) → openTable t ≡ opened m → modelOf t ≡ some m
-unfolding openTable
-opened-model t m e = go (row18 (length t)) refl (modelOf t) refl
-  where
-    go : (b : Bool) → row18 (length t) ≡ b → (o : Option Model) → modelOf t ≡ o → o ≡ some m
-    go true f o g =
-        let never : unopened 18 ≡ opened m = rw (f, openTable) at e in
-        cc
-    go false f none g =
-        let never : unopened 19 ≡ opened m = rw (f, openTable, g, openTable) at e in
-        cc
-    go false f (some n) g =
-        let same : opened n ≡ opened m = rw (f, openTable, g, openTable) at e in
-        cc
 
 pub sheet-of : (t : List ℕ) (m : Model) → openTable t ≡ opened m → Sheet t m
 sheet-of t m e =

@@ -26,17 +26,18 @@ use Rattle.model.proofs.Tests.{and-intro, and-left, and-right, or-cases, of-lt,
 use Rattle.model.proofs.Lists.{keep-in, keep-out, keep-first, keep-skip}
 use Rattle.model.proofs.Bits.{rises-cons}
 use Rattle.model.proofs.Parsing.{none-some, got}
-use Rattle.model.proofs.TableLaws.{model-given}
+use Rattle.model.proofs.TableLaws.{model-given, opened-model}
 use Rattle.model.proofs.LimitsLaws.{lawful-is}
 use Rattle.model.proofs.Merged.{automaton-at}
 use Rattle.model.proofs.Count.{count-is}
-use Rattle.model.proofs.LinearLimits.{linear-limited}
+use Rattle.model.proofs.LinearLimits.{linear-limited, keep-rises}
 use Rattle.format.specs.Bytes.{Bytes}
 use Rattle.format.specs.Spelling.{textOf}
 use Rattle.format.specs.Reader.{accepted, readAnswer}
 use Rattle.format.specs.Writer.{row35}
 use Rattle.format.specs.Merger.{unmerged, merged, mergeModel, mergeAnswer}
 use Rattle.format.proofs.Given.{reader-exact}
+use Rattle.format.proofs.TextRuns.{no-merge}
 use Rattle.theorem_definition4.specs.Table3.{Transition, rule-17, rule-18-left, rule-18-right, rule-19, rule-21}
 use Rattle.theorem_definition4.specs.Definition4.{pointerTo, choices, clauses, Fresh, IsLinearization, breaks, firstRow}
 use Rattle.theorem_definition4.proofs.Table3Is.{transitions-are, valuesOf, leads-are}
@@ -168,17 +169,6 @@ sync-is m lawful a = (λ h. keep-out (λ b. inSet m b (m .tree)) (countUp 1 (m .
         let high = q .1 in
         keep-in (λ b. inSet m b (m .tree)) (counted-in a 1 (m .actions) (omega arith) (omega arith)) i
 
-sync-rises : (f : ℕ → Bool) (A last n count : ℕ) → last < n → n + count ≤ suc A → rises A last (keep f (countUp n count)) ≡ true
-unfolding countUp
-sync-rises f A last n zero l h = unfold keep rises in refl
-sync-rises f A last n (suc count) l h = go (f n) refl (λ k i. sync-rises f A k (suc n) count i (omega arith))
-  where
-    go : (b : Bool) → f n ≡ b → ((k : ℕ) → k < suc n → rises A k (keep f (countUp (suc n) count)) ≡ true) → rises A last (keep f (n ∷ countUp (suc n) count)) ≡ true
-    go true e ih =
-        ap (rises A last) (keep-first f n _ e) ∙ rises-cons A last n _
-        ∙ and-intro (and-intro (of-lt last n l) (le-leb n A (omega arith))) (ih n (omega arith))
-    go false e ih = ap (rises A last) (keep-skip f n _ e) ∙ ih last (omega arith)
-
 -- the merged automaton is the linearization
 pub linear-is : (m : Model) → Lawful m → IsLinearization m (linear m)
 unfolding linear mergedInit mergedInv
@@ -200,7 +190,7 @@ linear-is m lawful = record {
   inv = ap (λ ps. all (preds ps)) (sym (clauses-are m (λ l. l .inv) 0 (m .automata)));
   edges = edges-are m lawful;
   sync = sync-is m lawful;
-  rising = sync-rises (λ a. inSet m a (m .tree)) (m .actions) 0 1 (m .actions) (omega arith) (omega arith);
+  rising = keep-rises (λ a. inSet m a (m .tree)) (m .actions) 0 1 (m .actions) (omega arith) (omega arith);
 }
 
 -- a table that opens as a model is that of a lawful one
@@ -208,23 +198,8 @@ opens : (t : List ℕ) (m : Model) → row18 (length t) ≡ false → modelOf t 
 unfolding openTable
 opens t m e p = rw (e, openTable, p)
 
-pub opened-of : (t : List ℕ) (m : Model) → openTable t ≡ opened m → modelOf t ≡ some m
-unfolding openTable
-opened-of t m h = go (row18 (length t)) refl (modelOf t) refl
-  where
-    no-opening : (row : ℕ) → unopened row ≡ opened m → ⊥
-    no-opening row q = let z : _≡_ {A = ℕ} 0 1 = cc in omega arith
-
-    go : (b : Bool) → row18 (length t) ≡ b → (o : Option Model) → modelOf t ≡ o → modelOf t ≡ some m
-    go true e o p = absurd (no-opening 18 (sym (rw (e, openTable)) ∙ h))
-    go false e none p = absurd (no-opening 19 (sym (rw (e, openTable, p)) ∙ h))
-    go false e (some n) p =
-        let q : opened n ≡ opened m = sym (opens t n e p) ∙ h in
-        let r : n ≡ m = cc in
-        p ∙ ap some r
-
 pub opened-limited : (t : List ℕ) (m : Model) → openTable t ≡ opened m → limits m ≡ true
-opened-limited t m h = model-given t m (opened-of t m h) .0
+opened-limited t m h = model-given t m (opened-model t m h) .0
 
 -- what the merger says, by what it finds
 module _ (t : List ℕ) (b : ℕ) where
@@ -299,9 +274,6 @@ module _ (t : List ℕ) (b : ℕ) where
       go true e o p = refuses 18 (first-18 e) (answer-unopened t b 18 (rw (e, openTable)))
       go false e none p = refuses 19 (first-19 e p) (answer-unopened t b 19 (rw (e, openTable, p)))
       go false e (some m) p = ends-model m e p
-
-pub no-merge : (row edges : ℕ) (text : Bytes) → unmerged row ≡ merged text edges → ⊥
-no-merge row edges text h = let z : _≡_ {A = ℕ} 0 1 = cc in omega arith
 
 -- The merger gives a text and a count exactly if the table opens as a model, none of rows 31 to 34 refuses the model and the
 -- buffer has room; the text is that of Definition 4's automaton (linear-is) and the count is that of its edges.

@@ -16,7 +16,7 @@ use Rattle.model.specs.Rules.{Phase, start, running, State, reached, changed, S
 use Rattle.model.specs.Judge.{Answer, marked, yes, no, refused, phaseOf, row21, row22, row23, row24, settled, stepHolds, judgeTo, judgeStep, judgeEnvironment, judgeAt, stepAnswer, environmentAnswer}
 use Rattle.model.proofs.LimitsLaws.{lawful-is}
 use Rattle.model.proofs.TableJudge.{stateAt}
-use Rattle.model.proofs.ByRules.{refused-marked, refused-yes, step-by-rules, environment-by-rules}
+use Rattle.model.proofs.ByRules.{refused-marked, refused-yes, step-by-rules, environment-by-rules, no-marked, no-yes}
 use Rattle.format.specs.Refused.{Conditions, Unbroken}
 use Rattle.format.proofs.Smallest.{firstOf, risesFrom}
 use Rattle.theorem_definition4.proofs.Definition4Is.{opened-of, opened-limited}
@@ -37,12 +37,6 @@ phase-case phase = go (eqb phase 0) refl (eqb phase 1) refl
     go true e c f = a-phase start (rw (e, phaseOf)) (rw e)
     go false e true f = a-phase running (rw (e, phaseOf, f)) (rw (e, f))
     go false e false f = no-phase (rw (e, phaseOf, f)) (rw (e, f))
-
-no-marked : {b : Bool} → no ≡ marked b → ⊥
-no-marked h = let z : _≡_ {A = ℕ} 0 1 = cc in omega arith
-
-no-yes : no ≡ yes → ⊥
-no-yes h = let z : _≡_ {A = ℕ} 0 1 = cc in omega arith
 
 refused-no : (row : ℕ) → refused row ≡ no → ⊥
 refused-no row h = let z : _≡_ {A = ℕ} 0 1 = cc in omega arith

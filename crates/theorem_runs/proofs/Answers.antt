@@ -14,7 +14,7 @@ use Rattle.model.specs.Rules.{State, reached, changed, Step, Environment}
 use Rattle.model.specs.Judge.{Answer, marked, yes, no, refused, row21, row22, row23, row24, settled, stepHolds, judgeTo, judgeEnvironment, StepPasses, EnvironmentPasses}
 use Rattle.model.specs.Runs.{IsState, Proposal, toStep, toEnvironment, proposed, modelJudge, goes}
 use Rattle.model.proofs.Alike.{goes-state}
-use Rattle.model.proofs.Tests.{or-none-right}
+use Rattle.model.proofs.Tests.{or-none-right, or-self}
 use Rattle.model.proofs.ByRules.{holds-step, step-holds, settled-environment, environment-settled}
 use Rattle.theorem_runs.specs.Demand.{lacksAction, firstRow, ByRules, by-row, step-yes, step-no, environment-yes, environment-no}
 
@@ -34,10 +34,6 @@ decided false true c d x P f g = f 22
 decided false false true d x P f g = f 23
 decided false false false true x P f g = f 24
 decided false false false false x P f g = g refl refl refl
-
-or-self : (b : Bool) → (b || b) ≡ b
-or-self true = refl
-or-self false = refl
 
 -- an environment step keeps the locations
 still-22 : (m : Model) (s : State) (values : List ℤ) → (row22 m s || row22 m (changed s values)) ≡ row22 m s

@@ -20,12 +20,8 @@ use Rattle.model.specs.Runs.{IsState, beside}
 use Rattle.model.proofs.Tests.{not-false, and-intro, and-right, and-same, of-lt, of-le, of-eq, each-intro, each-elim, each-ext, each-add}
 use Rattle.model.proofs.Pointers.{pointer-value}
 use Rattle.model.proofs.Merged.{Shaped, shaped}
-use Rattle.model.proofs.Alike.{merged-size, merged-21, merged-22, merged-23}
+use Rattle.model.proofs.Alike.{merged-size, merged-21, merged-22, merged-23, inside}
 use Rattle.model.proofs.TableJudge.{stateAt}
-
--- variable k's value is in its range
-abbrev inside : Model → State → ℕ → Bool
-inside m s k = between (rangeOf m k .low) (rangeOf m k .high) (val s k)
 
 -- the range of a pointer: its automaton's locations
 pointer-has : (m : Model) (k : ℕ) → rangeOf (linear m) (pointer m k) ≡ pointerRange (automaton m k)
