@@ -16,8 +16,8 @@ use Rattle.model.proofs.Tests.{and-left, and-right, not-true, not-false, eq-of,
 use Rattle.table_places.specs.declared.layout.Layout.{Layout}
 use Rattle.table_places.specs.Layout.{layoutOf, automataOf, variablesOf}
 use Rattle.table_places.specs.Own.{ownSets}
-use Rattle.table_check.specs.declared.Checked.{Checked}
-use Rattle.table_check.specs.declared.Checked.the-variants as C
+use Rattle.model.specs.declared.Checked.{Checked}
+use Rattle.model.specs.declared.Checked.the-variants as C
 use Rattle.judge_call.specs.declared.Phase.{Phase}
 use Rattle.judge_call.specs.declared.Phase.the-variants.{Start, Running}
 use Rattle.judge_call.specs.declared.State.{State}

@@ -18,8 +18,8 @@ use Rattle.model.specs.Runs.{Proposal, proposed, Judge, phaseNumber, callOf, ta
 use borrow.Author.Tests.{le-leb, lt-leb}
 use Rattle.model.proofs.Tests.{and-left, and-right, not-false, eq-of, lt-of, le-of}
 use Rattle.table_check.specs.Check.{answered}
-use Rattle.table_check.specs.declared.Checked.{Checked}
-use Rattle.table_check.specs.declared.Checked.the-variants as C
+use Rattle.model.specs.declared.Checked.{Checked}
+use Rattle.model.specs.declared.Checked.the-variants as C
 use Rattle.table_places.specs.declared.layout.Layout.{Layout}
 use Rattle.table_places.specs.Layout.{layoutOf, automataOf, variablesOf}
 use Rattle.table_places.proofs.OutlineLaws.{automata-in, variables-in}

@@ -6,7 +6,7 @@ use judge_call::Admitted;
 use judge_call::Answer;
 use judge_call::Phase;
 use judge_call::State;
-use table_check::Checked;
+use model::Checked;
 use table_places::Layout;
 ghost use mathlib.Core.Path.{_≡_};
 ghost use Prim.Native.Nat.{_*_, _≤_, _<_};

@@ -9,8 +9,8 @@ use Rattle.model.specs.Judge as J
 use Rattle.model.specs.Table.{openTable}
 use Rattle.model.proofs.Tests.{not-true, not-false}
 use Rattle.table_check.specs.Check.{answered}
-use Rattle.table_check.specs.declared.Checked.{Checked}
-use Rattle.table_check.specs.declared.Checked.the-variants as C
+use Rattle.model.specs.declared.Checked.{Checked}
+use Rattle.model.specs.declared.Checked.the-variants as C
 use Rattle.table_places.specs.declared.layout.Layout.{Layout}
 use Rattle.table_places.specs.Layout.{layoutOf}
 use Rattle.table_places.specs.Own.{ownSets}

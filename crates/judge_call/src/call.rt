@@ -1,7 +1,7 @@
 // Rows 20 to 23 of a call, in their order.
 use crate::Admitted;
 use crate::rows::{self};
-use table_check::Checked;
+use model::Checked;
 use table_places::Layout;
 ghost use mathlib.Core.Path.{_≡_};
 ghost use lib.ListN.{length};

@@ -8,7 +8,7 @@ use crate::call::{self};
 use crate::rows::{self};
 use crate::settled::{self};
 use crate::taken::{self};
-use table_check::Checked;
+use model::Checked;
 use table_places::Layout;
 ghost use mathlib.Core.Path.{_≡_};
 ghost use Rattle.judge_call.specs.Calls.{environmentBy, environmentOn, environmentFrom, stepBy, stepOn, stepFrom};

@@ -16,8 +16,8 @@ use Rattle.model.specs.Limits.{broken}
 use Rattle.model.specs.Table.{sheetWords, tableOf, Opened, unopened, opened, openTable}
 use Rattle.model.specs.Linear.{linear, mergedCount, row31, row32, row33, row34, mergeFault}
 use Rattle.table_places.proofs.Opened.{sheet-of}
-use Rattle.table_check.specs.declared.Checked.{Checked}
-use Rattle.table_check.specs.declared.Checked.the-variants.{Good, Refused}
+use Rattle.model.specs.declared.Checked.{Checked}
+use Rattle.model.specs.declared.Checked.the-variants.{Good, Refused}
 use Rattle.table_check.specs.Check.{answered}
 use Rattle.merge_words.specs.declared.Linearization.{Linearization}
 use Rattle.merge_words.specs.Append.{narrow, placed, Appended}

@@ -1,6 +1,6 @@
 // The linearization of a sheet, Definition 4 of source document 003, from a table to a table.
 pub use merge_words::Linearization;
-use table_check::Checked;
+use model::Checked;
 ghost use mathlib.Core.Path.{_≡_};
 ghost use Rattle.merge_table.specs.Linearization.{linearization};
 

@@ -1,4 +1,4 @@
-// The vocabulary of the sheets: the limits that stand with their types. The definitions are in specs/.
+// The vocabulary of the sheets: the limits that stand with their types, and what a check says. The definitions are in specs/.
 
 // What a sheet says, within these limits (specs/Bounds.antt).
 pub struct Model {}
@@ -48,6 +48,12 @@ impl Model {
     pub const BYTES: usize = 65536;
 
     pub const WORDS: usize = 8192;
+}
+
+// What rows that are asked in their order say: no row refuses, or the first that does.
+pub enum Checked {
+    Good,
+    Refused(u32),
 }
 
 // The composition.

@@ -12,8 +12,8 @@ use Rattle.model.specs.Bounds.{tableWords}
 use Rattle.model.specs.Model.{Model}
 use Rattle.model.specs.Table.{modelOf, row18, row19, openTable}
 use Rattle.model.proofs.Tests.{and-left, every-append}
-use Rattle.table_check.specs.declared.Checked.{Checked}
-use Rattle.table_check.specs.declared.Checked.the-variants.{Good, Refused}
+use Rattle.model.specs.declared.Checked.{Checked}
+use Rattle.model.specs.declared.Checked.the-variants.{Good, Refused}
 use Rattle.table_check.specs.Scan.{scannedSheet}
 use Rattle.table_line.specs.Line.{lineAt}
 use Rattle.table_check.specs.Check.{checkedTable, answered}

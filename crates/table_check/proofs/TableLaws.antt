@@ -8,7 +8,7 @@ use lib.Seq.{length-take-le}
 use borrow.Author.Tests.{lt-ltb, le-ltb}
 use Rattle.model.specs.Bounds.{tableWords}
 use Rattle.model.specs.Table.{row18}
-use Rattle.table_check.specs.declared.Checked.the-variants.{Good, Refused}
+use Rattle.model.specs.declared.Checked.the-variants.{Good, Refused}
 use Rattle.table_check.specs.Scan.{scannedSheet}
 use Rattle.table_line.specs.Line.{lineAt}
 use Rattle.table_check.specs.Check.{checkedTable}

@@ -3,6 +3,7 @@ mod sheet;
 
 use line_order::Counts;
 use line_order::Due;
+use model::Checked;
 use model::Model;
 ghost use mathlib.Core.Path.{_≡_};
 ghost use Rattle.model.specs.Table.{openTable};
@@ -13,12 +14,6 @@ pub struct Scan {
     pub due: Due,
     pub counts: Counts,
     pub at: usize,
-}
-
-// Refused has the row.
-pub enum Checked {
-    Good,
-    Refused(u32),
 }
 
 // The table's first words, as many as a table has; what stands after them is not read.

@@ -28,8 +28,8 @@ use Rattle.line_order.specs.declared.Due.{Due}
 use Rattle.line_order.specs.Due.{isEnd, dueFirst, dueAfterKey, dueAfter, keysDue, laterKeys, laterDue, codeOf, numberOf}
 use Rattle.line_order.proofs.KeyLaws.{no-end}
 use Rattle.line_order.proofs.DueLaws.{due-first, format-first, format-after, due-key, due-later, due-end, due-after}
-use Rattle.table_check.specs.declared.Checked.{Checked}
-use Rattle.table_check.specs.declared.Checked.the-variants.{Good, Refused}
+use Rattle.model.specs.declared.Checked.{Checked}
+use Rattle.model.specs.declared.Checked.the-variants.{Good, Refused}
 use Rattle.table_check.specs.Check.{answered}
 use Rattle.format.specs.Bytes.{Bytes, ledBy, joined, comma, LF}
 use Rattle.format.specs.Number.{decimal, signed}

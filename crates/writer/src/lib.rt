@@ -6,7 +6,7 @@ mod read;
 mod sheet;
 mod words;
 
-use table_check::Checked;
+use model::Checked;
 use text_bytes::Written;
 ghost use lib.ListN.{length};
 ghost use Rattle.model.specs.Bounds.{maxBytes};

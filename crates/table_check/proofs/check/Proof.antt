@@ -1,7 +1,7 @@
 -- `table_check::check` meets its contract: each way out is a law of TableLaws, and the law check-exact takes it to the rows.
 use mathlib.Core.Path.{_≡_, _∙_}
 use Rattle.table_tree.proofs.Sound.{all-words}
-use Rattle.table_check.specs.declared.Checked.the-variants.{Good, Refused}
+use Rattle.model.specs.declared.Checked.the-variants.{Good, Refused}
 use Rattle.table_check.specs.Check.{checkedTable}
 use Rattle.table_check.proofs.TableLaws.{cut-whole, check-laws}
 use Rattle.table_check.proofs.Exact.{check-exact}
