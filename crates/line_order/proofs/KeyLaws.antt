@@ -1,10 +1,15 @@
 -- The keys: which is the end.
 use mathlib.Core.Path.{_≡_, refl}
 use mathlib.Core.Bool.{true, false}
+use mathlib.Core.List.{List, [], _∷_}
 use mathlib.Core.Logic.{_⊎_, inl, inr}
+use Prim.Native.Nat.{ℕ}
+use denote.Enum.Declared.{tagOf}
+use types.Run.{OneOf, miss}
 use Rattle.model.specs.Lines.{Key as LineKey, format, actions, variables, variable, automata, sync, locations, init, inv, edges, edge, compose}
 use Rattle.line_order.specs.declared.Key.{Key}
 use Rattle.line_order.specs.declared.Key.the-variants.{Format, Actions, Variables, Variable, Automata, Sync, Locations, Init, Inv, Edges, Edge, Compose, End}
+use Rattle.line_order.proofs.Key.{the-type}
 use Rattle.line_order.specs.Due.{isEnd, codeOf}
 
 -- a key is the end, or a line's
@@ -39,58 +44,28 @@ no-end edges = refl
 no-end edge = refl
 no-end compose = refl
 
--- `end`
-module _ (k : Key) where
-  pub end-format : k ≡ Format → false ≡ isEnd k
-  unfolding isEnd
-  end-format h = rw h
+-- each way out of `end`: where it is not the end, the key has one of the other tags
+abbrev others : List ℕ
+others = 0 ∷ 1 ∷ 2 ∷ 3 ∷ 4 ∷ 5 ∷ 6 ∷ 7 ∷ 8 ∷ 9 ∷ 10 ∷ 11 ∷ []
 
-  pub end-actions : k ≡ Actions → false ≡ isEnd k
-  unfolding isEnd
-  end-actions h = rw h
+pub at-end : (k : Key) → k ≡ End → true ≡ isEnd k
+unfolding isEnd
+at-end k h = rw h
 
-  pub end-variables : k ≡ Variables → false ≡ isEnd k
-  unfolding isEnd
-  end-variables h = rw h
+pub before-end : (k : Key) → OneOf others (tagOf the-type k) → false ≡ isEnd k
+unfolding isEnd
+before-end Format o = refl
+before-end Actions o = refl
+before-end Variables o = refl
+before-end Variable o = refl
+before-end Automata o = refl
+before-end Sync o = refl
+before-end Locations o = refl
+before-end Init o = refl
+before-end Inv o = refl
+before-end Edges o = refl
+before-end Edge o = refl
+before-end Compose o = refl
+before-end End o = absurd (miss others 12 tt o)
 
-  pub end-variable : k ≡ Variable → false ≡ isEnd k
-  unfolding isEnd
-  end-variable h = rw h
-
-  pub end-automata : k ≡ Automata → false ≡ isEnd k
-  unfolding isEnd
-  end-automata h = rw h
-
-  pub end-sync : k ≡ Sync → false ≡ isEnd k
-  unfolding isEnd
-  end-sync h = rw h
-
-  pub end-locations : k ≡ Locations → false ≡ isEnd k
-  unfolding isEnd
-  end-locations h = rw h
-
-  pub end-init : k ≡ Init → false ≡ isEnd k
-  unfolding isEnd
-  end-init h = rw h
-
-  pub end-inv : k ≡ Inv → false ≡ isEnd k
-  unfolding isEnd
-  end-inv h = rw h
-
-  pub end-edges : k ≡ Edges → false ≡ isEnd k
-  unfolding isEnd
-  end-edges h = rw h
-
-  pub end-edge : k ≡ Edge → false ≡ isEnd k
-  unfolding isEnd
-  end-edge h = rw h
-
-  pub end-compose : k ≡ Compose → false ≡ isEnd k
-  unfolding isEnd
-  end-compose h = rw h
-
-  pub end-end : k ≡ End → true ≡ isEnd k
-  unfolding isEnd
-  end-end h = rw h
-
-pub ruleset end-laws = (end-format, end-actions, end-variables, end-variable, end-automata, end-sync, end-locations, end-init, end-inv, end-edges, end-edge, end-compose, end-end)
+pub ruleset end-laws = (at-end, before-end)

@@ -39,21 +39,7 @@ pub enum Key {
 pub fn end(key: Key) -> bool
     ensures { λ r. ⌜ r ≡ isEnd key ⌝ }
 {
-    match key {
-        Key::Format => false,
-        Key::Actions => false,
-        Key::Variables => false,
-        Key::Variable => false,
-        Key::Automata => false,
-        Key::Sync => false,
-        Key::Locations => false,
-        Key::Init => false,
-        Key::Inv => false,
-        Key::Edges => false,
-        Key::Edge => false,
-        Key::Compose => false,
-        Key::End => true,
-    }
+    if let Key::End = key { true } else { false }
 }
 
 // The key that is due, the sheet's format (0 before its line), and what is still to come: variable lines; automata, the
