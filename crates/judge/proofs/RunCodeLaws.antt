@@ -18,22 +18,24 @@ use Rattle.table_places.specs.Layout.{layoutOf, automataOf, variablesOf}
 use Rattle.table_places.specs.Own.{ownSets}
 use Rattle.table_check.specs.declared.Checked.{Checked}
 use Rattle.table_check.specs.declared.Checked.the-variants as C
-use Rattle.judge_call.specs.declared.Phase.{Phase}
-use Rattle.judge_call.specs.declared.Phase.the-variants.{Start, Running}
-use Rattle.judge_call.specs.declared.State.{State}
+use Rattle.judge_rows.specs.declared.Phase.{Phase}
+use Rattle.judge_rows.specs.declared.Phase.the-variants.{Start, Running}
+use Rattle.judge_rows.specs.declared.State.{State}
 use Rattle.judge.specs.declared.Ran.{Ran}
 use Rattle.judge.specs.declared.Ran.the-variants.{Ended, Uneven, AnswersShort, EndShort}
 use Rattle.judge.specs.declared.Ran.the-variants as Refuses
 use Rattle.judge.specs.declared.runs.Turn.{Turn}
-use Rattle.judge_call.specs.declared.Admitted.{Admitted}
-use Rattle.judge_call.specs.declared.Admitted.the-variants.{In, Out}
+use Rattle.judge_rows.specs.declared.Admitted.{Admitted}
+use Rattle.judge_rows.specs.declared.Admitted.the-variants.{In, Out}
 use Rattle.judge_call.specs.declared.Answer.{Answer}
 use Rattle.judge_call.specs.declared.Answer.the-variants.{Yes, Marked, No, Refused}
-use Rattle.judge_call.specs.Answers.{answerOf, phaseIs, answerNumber}
-use Rattle.judge_call.specs.States.{stateOf}
-use Rattle.judge_call.specs.RowTests.{phaseRead}
-use Rattle.judge_call.proofs.CodeLaws.{front-whole}
-use Rattle.judge_call.specs.Calls.{stateChecked, thenLists, thenPhase, environmentFrom, stepFrom, ownOf}
+use Rattle.judge_call.specs.Answers.{answerOf, answerNumber}
+use Rattle.judge_rows.specs.Phases.{phaseIs}
+use Rattle.judge_rows.specs.States.{stateOf}
+use Rattle.judge_rows.specs.RowTests.{phaseRead}
+use Rattle.judge_rows.proofs.Filled.{front-whole}
+use Rattle.judge_rows.specs.Checks.{stateChecked, thenLists, thenPhase}
+use Rattle.judge_call.specs.Calls.{environmentFrom, stepFrom, ownOf}
 use Rattle.judge.specs.RunAnswer.{environmentMark, inFront}
 use Rattle.judge.specs.RunWords.{listsFit, endFits, begunOn, judgedOn, proposedOn, movedTo, onward, Gone, turnOn, goOn, Left, ranOn, listedOn, overOn, Leaves}
 

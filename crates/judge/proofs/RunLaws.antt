@@ -25,26 +25,30 @@ use Rattle.table_places.specs.Layout.{layoutOf, automataOf, variablesOf}
 use Rattle.table_places.proofs.OutlineLaws.{automata-in, variables-in}
 use Rattle.table_places.proofs.LayoutLaws.{all-automata, all-variables}
 use Rattle.table_places.proofs.Opened.{Sheet, sheet-of}
-use Rattle.judge_call.specs.declared.Phase.{Phase}
-use Rattle.judge_call.specs.declared.Phase.the-variants.{Start, Running}
-use Rattle.judge_call.specs.declared.State.{State}
+use Rattle.judge_rows.specs.declared.Phase.{Phase}
+use Rattle.judge_rows.specs.declared.Phase.the-variants.{Start, Running}
+use Rattle.judge_rows.specs.declared.State.{State}
 use Rattle.judge.specs.declared.Ran.{Ran}
 use Rattle.judge.specs.declared.Ran.the-variants as Code
-use Rattle.judge_call.specs.declared.Admitted.{Admitted}
-use Rattle.judge_call.specs.declared.Admitted.the-variants.{In, Out}
+use Rattle.judge_rows.specs.declared.Admitted.{Admitted}
+use Rattle.judge_rows.specs.declared.Admitted.the-variants.{In, Out}
 use Rattle.judge_call.specs.declared.Answer.{Answer}
 use Rattle.judge_call.specs.declared.Answer.the-variants.{Yes, Marked, No, Refused}
-use Rattle.judge_call.specs.Answers.{answerOf, phaseIs, phaseFor, answerNumber}
-use Rattle.judge_call.specs.States.{filled, stateOf, held}
-use Rattle.judge_call.specs.RowTests.{phaseRead, lengthsFit, locationsKnown, valuesKnown}
-use Rattle.judge_call.specs.Calls.{stateChecked, valuesChecked, thenLists, thenPhase, environmentFrom, stepFrom, ownOf}
+use Rattle.judge_call.specs.Answers.{answerOf, answerNumber}
+use Rattle.judge_rows.specs.Phases.{phaseIs, phaseFor}
+use Rattle.judge_rows.specs.States.{filled, stateOf, held}
+use Rattle.judge_rows.specs.RowTests.{phaseRead, lengthsFit, locationsKnown, valuesKnown}
+use Rattle.judge_rows.specs.Checks.{stateChecked, valuesChecked, thenLists, thenPhase}
+use Rattle.judge_call.specs.Calls.{environmentFrom, stepFrom, ownOf}
 use Rattle.judge.specs.RunAnswer.{environmentMark, proposalOf, proposalsOf, RunAnswer, notRun, uneven, answersShort, endShort, ran, isUneven, lacksEnd, runFrom, runAnswer, ranOf, inFront, lentAfter, answersAfter, locationsAfter, valuesAfter}
 use Rattle.judge.specs.RunWords.{listsFit, endFits, begunOn, judgedOn, proposedOn, movedTo, Gone, turnOn, goOn, Left, ranOn, listedOn, overOn, Leaves}
-use Rattle.judge_call.proofs.Filled.{filled-front, filled-twice}
-use Rattle.judge_call.proofs.RowLaws.{lengths-row, locations-row, values-row}
-use Rattle.judge_call.proofs.CallLaws.{stands, phase-read, environment-good}
-use Rattle.judge_call.proofs.JudgementLaws.{Known, known-passes, still-passes, step-from-on, environment-from-on, step-refused, environment-refused}
-use Rattle.judge_call.proofs.TakenLaws.{in-front}
+use Rattle.judge_rows.proofs.Filled.{filled-front, filled-twice}
+use Rattle.judge_rows.proofs.RowLaws.{lengths-row, locations-row, values-row}
+use Rattle.judge_rows.proofs.StateLaws.{stands, phase-read}
+use Rattle.judge_call.proofs.CallLaws.{environment-good}
+use Rattle.judge_rows.proofs.KnownLaws.{Known, known-passes, still-passes}
+use Rattle.judge_call.proofs.JudgementLaws.{step-from-on, environment-from-on, step-refused, environment-refused}
+use Rattle.judge_rows.proofs.StateLaws.{in-front}
 use Rattle.judge_call.proofs.StepLaws.{step-good}
 use Rattle.judge_call.proofs.NumberLaws.{unwrapped, judge-fits}
 use Rattle.judge.proofs.RunCodeLaws.{judged-environment, judged-step, proposed-new}

@@ -14,7 +14,8 @@ use Rattle.model.specs.Judge.{Answer, phaseOf, row21, row22, row23}
 use Rattle.model.specs.Runs.{Proposal, toStep, toEnvironment, tableJudge, Run, run}
 use Rattle.judge.specs.declared.Ran.{Ran}
 use Rattle.judge.specs.declared.Ran.the-variants.{Ended, Refused, Uneven, AnswersShort, EndShort}
-use Rattle.judge_call.specs.Answers.{phaseFor, answerNumber}
+use Rattle.judge_rows.specs.Phases.{phaseFor}
+use Rattle.judge_call.specs.Answers.{answerNumber}
 
 -- Each proposal has an action, N locations and V values. In place of an action, this number is for the environment judge, which does
 -- not read the locations.

@@ -9,19 +9,20 @@ use lib.ListN.{length, take, drop, set}
 use lib.Dec.{eqb, leb}
 use Rattle.table_places.specs.declared.layout.Layout.{Layout}
 use Rattle.table_places.specs.Layout.{layoutOf, automataOf, variablesOf}
-use Rattle.judge_call.specs.declared.Phase.the-variants.{Running}
-use Rattle.judge_call.specs.declared.State.{State}
+use Rattle.judge_rows.specs.declared.Phase.the-variants.{Running}
+use Rattle.judge_rows.specs.declared.State.{State}
 use Rattle.judge.specs.declared.Ran.{Ran}
 use Rattle.judge.specs.declared.Ran.the-variants.{Ended, Refused, Uneven, AnswersShort, EndShort}
 use Rattle.judge.specs.declared.runs.Turn.{Turn}
-use Rattle.judge_call.specs.declared.Admitted.{Admitted}
-use Rattle.judge_call.specs.declared.Admitted.the-variants.{In, Out}
+use Rattle.judge_rows.specs.declared.Admitted.{Admitted}
+use Rattle.judge_rows.specs.declared.Admitted.the-variants.{In, Out}
 use Rattle.judge_call.specs.declared.Answer.{Answer}
 use Rattle.judge_call.specs.declared.Answer.the-variants as A
 use Rattle.judge_call.specs.Answers.{answerOf, answerNumber}
-use Rattle.judge_call.specs.States.{stateOf}
-use Rattle.judge_call.specs.RowTests.{phaseRead}
-use Rattle.judge_call.specs.Calls.{stateChecked, thenPhase, environmentFrom, stepFrom, ownOf}
+use Rattle.judge_rows.specs.States.{stateOf}
+use Rattle.judge_rows.specs.RowTests.{phaseRead}
+use Rattle.judge_rows.specs.Checks.{stateChecked, thenPhase}
+use Rattle.judge_call.specs.Calls.{environmentFrom, stepFrom, ownOf}
 use Rattle.judge.specs.RunAnswer.{environmentMark, inFront}
 
 -- the proposals' lists: so many locations and values for `count` actions

@@ -3,11 +3,11 @@
 mod runs;
 
 pub use judge_call::Answer;
-pub use judge_call::Phase;
-pub use judge_call::State;
 pub use judge_call::environment;
 pub use judge_call::number;
 pub use judge_call::step;
+pub use judge_rows::Phase;
+pub use judge_rows::State;
 pub use runs::phase_number;
 use table_check::Checked;
 ghost use mathlib.Core.Path.{_≡_};

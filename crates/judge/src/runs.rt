@@ -2,10 +2,10 @@
 // table's layout and `own` the automata's own sets, found once for the list; and a state that a yes led to is not
 // checked again.
 use crate::Ran;
-use judge_call::Admitted;
 use judge_call::Answer;
-use judge_call::Phase;
-use judge_call::State;
+use judge_rows::Admitted;
+use judge_rows::Phase;
+use judge_rows::State;
 use table_check::Checked;
 use table_places::Layout;
 ghost use mathlib.Core.Path.{_≡_};
@@ -15,7 +15,7 @@ ghost use lib.IntN.{pos};
 ghost use lib.ListN.{length, getD, take};
 ghost use lib.Dec.{eqb};
 ghost use Rattle.model.specs.Runs.{phaseNumber};
-ghost use Rattle.judge_call.specs.Answers.{phaseIs};
+ghost use Rattle.judge_rows.specs.Phases.{phaseIs};
 ghost use Rattle.table_places.specs.Layout.{automataOf, variablesOf};
 ghost use Rattle.judge.specs.declared.Ran.the-variants.{Ended};
 ghost use Rattle.judge.specs.RunAnswer.{environmentMark, inFront};
@@ -49,10 +49,10 @@ fn end_fits(x: Layout, locations: usize, values: usize) -> bool
 fn begun(words: &[u32], x: Layout, phase: u32, locations: &[u32], values: &[i32]) -> Admitted
     ensures { λ r. ⌜ r ≡ begunOn (now (words .entry)) x (now (locations .entry)) (now (values .entry)) phase ⌝ }
 {
-    let read = judge_call::phase_of(phase);
+    let read = judge_rows::phase_of(phase);
     match read {
         Admitted::Out(row) => Admitted::Out(row),
-        Admitted::In(p) => match judge_call::state_checked(words, x, locations, values) {
+        Admitted::In(p) => match judge_rows::state_checked(words, x, locations, values) {
             Checked::Refused(row) => Admitted::Out(row),
             Checked::Good => Admitted::In(p),
         },

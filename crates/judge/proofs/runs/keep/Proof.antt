@@ -1,6 +1,6 @@
 -- `judge::runs::keep` meets its contract: the laws of RunCodeLaws on room and on what is kept.
 use Rattle.judge.proofs.RunCodeLaws.{kept-locations, kept-values, keep-laws}
-use Rattle.judge_call.proofs.CodeLaws.{front-fits, front-whole}
+use Rattle.judge_rows.proofs.Filled.{front-fits, front-whole}
 use borrow.Author.Needs.{needs}
 use Rattle.judge.proofs.runs.keep.Statement.{statement}
 use Rattle.judge.proofs.runs.keep.Tie as tie
