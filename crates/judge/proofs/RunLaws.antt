@@ -8,7 +8,7 @@ use native.Mathlib.Omega.{arith}
 use native.Mathlib.Nat.{add-zero, zero-add, mul-suc}
 use lib.IntN.{ℤ, pos}
 use lib.ListN.{length, take, drop, set, take-append-drop, length-drop, length-set, length-map}
-use lib.Seq.{length-take-le, take-suc-set, drop-set-lt, append-snoc}
+use lib.Seq.{take-suc-set, drop-set-lt, append-snoc}
 use lib.Dec.{eqb, ltb}
 use Rattle.model.specs.Model.{Model}
 use Rattle.model.specs.Table.{Opened, unopened, opened, openTable}
@@ -21,7 +21,7 @@ use Rattle.table_check.specs.Check.{answered}
 use Rattle.table_check.specs.declared.Checked.{Checked}
 use Rattle.table_check.specs.declared.Checked.the-variants as C
 use Rattle.table_places.specs.declared.layout.Layout.{Layout}
-use Rattle.table_places.specs.Layout.{layoutOf, automataOf, variablesOf}
+use Rattle.table_places.specs.Layout.{layoutOf, variablesOf}
 use Rattle.table_places.proofs.OutlineLaws.{automata-in, variables-in}
 use Rattle.table_places.proofs.LayoutLaws.{all-automata, all-variables}
 use Rattle.table_places.proofs.Opened.{Sheet, sheet-of}
@@ -38,20 +38,21 @@ use Rattle.judge_call.specs.Answers.{answerOf, answerNumber}
 use Rattle.judge_rows.specs.Phases.{phaseIs, phaseFor}
 use Rattle.judge_rows.specs.States.{filled, stateOf, held}
 use Rattle.judge_rows.specs.RowTests.{phaseRead, lengthsFit, locationsKnown, valuesKnown}
-use Rattle.judge_rows.specs.Checks.{stateChecked, valuesChecked, thenLists, thenPhase}
+use Rattle.judge_rows.specs.Checks.{stateChecked, valuesChecked, thenLists, thenPhase, begunOn}
 use Rattle.judge_call.specs.Calls.{environmentFrom, stepFrom, ownOf}
-use Rattle.judge.specs.RunAnswer.{environmentMark, proposalOf, proposalsOf, RunAnswer, notRun, uneven, answersShort, endShort, ran, isUneven, lacksEnd, runFrom, runAnswer, ranOf, inFront, lentAfter, answersAfter, locationsAfter, valuesAfter}
-use Rattle.judge.specs.RunWords.{listsFit, endFits, begunOn, judgedOn, proposedOn, movedTo, Gone, turnOn, goOn, Left, ranOn, listedOn, overOn, Leaves}
+use Rattle.judge_turn.specs.Turns.{environmentMark, judgedOn, proposedOn, movedTo, turnOn}
+use Rattle.judge.specs.RunAnswer.{proposalOf, proposalsOf, RunAnswer, notRun, uneven, answersShort, endShort, ran, isUneven, lacksEnd, runFrom, runAnswer, ranOf, lentAfter, answersAfter, locationsAfter, valuesAfter}
+use Rattle.judge_lists.specs.Lists.{inFront, listsFit, endFits}
+use Rattle.judge.specs.RunWords.{Gone, goOn, Left, ranOn, listedOn, overOn, Leaves}
 use Rattle.judge_rows.proofs.Filled.{filled-front, filled-twice}
 use Rattle.judge_rows.proofs.RowLaws.{lengths-row, locations-row, values-row}
-use Rattle.judge_rows.proofs.StateLaws.{stands, phase-read}
+use Rattle.judge_rows.proofs.StateLaws.{stands, phase-read, in-front}
 use Rattle.judge_call.proofs.CallLaws.{environment-good}
 use Rattle.judge_rows.proofs.KnownLaws.{Known, known-passes, still-passes}
 use Rattle.judge_call.proofs.JudgementLaws.{step-from-on, environment-from-on, step-refused, environment-refused}
-use Rattle.judge_rows.proofs.StateLaws.{in-front}
 use Rattle.judge_call.proofs.StepLaws.{step-good}
 use Rattle.judge_call.proofs.NumberLaws.{unwrapped, judge-fits}
-use Rattle.judge.proofs.RunCodeLaws.{judged-environment, judged-step, proposed-new}
+use Rattle.judge_turn.proofs.TurnLaws.{judged-environment, judged-step, proposed-new}
 
 phase-back : (p : R.Phase) → phaseIs (phaseFor p) ≡ p
 unfolding phaseIs phaseFor

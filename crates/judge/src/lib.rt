@@ -8,7 +8,7 @@ pub use judge_call::number;
 pub use judge_call::step;
 pub use judge_rows::Phase;
 pub use judge_rows::State;
-pub use runs::phase_number;
+pub use judge_rows::phase_number;
 use table_check::Checked;
 ghost use mathlib.Core.Path.{_≡_};
 ghost use lib.ListN.{length};

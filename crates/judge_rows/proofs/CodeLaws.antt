@@ -12,6 +12,7 @@ use mir.Syntax.{w64}
 use mir.Val.{SFits, toZ, ofZ}
 use mir.ValLaws.{toZ-ofZ}
 use Rattle.model.specs.Basic.{between}
+use Rattle.model.specs.Runs.{phaseNumber}
 use Rattle.model.proofs.Tests.{not-true, not-false}
 use Rattle.table_places.specs.declared.layout.Layout.{Layout}
 use Rattle.table_places.specs.Outline.{locationCount}
@@ -26,7 +27,8 @@ use Rattle.judge_rows.specs.declared.Admitted.the-variants.{In, Out}
 use Rattle.judge_rows.specs.States.{filled, stateOf}
 use Rattle.judge_rows.specs.Each.{eachFrom}
 use Rattle.judge_rows.specs.RowTests.{phaseRead, lengthsFit, locationKnown, knownAt, locationsKnown, rangeHas, valuesKnown, actionKnown}
-use Rattle.judge_rows.specs.Checks.{stateChecked, valuesChecked, listsChecked, thenLists, thenPhase, admittedOn}
+use Rattle.judge_rows.specs.Checks.{stateChecked, valuesChecked, listsChecked, thenLists, thenPhase, admittedOn, begunOn}
+use Rattle.judge_rows.specs.Phases.{phaseIs}
 
 -- `State::of`
 pub state-is : (phase : Phase) (l a : List ℕ) (v b : List ℤ) → a ≡ filled 16 0 l → b ≡ filled 48 (pos 0) v → _≡_ {A = State} (record { phase = phase; locations = a; values = b }) (stateOf phase l v)
@@ -175,3 +177,31 @@ module _ (w : List ℕ) (x : Layout) (phase : ℕ) (l : List ℕ) (v : List ℤ)
     admitted-in j = rw (sym f ∙ g, sym i ∙ j)
 
 pub ruleset admitted-laws = (out-of-phase, out-of-lists, admitted-in)
+
+-- `begun`
+module _ (w : List ℕ) (x : Layout) (l : List ℕ) (v : List ℤ) (phase : ℕ) (y : Admitted) (f : y ≡ phaseRead phase) where
+  pub not-in-phase : (row : ℕ) → y ≡ Out row → Out row ≡ begunOn w x l v phase
+  unfolding begunOn thenPhase
+  not-in-phase row g = rw (sym f ∙ g)
+
+  module _ (p : Phase) (g : y ≡ In p) (z : Checked) (i : z ≡ stateChecked w x l v) where
+    pub not-begun : (row : ℕ) → z ≡ C.Refused row → Out row ≡ begunOn w x l v phase
+    unfolding begunOn thenPhase thenLists
+    not-begun row j = rw (sym f ∙ g, sym i ∙ j)
+
+    pub begun-in : z ≡ C.Good → In p ≡ begunOn w x l v phase
+    unfolding begunOn thenPhase thenLists
+    begun-in j = rw (sym f ∙ g, sym i ∙ j)
+
+pub ruleset begun-laws = (not-in-phase, not-begun, begun-in)
+
+-- `phase_number`
+pub number-start : (p : Phase) → p ≡ Start → 0 ≡ phaseNumber (phaseIs p)
+unfolding phaseNumber phaseIs
+number-start p e = rw e
+
+pub number-running : (p : Phase) → p ≡ Running → 1 ≡ phaseNumber (phaseIs p)
+unfolding phaseNumber phaseIs
+number-running p e = rw e
+
+pub ruleset phase-number-laws = (number-start, number-running)

@@ -68,3 +68,7 @@ module _ (words : List ℕ) (x : Layout) where
       → (newValues : List ℤ) → Admitted
   admittedOn phase locations values newLocations newValues =
       thenPhase (phaseRead phase) (listsChecked words x locations values newLocations newValues)
+
+-- rows 20 to 23 of the state that a run starts from
+unfoldable pub begunOn : (words : List ℕ) → Layout → (locations : List ℕ) (values : List ℤ) (phase : ℕ) → Admitted
+begunOn words x locations values phase = thenPhase (phaseRead phase) (stateChecked words x locations values)

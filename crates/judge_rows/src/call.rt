@@ -5,7 +5,7 @@ use table_check::Checked;
 use table_places::Layout;
 ghost use mathlib.Core.Path.{_≡_};
 ghost use lib.ListN.{length};
-ghost use Rattle.judge_rows.specs.Checks.{stateChecked, valuesChecked, listsChecked, admittedOn};
+ghost use Rattle.judge_rows.specs.Checks.{stateChecked, valuesChecked, listsChecked, admittedOn, begunOn};
 
 // Rows 21 to 23 of one state.
 pub fn state_checked(words: &[u32], x: Layout, locations: &[u32], values: &[i32]) -> Checked
@@ -81,6 +81,20 @@ pub fn admit(
     match read {
         Admitted::Out(row) => Admitted::Out(row),
         Admitted::In(p) => match lists(words, x, locations, values, new_locations, new_values) {
+            Checked::Refused(row) => Admitted::Out(row),
+            Checked::Good => Admitted::In(p),
+        },
+    }
+}
+
+// Rows 20 to 23 of one state: the phase that a run starts in, or the first row that refuses it.
+pub fn begun(words: &[u32], x: Layout, phase: u32, locations: &[u32], values: &[i32]) -> Admitted
+    ensures { λ r. ⌜ r ≡ begunOn (now (words .entry)) x (now (locations .entry)) (now (values .entry)) phase ⌝ }
+{
+    let read = rows::phase_of(phase);
+    match read {
+        Admitted::Out(row) => Admitted::Out(row),
+        Admitted::In(p) => match state_checked(words, x, locations, values) {
             Checked::Refused(row) => Admitted::Out(row),
             Checked::Good => Admitted::In(p),
         },

@@ -5,9 +5,11 @@ mod fill;
 mod rows;
 
 pub use call::admit;
+pub use call::begun;
 pub use call::state_checked;
 pub use call::values_checked;
 pub use rows::action_known;
+pub use rows::phase_number;
 pub use rows::phase_of;
 
 // Phase 0 is Start, phase 1 Running.

@@ -4,6 +4,8 @@ use crate::Phase;
 use table_places::Layout;
 ghost use mathlib.Core.Path.{_≡_};
 ghost use Rattle.model.specs.Basic.{between};
+ghost use Rattle.model.specs.Runs.{phaseNumber};
+ghost use Rattle.judge_rows.specs.Phases.{phaseIs};
 ghost use Rattle.judge_rows.specs.RowTests.{phaseRead, lengthsFit, locationKnown, locationsKnown};
 ghost use Rattle.judge_rows.specs.RowTests.{rangeHas, valuesKnown, actionKnown};
 
@@ -15,6 +17,16 @@ pub fn phase_of(phase: u32) -> Admitted
         0 => Admitted::In(Phase::Start),
         1 => Admitted::In(Phase::Running),
         _ => Admitted::Out(20),
+    }
+}
+
+// A phase as its number.
+pub fn phase_number(phase: Phase) -> u32
+    ensures { λ r. ⌜ r ≡ phaseNumber (phaseIs phase) ⌝ }
+{
+    match phase {
+        Phase::Start => 0,
+        Phase::Running => 1,
     }
 }
 
