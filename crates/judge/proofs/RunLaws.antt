@@ -1,6 +1,6 @@
 -- A run: the code's over the words of a table is the definitions'.
 use mathlib.Core.Path.{_≡_, refl, sym, ap, _∙_}
-use mathlib.Core.Bool.{Bool, true, false, not, cond, true≢false}
+use mathlib.Core.Bool.{Bool·not-not, Bool, true, false, not, cond, true≢false}
 use mathlib.Core.List.{List, [], _∷_, _++_, map}
 use mathlib.Core.Option.{none, some}
 use Prim.Native.Nat.{ℕ, suc, _+_, _*_, _≤_, _<_}
@@ -86,10 +86,6 @@ proposed-exact u a l' v' = go (eqb a environmentMark) refl
     go : (b : Bool) → eqb a environmentMark ≡ b → proposedOn (held u) a l' v' ≡ held (proposed u (proposalOf a l' v'))
     go true e = rw (e, proposedOn, proposalOf) (ap (λ (l : List ℕ). record { phase = Running; locations = l; values = filled 48 (pos 0) v' }) (filled-twice 16 0 (u .locations)))
     go false e = rw (e, proposedOn, proposalOf)
-
-not-not : (b : Bool) → not (not b) ≡ b
-not-not true = refl
-not-not false = refl
 
 -- what holds of both states holds of the one that the run goes to
 goes-to : (P : R.State → Type 0) (x : J.Answer) (u u' : R.State) → P u → P u' → P (goes x u u')
@@ -343,11 +339,11 @@ module _ (t : List ℕ) (m : Model) (e : openTable t ≡ opened m) where
   -- the list's own faults, over words
   lists-even : (actions ls : List ℕ) (vs : List ℤ) → listsFit x (length actions) (length ls) (length vs) ≡ not (isUneven m actions ls vs)
   unfolding listsFit layoutOf isUneven
-  lists-even actions ls vs = rw (automata-in t (sheet .rest) m (sheet .stands), variables-in t (sheet .rest) m (sheet .stands)) (sym (not-not _))
+  lists-even actions ls vs = rw (automata-in t (sheet .rest) m (sheet .stands), variables-in t (sheet .rest) m (sheet .stands)) (sym (Bool·not-not _))
 
   end-room : (ends endv : ℕ) → endFits x ends endv ≡ not (lacksEnd m ends endv)
   unfolding endFits lacksEnd
-  end-room ends endv = rw (all-automata m (sheet .lawful) t (sheet .rest) (sheet .stands), all-variables m (sheet .lawful) t (sheet .rest) (sheet .stands)) (sym (not-not _))
+  end-room ends endv = rw (all-automata m (sheet .lawful) t (sheet .rest) (sheet .stands), all-variables m (sheet .lawful) t (sheet .rest) (sheet .stands)) (sym (Bool·not-not _))
 
 module _ (t : List ℕ) (phase : ℕ) (l : List ℕ) (k : List ℤ) (actions ls : List ℕ) (vs : List ℤ) (old oldl : List ℕ) (oldv : List ℤ) where
   abbrev whole : RunAnswer

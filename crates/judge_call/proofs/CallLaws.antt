@@ -1,6 +1,6 @@
 -- The judges' calls: the code's answer over any table is the definitions'.
 use mathlib.Core.Path.{_≡_, refl, sym, ap, _∙_}
-use mathlib.Core.Bool.{Bool, true, false, not, cond, _||_}
+use mathlib.Core.Bool.{or-self, Bool, true, false, not, cond, _||_}
 use mathlib.Core.List.{List}
 use mathlib.Core.Option.{none, some}
 use Prim.Native.Nat.{ℕ}
@@ -89,10 +89,6 @@ module _ (t : List ℕ) (phase : ℕ) (l : List ℕ) (v : List ℤ) (l' : List �
           refl)
 
 -- the environment judge
-or-self : (b : Bool) → (b || b) ≡ b
-or-self true = refl
-or-self false = refl
-
 module _ (t : List ℕ) (phase : ℕ) (l : List ℕ) (v v' : List ℤ) where
   pub environment-exact : answerOf (environmentAt t phase l v v') ≡ J.environmentAnswer t phase l v v'
   unfolding environmentAt environmentOn J.environmentAnswer

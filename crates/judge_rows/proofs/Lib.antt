@@ -1,7 +1,6 @@
 pub mod Filled
 pub mod WalkLaws
 pub mod CodeLaws
-pub mod Items
 pub mod RowLaws
 pub mod StateLaws
 pub mod KnownLaws

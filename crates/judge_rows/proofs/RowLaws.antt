@@ -14,6 +14,7 @@ use Rattle.model.specs.Lawful.{LawfulRange, Lawful}
 use Rattle.model.specs.Table.{sheetWords}
 use Rattle.model.specs.Rules.{State, at}
 use Rattle.model.specs.Judge.{hasValues, row21, row22, rangeOf, row23, row24}
+use Rattle.model.proofs.Lists.{all-at}
 use Rattle.model.proofs.Decode.{number-back}
 use Rattle.table_places.specs.Outline.{automatonAt, rangeAt}
 use Rattle.table_places.specs.Layout.{layoutOf, automataOf}
@@ -22,7 +23,6 @@ use Rattle.table_places.proofs.Standing.{automaton-stands, range-stands}
 use Rattle.table_places.proofs.LayoutLaws.{all-automata, set-place}
 use Rattle.judge_rows.specs.Each.{eachFrom}
 use Rattle.judge_rows.specs.RowTests.{lengthsFit, locationKnown, locationsKnown, rangeHas, valuesKnown, actionKnown}
-use Rattle.judge_rows.proofs.Items.{item-in}
 use Rattle.judge_rows.proofs.WalkLaws.{each-walked}
 
 not-leb : (a b : ℕ) → not (leb a b) ≡ ltb b a
@@ -31,6 +31,11 @@ not-leb a b = go (leb a b) refl
     go : (c : Bool) → leb a b ≡ c → not c ≡ ltb b a
     go true e = sym (le-ltb b a (leb-true a b e))
     go false e = sym (lt-ltb b a (leb-false a b e))
+
+-- the range that a read past the end gives
+zero-alone : LawfulRange (range (pos 0) (pos 0))
+unfolding between range
+zero-alone = record { low = refl; high = refl; ordered = refl }
 
 module _ (m : Model) (lawful : Lawful m) (t rest : List ℕ) (e : t ≡ sheetWords m ++ rest) where
   -- a walk over the automata's places is a test of each
@@ -60,7 +65,7 @@ module _ (m : Model) (lawful : Lawful m) (t rest : List ℕ) (e : t ≡ sheetWor
       let d = range (pos 0) (pos 0) in
       let v = getD (m .variables) k d in
       let stands = range-stands t rest m k d h e in
-      let r : LawfulRange v = lawful .ranges v (item-in (m .variables) k d h) in
+      let r : LawfulRange v = all-at LawfulRange d zero-alone (m .variables) (lawful .ranges) k in
       rw (range-low t _ v (rangeAt t k) stands, range-high t _ v (rangeAt t k) stands, number-back (v .low) (r .low), number-back (v .high) (r .high))
 
   -- row 23

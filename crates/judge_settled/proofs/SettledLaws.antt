@@ -13,6 +13,7 @@ use Rattle.model.specs.Table.{code, predWords, sheetWords}
 use Rattle.model.specs.Rules as R
 use Rattle.model.specs.Judge.{inits, invs, initial, settled}
 use Rattle.model.proofs.Tests.{and-same}
+use Rattle.evaluator.proofs.Items.{item-in}
 use Rattle.evaluator.proofs.Meaning.{evaluate-lawful}
 use Rattle.evaluator.proofs.FewNodes.{init-nodes, inv-nodes}
 use Rattle.table_places.specs.Outline.{nodesPlace, firstLocation, automatonAt}
@@ -27,7 +28,6 @@ use Rattle.judge_settled.specs.declared.Part.{Part}
 use Rattle.judge_settled.specs.declared.Part.the-variants.{Init, Inv}
 use Rattle.judge_rows.specs.Phases.{phaseIs}
 use Rattle.judge_settled.specs.Settled.{partAt, partHolds, locationHolds, allHold, startedIn, settledAt}
-use Rattle.judge_rows.proofs.Items.{item-in}
 use Rattle.judge_rows.proofs.RowLaws.{each-automaton}
 use Rattle.judge_rows.proofs.StateLaws.{Shows}
 
