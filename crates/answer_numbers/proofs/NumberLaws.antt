@@ -2,8 +2,8 @@
 use Prim.Native.Nat.{ℕ, _+_, _*_, _%_, _^_}
 use mathlib.Core.Path.{_≡_}
 use Rattle.model.specs.Runs.{phaseNumber}
-use Rattle.judge_call.specs.declared.Phase.{Phase}
-use Rattle.judge_call.specs.Answers.{phaseIs}
+use Rattle.judge_rows.specs.declared.Phase.{Phase}
+use Rattle.judge_rows.specs.Phases.{phaseIs}
 use Rattle.judge.specs.declared.Ran.{Ran}
 use Rattle.judge.specs.declared.Ran.the-variants as Ran
 use Rattle.judge.specs.declared.Counted.{Counted}

@@ -2,7 +2,7 @@
 -- taken.
 use Prim.Native.Nat.{ℕ, _+_, _*_, _%_, _^_}
 use Rattle.model.specs.Runs.{phaseNumber}
-use Rattle.judge_call.specs.Answers.{phaseIs}
+use Rattle.judge_rows.specs.Phases.{phaseIs}
 use Rattle.judge.specs.declared.Ran.{Ran}
 use Rattle.judge.specs.declared.Ran.the-variants as J
 use Rattle.judge.specs.declared.Counted.{Counted}

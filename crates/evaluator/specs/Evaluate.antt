@@ -9,7 +9,8 @@ use lib.ListN.{length, getD}
 use lib.Dec.{ltb}
 use Rattle.model.specs.Basic.{eqZ}
 use Rattle.model.specs.Bounds.{maxNodes}
-use Rattle.model.specs.Predicate.{Word, allOf, anyOf, notWord, impWord, eqWord, leWord, numWord, oldWord, newWord, addWord, subWord, mulWord, ifWord, stray}
+use Rattle.model.specs.Predicate.{Word, allOf, anyOf, notWord, impWord, eqWord, leWord, numWord, oldWord, newWord}
+use Rattle.model.specs.Predicate.{addWord, subWord, mulWord, ifWord, stray}
 use Rattle.model.specs.Table.{wordOf}
 use Rattle.arithmetic.specs.Cut.{cut}
 use Rattle.evaluator.specs.declared.nodes.Truth.{Truth}
@@ -41,7 +42,9 @@ Expressions = (left at : ℕ) → Value
 -- `count` predicates in a row
 unfoldable pub gather : (P : Predicates) → (count left at : ℕ) (all any : Bool) → Gathered
 gather P zero left at all any = gathered all any at left
-gather P (suc n) left at all any = let p = P left at in gather P n (p .left) (p .next) (all && p .holds) (any || p .holds)
+gather P (suc n) left at all any =
+    let p = P left at in
+    gather P n (p .left) (p .next) (all && p .holds) (any || p .holds)
 
 -- the operands of `imp`; two expressions in a row; the operands of `if`
 unfoldable pub implication : (P : Predicates) → (left at : ℕ) → Truth
@@ -127,11 +130,13 @@ module _ (words : List ℕ) (before after : List ℤ) where
   unfoldable mutual
     pub predicateWithin : (deep left at : ℕ) → Truth
     predicateWithin zero left at = truth false at left
-    predicateWithin (suc d) left at = predicateStep (λ l a. predicateWithin d l a) (λ l a. expressionWithin d l a) left at
+    predicateWithin (suc d) left at =
+        predicateStep (λ l a. predicateWithin d l a) (λ l a. expressionWithin d l a) left at
 
     pub expressionWithin : (deep left at : ℕ) → Value
     expressionWithin zero left at = valued (pos 0) at left
-    expressionWithin (suc d) left at = expressionStep (λ l a. predicateWithin d l a) (λ l a. expressionWithin d l a) left at
+    expressionWithin (suc d) left at =
+        expressionStep (λ l a. predicateWithin d l a) (λ l a. expressionWithin d l a) left at
 
   -- Calls cannot nest deeper than there are nodes, so these are steps of themselves: the laws predicate-is and
   -- expression-is.

@@ -10,7 +10,8 @@ use crate::nodes::Value;
 use node_words::Node;
 ghost use mathlib.Core.Path.{_≡_};
 ghost use mathlib.Core.Bool.{true, false};
-ghost use Rattle.evaluator.specs.Evaluate.{predicateAt, expressionAt, gather, implication, numbers, choice, evaluate};
+ghost use Rattle.evaluator.specs.Evaluate.{predicateAt, expressionAt, gather, implication, numbers, choice};
+ghost use Rattle.evaluator.specs.Evaluate.{evaluate};
 
 // The predicate at `at`, with `left` nodes left.
 fn predicate(words: &[u32], at: usize, left: usize, before: &[i32], after: &[i32]) -> Truth
@@ -60,7 +61,8 @@ fn operands(
     before: &[i32],
     after: &[i32],
 ) -> Gathered
-    ensures { λ r. ⌜ r ≡ gather (predicateAt (now (words .entry)) (now (before .entry)) (now (after .entry))) count left at true false ⌝ }
+    ensures { λ r. ⌜ r ≡ gather (predicateAt (now (words .entry)) (now (before .entry)) (now (after .entry)))
+        count left at true false ⌝ }
 {
     let mut due = count;
     let mut next = at;
@@ -93,7 +95,8 @@ fn operands(
 
 // The two operands of `imp`.
 fn implication(words: &[u32], at: usize, left: usize, before: &[i32], after: &[i32]) -> Truth
-    ensures { λ r. ⌜ r ≡ implication (predicateAt (now (words .entry)) (now (before .entry)) (now (after .entry))) left at ⌝ }
+    ensures { λ r. ⌜ r ≡ implication (predicateAt (now (words .entry)) (now (before .entry)) (now (after .entry)))
+        left at ⌝ }
 {
     let p = predicate(words, at, left, before, after);
     nodes::implied(p.holds, predicate(words, p.next, p.left, before, after))
@@ -126,7 +129,8 @@ fn expression(words: &[u32], at: usize, left: usize, before: &[i32], after: &[i3
 
 // Two expressions, one after the other, from `at` on.
 fn numbers(words: &[u32], at: usize, left: usize, before: &[i32], after: &[i32]) -> Pair
-    ensures { λ r. ⌜ r ≡ numbers (expressionAt (now (words .entry)) (now (before .entry)) (now (after .entry))) left at ⌝ }
+    ensures { λ r. ⌜ r ≡ numbers (expressionAt (now (words .entry)) (now (before .entry)) (now (after .entry)))
+        left at ⌝ }
 {
     let x = expression(words, at, left, before, after);
     let y = expression(words, x.next, x.left, before, after);
@@ -140,7 +144,8 @@ fn numbers(words: &[u32], at: usize, left: usize, before: &[i32], after: &[i32])
 
 // The three operands of `if`.
 fn choice(words: &[u32], at: usize, left: usize, before: &[i32], after: &[i32]) -> Value
-    ensures { λ r. ⌜ r ≡ choice (predicateAt (now (words .entry)) (now (before .entry)) (now (after .entry))) (expressionAt (now (words .entry)) (now (before .entry)) (now (after .entry))) left at ⌝ }
+    ensures { λ r. ⌜ r ≡ choice (predicateAt (now (words .entry)) (now (before .entry)) (now (after .entry)))
+        (expressionAt (now (words .entry)) (now (before .entry)) (now (after .entry))) left at ⌝ }
 {
     let p = predicate(words, at, left, before, after);
     nodes::chosen(p.holds, numbers(words, p.next, p.left, before, after))

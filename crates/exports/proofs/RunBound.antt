@@ -12,7 +12,7 @@ use Rattle.model.specs.Rules as R
 use Rattle.model.specs.Judge as J
 use Rattle.model.specs.Runs.{Run, run, tableJudge, phaseNumber}
 use Rattle.model.specs.Table.{Opened, unopened, opened}
-use Rattle.judge_call.specs.Answers.{phaseIs, phaseFor}
+use Rattle.judge_rows.specs.Phases.{phaseIs, phaseFor}
 use Rattle.judge.specs.RunAnswer.{RunAnswer, notRun, ran, proposalsOf, isUneven, lacksEnd, runFrom, runAnswer, ranOf}
 use Rattle.answer_numbers.specs.Told.{ranNumber}
 use Rattle.exports.specs.Numbers.{runNumber}

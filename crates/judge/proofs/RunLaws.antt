@@ -1,6 +1,6 @@
 -- A run: the code's over the words of a table is the definitions'.
 use mathlib.Core.Path.{_≡_, refl, sym, ap, _∙_}
-use mathlib.Core.Bool.{Bool, true, false, not, cond, true≢false}
+use mathlib.Core.Bool.{Bool·not-not, Bool, true, false, not, cond, true≢false}
 use mathlib.Core.List.{List, [], _∷_, _++_, map}
 use mathlib.Core.Option.{none, some}
 use Prim.Native.Nat.{ℕ, suc, _+_, _*_, _≤_, _<_}
@@ -8,7 +8,7 @@ use native.Mathlib.Omega.{arith}
 use native.Mathlib.Nat.{add-zero, zero-add, mul-suc}
 use lib.IntN.{ℤ, pos}
 use lib.ListN.{length, take, drop, set, take-append-drop, length-drop, length-set, length-map}
-use lib.Seq.{length-take-le, take-suc-set, drop-set-lt, append-snoc}
+use lib.Seq.{take-suc-set, drop-set-lt, append-snoc}
 use lib.Dec.{eqb, ltb}
 use Rattle.model.specs.Model.{Model}
 use Rattle.model.specs.Table.{Opened, unopened, opened, openTable}
@@ -21,33 +21,38 @@ use Rattle.table_check.specs.Check.{answered}
 use Rattle.model.specs.declared.Checked.{Checked}
 use Rattle.model.specs.declared.Checked.the-variants as C
 use Rattle.table_places.specs.declared.layout.Layout.{Layout}
-use Rattle.table_places.specs.Layout.{layoutOf, automataOf, variablesOf}
+use Rattle.table_places.specs.Layout.{layoutOf, variablesOf}
 use Rattle.table_places.proofs.OutlineLaws.{automata-in, variables-in}
 use Rattle.table_places.proofs.LayoutLaws.{all-automata, all-variables}
 use Rattle.table_places.proofs.Opened.{Sheet, sheet-of}
-use Rattle.judge_call.specs.declared.Phase.{Phase}
-use Rattle.judge_call.specs.declared.Phase.the-variants.{Start, Running}
-use Rattle.judge_call.specs.declared.State.{State}
+use Rattle.judge_rows.specs.declared.Phase.{Phase}
+use Rattle.judge_rows.specs.declared.Phase.the-variants.{Start, Running}
+use Rattle.judge_rows.specs.declared.State.{State}
 use Rattle.judge.specs.declared.Ran.{Ran}
 use Rattle.judge.specs.declared.Ran.the-variants as Code
-use Rattle.judge_call.specs.declared.Admitted.{Admitted}
-use Rattle.judge_call.specs.declared.Admitted.the-variants.{In, Out}
+use Rattle.judge_rows.specs.declared.Admitted.{Admitted}
+use Rattle.judge_rows.specs.declared.Admitted.the-variants.{In, Out}
 use Rattle.judge_call.specs.declared.Answer.{Answer}
 use Rattle.judge_call.specs.declared.Answer.the-variants.{Yes, Marked, No, Refused}
-use Rattle.judge_call.specs.Answers.{answerOf, phaseIs, phaseFor, answerNumber}
-use Rattle.judge_call.specs.States.{filled, stateOf, held}
-use Rattle.judge_call.specs.RowTests.{phaseRead, lengthsFit, locationsKnown, valuesKnown}
-use Rattle.judge_call.specs.Calls.{stateChecked, valuesChecked, thenLists, thenPhase, environmentFrom, stepFrom, ownOf}
-use Rattle.judge.specs.RunAnswer.{environmentMark, proposalOf, proposalsOf, RunAnswer, notRun, uneven, answersShort, endShort, ran, isUneven, lacksEnd, runFrom, runAnswer, ranOf, inFront, lentAfter, answersAfter, locationsAfter, valuesAfter}
-use Rattle.judge.specs.RunWords.{listsFit, endFits, begunOn, judgedOn, proposedOn, movedTo, Gone, turnOn, goOn, Left, ranOn, listedOn, overOn, Leaves}
-use Rattle.judge_call.proofs.Filled.{filled-front, filled-twice}
-use Rattle.judge_call.proofs.RowLaws.{lengths-row, locations-row, values-row}
-use Rattle.judge_call.proofs.CallLaws.{stands, phase-read, environment-good}
-use Rattle.judge_call.proofs.JudgementLaws.{Known, known-passes, still-passes, step-from-on, environment-from-on, step-refused, environment-refused}
-use Rattle.judge_call.proofs.TakenLaws.{in-front}
+use Rattle.judge_call.specs.Answers.{answerOf, answerNumber}
+use Rattle.judge_rows.specs.Phases.{phaseIs, phaseFor}
+use Rattle.judge_rows.specs.States.{filled, stateOf, held}
+use Rattle.judge_rows.specs.RowTests.{phaseRead, lengthsFit, locationsKnown, valuesKnown}
+use Rattle.judge_rows.specs.Checks.{stateChecked, valuesChecked, thenLists, thenPhase, begunOn}
+use Rattle.judge_call.specs.Calls.{environmentFrom, stepFrom, ownOf}
+use Rattle.judge_turn.specs.Turns.{environmentMark, judgedOn, proposedOn, movedTo, turnOn}
+use Rattle.judge.specs.RunAnswer.{proposalOf, proposalsOf, RunAnswer, notRun, uneven, answersShort, endShort, ran, isUneven, lacksEnd, runFrom, runAnswer, ranOf, lentAfter, answersAfter, locationsAfter, valuesAfter}
+use Rattle.judge_lists.specs.Lists.{inFront, listsFit, endFits}
+use Rattle.judge.specs.RunWords.{Gone, goOn, Left, ranOn, listedOn, overOn, Leaves}
+use Rattle.judge_rows.proofs.Filled.{filled-front, filled-twice}
+use Rattle.judge_rows.proofs.RowLaws.{lengths-row, locations-row, values-row}
+use Rattle.judge_rows.proofs.StateLaws.{stands, phase-read, in-front}
+use Rattle.judge_call.proofs.CallLaws.{environment-good}
+use Rattle.judge_rows.proofs.KnownLaws.{Known, known-passes, still-passes}
+use Rattle.judge_call.proofs.JudgementLaws.{step-from-on, environment-from-on, step-refused, environment-refused}
 use Rattle.judge_call.proofs.StepLaws.{step-good}
 use Rattle.judge_call.proofs.NumberLaws.{unwrapped, judge-fits}
-use Rattle.judge.proofs.RunCodeLaws.{judged-environment, judged-step, proposed-new}
+use Rattle.judge_turn.proofs.TurnLaws.{judged-environment, judged-step, proposed-new}
 
 phase-back : (p : R.Phase) → phaseIs (phaseFor p) ≡ p
 unfolding phaseIs phaseFor
@@ -81,10 +86,6 @@ proposed-exact u a l' v' = go (eqb a environmentMark) refl
     go : (b : Bool) → eqb a environmentMark ≡ b → proposedOn (held u) a l' v' ≡ held (proposed u (proposalOf a l' v'))
     go true e = rw (e, proposedOn, proposalOf) (ap (λ (l : List ℕ). record { phase = Running; locations = l; values = filled 48 (pos 0) v' }) (filled-twice 16 0 (u .locations)))
     go false e = rw (e, proposedOn, proposalOf)
-
-not-not : (b : Bool) → not (not b) ≡ b
-not-not true = refl
-not-not false = refl
 
 -- what holds of both states holds of the one that the run goes to
 goes-to : (P : R.State → Type 0) (x : J.Answer) (u u' : R.State) → P u → P u' → P (goes x u u')
@@ -338,11 +339,11 @@ module _ (t : List ℕ) (m : Model) (e : openTable t ≡ opened m) where
   -- the list's own faults, over words
   lists-even : (actions ls : List ℕ) (vs : List ℤ) → listsFit x (length actions) (length ls) (length vs) ≡ not (isUneven m actions ls vs)
   unfolding listsFit layoutOf isUneven
-  lists-even actions ls vs = rw (automata-in t (sheet .rest) m (sheet .stands), variables-in t (sheet .rest) m (sheet .stands)) (sym (not-not _))
+  lists-even actions ls vs = rw (automata-in t (sheet .rest) m (sheet .stands), variables-in t (sheet .rest) m (sheet .stands)) (sym (Bool·not-not _))
 
   end-room : (ends endv : ℕ) → endFits x ends endv ≡ not (lacksEnd m ends endv)
   unfolding endFits lacksEnd
-  end-room ends endv = rw (all-automata m (sheet .lawful) t (sheet .rest) (sheet .stands), all-variables m (sheet .lawful) t (sheet .rest) (sheet .stands)) (sym (not-not _))
+  end-room ends endv = rw (all-automata m (sheet .lawful) t (sheet .rest) (sheet .stands), all-variables m (sheet .lawful) t (sheet .rest) (sheet .stands)) (sym (Bool·not-not _))
 
 module _ (t : List ℕ) (phase : ℕ) (l : List ℕ) (k : List ℤ) (actions ls : List ℕ) (vs : List ℤ) (old oldl : List ℕ) (oldv : List ℤ) where
   abbrev whole : RunAnswer

@@ -2,15 +2,13 @@
 use mathlib.Core.Path.{_≡_, refl, sym, _∙_}
 use mathlib.Core.List.{List}
 use Prim.Native.Nat.{ℕ}
-use lib.ListN.{length}
-use Rattle.model.specs.Model.{Model}
 use Rattle.model.specs.Table.{Opened, unopened, opened, openTable}
 use Rattle.table_check.specs.Check.{answered}
 use Rattle.model.specs.declared.Checked.{Checked}
 use Rattle.model.specs.declared.Checked.the-variants as C
 use Rattle.table_places.specs.Outline.{actionsIn, variablesIn, automataIn}
 use Rattle.table_places.proofs.OutlineLaws.{actions-in, variables-in, automata-in}
-use Rattle.table_places.proofs.Opened.{Sheet, sheet-of}
+use Rattle.table_places.proofs.Opened.{sheet-of}
 use Rattle.judge.specs.declared.Counted.the-variants.{Counts, Refused}
 use Rattle.judge.specs.TableSize.{sizeOf}
 

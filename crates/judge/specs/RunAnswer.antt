@@ -1,7 +1,7 @@
 -- A list of proposals put to the judges over one table, as a caller gives it: three lists, and room for the answers and
 -- for the state at the end.
 use mathlib.Core.Bool.{Bool, true, false, not, cond, _&&_}
-use mathlib.Core.List.{List, [], _∷_, _++_, map}
+use mathlib.Core.List.{List, [], _∷_, map}
 use mathlib.Core.Option.{none, some}
 use Prim.Native.Nat.{ℕ, _*_}
 use lib.IntN.{ℤ}
@@ -14,15 +14,17 @@ use Rattle.model.specs.Judge.{Answer, phaseOf, row21, row22, row23}
 use Rattle.model.specs.Runs.{Proposal, toStep, toEnvironment, tableJudge, Run, run}
 use Rattle.judge.specs.declared.Ran.{Ran}
 use Rattle.judge.specs.declared.Ran.the-variants.{Ended, Refused, Uneven, AnswersShort, EndShort}
-use Rattle.judge_call.specs.Answers.{phaseFor, answerNumber}
-
--- Each proposal has an action, N locations and V values. In place of an action, this number is for the environment judge, which does
--- not read the locations.
-abbrev pub environmentMark : ℕ
-environmentMark = 4294967295
+use Rattle.judge_rows.specs.Phases.{phaseFor}
+use Rattle.judge_call.specs.Answers.{answerNumber}
+use Rattle.judge_turn.specs.Turns.{environmentMark}
+use Rattle.judge_lists.specs.Lists.{inFront}
 
 unfoldable pub proposalOf : (action : ℕ) → List ℕ → List ℤ → Proposal
-proposalOf action locations values = elim (eqb action environmentMark) [ true ↦ toEnvironment values | false ↦ toStep action locations values ]
+proposalOf action locations values =
+    elim (eqb action environmentMark) [
+      | true ↦ toEnvironment values
+      | false ↦ toStep action locations values
+    ]
 
 unfoldable pub proposalsOf : (n v : ℕ) (actions locations : List ℕ) (values : List ℤ) → List Proposal
 proposalsOf n v [] locations values = []
@@ -86,11 +88,7 @@ ranOf answersShort = AnswersShort
 ranOf endShort = EndShort
 ranOf (ran r) = Ended (phaseFor (r .end .phase))
 
--- Lent memory afterwards. What a run gives stands at its front, and the rest is as it was; a list that is not run leaves
--- it all as it was.
-unfoldable pub inFront : {A : Type 0} → (new old : List A) → List A
-inFront new old = new ++ drop (length new) old
-
+-- Lent memory afterwards: what a run gives stands at its front; a list that is not run leaves it as it was.
 unfoldable pub lentAfter : {A : Type 0} → (Run Answer → List A) → RunAnswer → List A → List A
 lentAfter given (ran r) old = inFront (given r) old
 lentAfter given (notRun row) old = old

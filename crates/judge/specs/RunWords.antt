@@ -1,63 +1,23 @@
--- A run over the words of a table, a layout and the automata's own sets, as the code does it. On a good table and what is found in it, it
--- is the definitions': the law run-exact.
+-- A run over the words of a table, a layout and the automata's own sets, as the code does it. On a good table and what
+-- is found in it, it is the definitions': the law run-exact.
 use mathlib.Core.Path.{_≡_}
-use mathlib.Core.Bool.{Bool, true, false, _&&_}
+use mathlib.Core.Bool.{true, false}
 use mathlib.Core.List.{List, [], _∷_}
-use Prim.Native.Nat.{ℕ, suc, _+_, _*_, _%_, _^_}
+use Prim.Native.Nat.{ℕ, suc, _+_}
 use lib.IntN.{ℤ}
 use lib.ListN.{length, take, drop, set}
-use lib.Dec.{eqb, leb}
+use lib.Dec.{leb}
 use Rattle.table_places.specs.declared.layout.Layout.{Layout}
 use Rattle.table_places.specs.Layout.{layoutOf, automataOf, variablesOf}
-use Rattle.judge_call.specs.declared.Phase.the-variants.{Running}
-use Rattle.judge_call.specs.declared.State.{State}
+use Rattle.judge_rows.specs.declared.State.{State}
 use Rattle.judge.specs.declared.Ran.{Ran}
 use Rattle.judge.specs.declared.Ran.the-variants.{Ended, Refused, Uneven, AnswersShort, EndShort}
-use Rattle.judge.specs.declared.runs.Turn.{Turn}
-use Rattle.judge_call.specs.declared.Admitted.{Admitted}
-use Rattle.judge_call.specs.declared.Admitted.the-variants.{In, Out}
-use Rattle.judge_call.specs.declared.Answer.{Answer}
-use Rattle.judge_call.specs.declared.Answer.the-variants as A
-use Rattle.judge_call.specs.Answers.{answerOf, answerNumber}
-use Rattle.judge_call.specs.States.{stateOf}
-use Rattle.judge_call.specs.RowTests.{phaseRead}
-use Rattle.judge_call.specs.Calls.{stateChecked, thenPhase, environmentFrom, stepFrom, ownOf}
-use Rattle.judge.specs.RunAnswer.{environmentMark, inFront}
-
--- the proposals' lists: so many locations and values for `count` actions
-unfoldable pub listsFit : Layout → (count locations values : ℕ) → Bool
-listsFit x count locations values = eqb locations (x .automata * count) && eqb values (x .variables * count)
-
--- the places for the state at the end
-unfoldable pub endFits : Layout → (locations values : ℕ) → Bool
-endFits x locations values = leb (automataOf x) locations && leb (variablesOf x) values
-
--- rows 20 to 23 of the state that a run starts from
-unfoldable pub begunOn : (words : List ℕ) → Layout → (locations : List ℕ) (values : List ℤ) (phase : ℕ) → Admitted
-begunOn words x locations values phase = thenPhase (phaseRead phase) (stateChecked words x locations values)
-
--- one proposal, from the state s that the run is in to the proposed state t
-unfoldable pub judgedOn : (words : List ℕ) → Layout → (own : List ℕ) → State → (action : ℕ) → List ℕ → List ℤ → State → Answer
-judgedOn words x own s action newLocations newValues t =
-    elim (eqb action environmentMark) [
-      | true ↦ environmentFrom words x s newValues t
-      | false ↦ stepFrom words x own s action newLocations newValues t
-    ]
-
--- the state that is proposed
-unfoldable pub proposedOn : State → (action : ℕ) → List ℕ → List ℤ → State
-proposedOn s action newLocations newValues =
-    elim (eqb action environmentMark) [
-      | true ↦ stateOf Running (s .locations) newValues
-      | false ↦ stateOf Running newLocations newValues
-    ]
-
--- only a yes moves the run
-unfoldable pub movedTo : Answer → (s t : State) → State
-movedTo A.Yes s t = t
-movedTo (A.Marked mark) s t = t
-movedTo A.No s t = s
-movedTo (A.Refused row) s t = s
+use Rattle.judge_rows.specs.declared.Admitted.the-variants.{In, Out}
+use Rattle.judge_rows.specs.States.{stateOf}
+use Rattle.judge_call.specs.Calls.{ownOf}
+use Rattle.judge_rows.specs.Checks.{begunOn}
+use Rattle.judge_turn.specs.Turns.{turnOn}
+use Rattle.judge_lists.specs.Lists.{listsFit, endFits, inFront}
 
 -- the place n items on in a list of so many, or its end
 unfoldable pub onward : (size at n : ℕ) → ℕ
@@ -68,15 +28,9 @@ pub record Gone : Type 0 where
   pub state : State
   pub answers : List ℕ
 
--- one proposal: its answer's number, and the state after it
-unfoldable pub turnOn : (words : List ℕ) → Layout → (own : List ℕ) → State → (action : ℕ) → List ℕ → List ℤ → Turn
-turnOn words x own s action newLocations newValues =
-    let t = proposedOn s action newLocations newValues in
-    let answer = judgedOn words x own s action newLocations newValues t in
-    record { number = answerNumber (answerOf answer) % 2 ^ 32; state = movedTo answer s t }
-
 -- from state s on, with answer k the next one
-unfoldable pub goOn : (words : List ℕ) → Layout → (own : List ℕ) (n v : ℕ) → State → (answers : List ℕ) (k : ℕ) (actions locations : List ℕ) (values : List ℤ) → Gone
+unfoldable pub goOn : (words : List ℕ) → Layout → (own : List ℕ) (n v : ℕ) → State → (answers : List ℕ) (k : ℕ)
+    → (actions locations : List ℕ) (values : List ℤ) → Gone
 goOn words x own n v s answers k [] locations values = record { state = s; answers = answers }
 goOn words x own n v s answers k (action ∷ actions) locations values =
     let turn = turnOn words x own s action (take n locations) (take v values) in
@@ -89,7 +43,8 @@ pub record Left : Type 0 where
   pub locations : List ℕ
   pub values : List ℤ
 
-module _ (words : List ℕ) (x : Layout) (own : List ℕ) (s : State) (actions ls : List ℕ) (vs : List ℤ) (answers locations : List ℕ) (values : List ℤ) where
+module _ (words : List ℕ) (x : Layout) (own : List ℕ) (s : State) (actions ls : List ℕ) (vs : List ℤ)
+    (answers locations : List ℕ) (values : List ℤ) where
   -- a fault: the memory as it was
   abbrev pub untouched : Ran → Left
   untouched r = record { ran = r; answers = answers; locations = locations; values = values }
@@ -121,7 +76,8 @@ module _ (words : List ℕ) (x : Layout) (own : List ℕ) (s : State) (actions l
       ]
 
 -- the whole call over a good table
-unfoldable pub overOn : (words : List ℕ) (phase : ℕ) (l : List ℕ) (v : List ℤ) (actions ls : List ℕ) (vs : List ℤ) (answers locations : List ℕ) (values : List ℤ) → Left
+unfoldable pub overOn : (words : List ℕ) (phase : ℕ) (l : List ℕ) (v : List ℤ) (actions ls : List ℕ) (vs : List ℤ)
+    → (answers locations : List ℕ) (values : List ℤ) → Left
 overOn words phase l v actions ls vs answers locations values =
     let x = layoutOf words in
     elim (begunOn words x l v phase) [

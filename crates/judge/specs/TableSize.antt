@@ -1,5 +1,4 @@
 -- The numbers of a table: A, V and N, so that a caller can make its lists of locations and values.
-use mathlib.Core.List.{List}
 use lib.ListN.{length}
 use Rattle.model.specs.Table.{Opened, unopened, opened}
 use Rattle.judge.specs.declared.Counted.{Counted}

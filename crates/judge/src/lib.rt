@@ -3,13 +3,13 @@
 mod runs;
 
 pub use judge_call::Answer;
-pub use judge_call::Phase;
-pub use judge_call::State;
 pub use judge_call::environment;
 pub use judge_call::number;
 pub use judge_call::step;
+pub use judge_rows::Phase;
+pub use judge_rows::State;
+pub use judge_rows::phase_number;
 use model::Checked;
-pub use runs::phase_number;
 ghost use mathlib.Core.Path.{_≡_};
 ghost use lib.ListN.{length};
 ghost use Rattle.model.specs.Table.{openTable};

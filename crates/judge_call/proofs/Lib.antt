@@ -1,9 +1,3 @@
-pub mod Filled
-pub mod WalkLaws
-pub mod CodeLaws
-pub mod Items
-pub mod RowLaws
-pub mod SettledLaws
 pub mod CallLaws
 pub mod TakenLaws
 pub mod StepLaws

@@ -7,7 +7,6 @@ use lib.IntN.{ℤ}
 use Rattle.model.specs.Model.{Model, inSet}
 use Rattle.model.specs.Judge as J
 use Rattle.model.specs.Table.{openTable}
-use Rattle.model.proofs.Tests.{not-true, not-false}
 use Rattle.table_check.specs.Check.{answered}
 use Rattle.model.specs.declared.Checked.{Checked}
 use Rattle.model.specs.declared.Checked.the-variants as C
@@ -15,23 +14,22 @@ use Rattle.table_places.specs.declared.layout.Layout.{Layout}
 use Rattle.table_places.specs.Layout.{layoutOf}
 use Rattle.table_places.specs.Own.{ownSets}
 use Rattle.table_places.proofs.Opened.{Sheet}
-use Rattle.judge_call.specs.declared.Phase.{Phase}
-use Rattle.judge_call.specs.declared.Phase.the-variants.{Running}
-use Rattle.judge_call.specs.declared.State.{State}
-use Rattle.judge_call.specs.declared.Admitted.{Admitted}
-use Rattle.judge_call.specs.declared.Admitted.the-variants.{In, Out}
+use Rattle.judge_rows.specs.declared.Phase.{Phase}
+use Rattle.judge_rows.specs.declared.Phase.the-variants.{Running}
 use Rattle.judge_call.specs.declared.Answer.{Answer}
 use Rattle.judge_call.specs.declared.Answer.the-variants.{Marked, No, Refused}
-use Rattle.judge_call.specs.Answers.{answerOf, phaseIs}
-use Rattle.judge_call.specs.States.{stateOf}
-use Rattle.judge_call.specs.RowTests.{actionKnown}
-use Rattle.judge_call.specs.Settled.{settledAt}
+use Rattle.judge_call.specs.Answers.{answerOf}
+use Rattle.judge_rows.specs.Phases.{phaseIs}
+use Rattle.judge_rows.specs.States.{stateOf}
+use Rattle.judge_rows.specs.RowTests.{actionKnown}
+use Rattle.judge_settled.specs.Settled.{settledAt}
 use Rattle.judge_call.specs.Taken.{takenAt, markAt}
 use Rattle.judge_call.specs.Calls.{thenAnswer, stepBy, stepIn, stepOn, ownOf, stepAt}
-use Rattle.judge_call.proofs.RowLaws.{action-row}
-use Rattle.judge_call.proofs.SettledLaws.{settled-is}
+use Rattle.judge_rows.proofs.RowLaws.{action-row}
+use Rattle.judge_settled.proofs.SettledLaws.{settled-is}
 use Rattle.judge_call.proofs.TakenLaws.{taken-is, mark-is}
-use Rattle.judge_call.proofs.CallLaws.{Pass, stands, listRows, call-exact, shows-old, shows-new}
+use Rattle.judge_rows.proofs.StateLaws.{Pass, stands, shows-old, shows-new}
+use Rattle.judge_call.proofs.CallLaws.{listRows, call-exact}
 
 module _ (t : List ℕ) (phase : ℕ) (l : List ℕ) (v : List ℤ) (a : ℕ) (l' : List ℕ) (v' : List ℤ) where
   abbrev last : Model → Phase → J.Answer

@@ -2,14 +2,13 @@
 use mathlib.Core.Path.{_≡_, refl, sym, ap, _∙_}
 use mathlib.Core.Bool.{Bool}
 use mathlib.Core.List.{List, _++_}
-use Prim.Native.Nat.{ℕ, _≤_, _<_}
+use Prim.Native.Nat.{ℕ}
 use native.Mathlib.Omega.{arith}
 use lib.IntN.{ℤ}
 use lib.ListN.{length, take, drop, replicate}
 use lib.Seq.{take-at}
 use Rattle.model.specs.Basic.{exists}
 use Rattle.model.specs.Model.{Model, inSet}
-use Rattle.model.specs.Rules as R
 use Rattle.model.specs.Moves.{moves}
 use Rattle.model.specs.Judge as J
 use Rattle.model.proofs.Tests.{or-none-left, or-none-right}
@@ -17,7 +16,7 @@ use Rattle.table_places.specs.declared.layout.Layout.{Layout}
 use Rattle.table_places.specs.Outline.{nodesPlace}
 use Rattle.table_places.specs.Layout.{layoutOf, automataOf, variablesOf}
 use Rattle.table_places.proofs.Standing.{tree-stands}
-use Rattle.table_places.proofs.LayoutLaws.{all-automata, all-variables, tree-place}
+use Rattle.table_places.proofs.LayoutLaws.{all-variables, tree-place}
 use Rattle.table_places.proofs.AgreeLaws.{own-agrees, leaves-agree}
 use Rattle.table_places.proofs.Opened.{Sheet}
 use Rattle.table_tree.specs.Nodes.{treeWords}
@@ -30,14 +29,13 @@ use Rattle.judge_candidates.specs.Walk.{masksAfter, firstAfter}
 use Rattle.judge_candidates.proofs.WalkLaws.{masks-long, first-long}
 use Rattle.judge_candidates.proofs.MaskLaws.{changed-mask, still-bit}
 use Rattle.judge_candidates.proofs.OffersLaws.{gather-offers}
-use Rattle.judge_call.specs.declared.Phase.{Phase}
-use Rattle.judge_call.specs.declared.Phase.the-variants.{Running}
-use Rattle.judge_call.specs.declared.State.{State}
-use Rattle.judge_call.specs.States.{filled, stateOf}
+use Rattle.judge_rows.specs.declared.Phase.{Phase}
+use Rattle.judge_rows.specs.declared.Phase.the-variants.{Running}
+use Rattle.judge_rows.specs.declared.State.{State}
+use Rattle.judge_rows.specs.States.{stateOf}
 use Rattle.judge_call.specs.Taken.{takenIn, takenAt, markAt}
 use Rattle.judge_call.specs.Calls.{ownOf}
-use Rattle.judge_call.proofs.Filled.{filled-front}
-use Rattle.judge_call.proofs.CallLaws.{one-each, one-value, Pass, stands, shows-old, shows-new}
+use Rattle.judge_rows.proofs.StateLaws.{one-each, one-value, Pass, stands, shows-old, shows-new, in-front}
 
 -- `found`: the two lists keep their lengths
 module _ (w : List ℕ) (x : Layout) (old new : List ℕ) (before after : List ℤ) (a : ℕ) where
@@ -75,10 +73,6 @@ module _ (t : List ℕ) (m : Model) (sheet : Sheet t m) where
       ap (λ (i : ℕ). drop (nodesPlace t i) t) (tree-place m (sheet .lawful) t (sheet .rest) (sheet .stands)) ∙ tree-stands t (sheet .rest) m (sheet .stands) in
       ap (take (length c)) d ∙ take-at c (sheet .rest) (length c) refl
 
-  -- the lists of a state stand at the front of the code's arrays
-  pub in-front : (k : List ℕ) → length k ≡ length (m .automata) → take (automataOf (layoutOf t)) (filled 16 0 k) ≡ k
-  in-front k e = rw (all-automata m (sheet .lawful) t (sheet .rest) (sheet .stands), ← e) (filled-front 16 0 k (rw e (sheet .lawful .few-automata)))
-
   -- the search finds taking edges exactly where some move of the composition fits the step
   pub taken-is : (q : Phase) (l : List ℕ) (v : List ℤ) (l' : List ℕ) (v' : List ℤ) (a : ℕ) → Pass m (stands q l v) (stands Running l' v')
       → takenAt t (layoutOf t) (ownOf t) a (stateOf q l v) (stateOf Running l' v') ≡ exists (J.fits m (stands q l v) (stands Running l' v')) (moves m a (m .tree))
@@ -95,7 +89,7 @@ module _ (t : List ℕ) (m : Model) (sheet : Sheet t m) where
       let few = ok .few-automata in
       let masks = masksAfter t v v' (layoutOf t) l l' a (replicate 512 0) (replicate 17 0) in
       let first = firstAfter t v v' (layoutOf t) l l' a (replicate 512 0) (replicate 17 0) in
-      rw (in-front l n, in-front l' n', all-variables m ok t (sheet .rest) (sheet .stands), old .values, new .values, changed-mask m u u' vn (ok .few-variables))
+      rw (in-front t m sheet l n, in-front t m sheet l' n', all-variables m ok t (sheet .rest) (sheet .stands), old .values, new .values, changed-mask m u u' vn (ok .few-variables))
       (found-is m ok u a u' t (nodesPlace t (layoutOf t .tree)) (ownOf t) masks first (stillBits l l') nodes-of-tree
       (λ k h. own-agrees m ok t (sheet .rest) (sheet .stands) a k)
       (gather-offers t (sheet .rest) m ok (sheet .stands) u a u' (old .inside) (new .inside) (replicate 512 0) (replicate 17 0) (omega arith) (omega arith))

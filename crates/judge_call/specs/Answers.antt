@@ -1,10 +1,7 @@
--- What the judges' answers and phases mean in the definitions, and an answer's number.
+-- What the judges' answers mean in the definitions, and an answer's number.
 use mathlib.Core.Bool.{cond}
 use Prim.Native.Nat.{ℕ, _+_}
-use Rattle.model.specs.Rules as R
 use Rattle.model.specs.Judge as J
-use Rattle.judge_call.specs.declared.Phase.{Phase}
-use Rattle.judge_call.specs.declared.Phase.the-variants.{Start, Running}
 use Rattle.judge_call.specs.declared.Answer.{Answer}
 use Rattle.judge_call.specs.declared.Answer.the-variants.{Yes, Marked, No, Refused}
 
@@ -13,15 +10,6 @@ answerOf Yes = J.yes
 answerOf (Marked mark) = J.marked mark
 answerOf No = J.no
 answerOf (Refused row) = J.refused row
-
-unfoldable pub phaseIs : Phase → R.Phase
-phaseIs Start = R.start
-phaseIs Running = R.running
-
--- and back
-unfoldable pub phaseFor : R.Phase → Phase
-phaseFor R.start = Start
-phaseFor R.running = Running
 
 -- 0 no, 1 yes, 2 yes with the mark true; from 100 up, 100 + the row that refuses
 unfoldable pub answerNumber : J.Answer → ℕ

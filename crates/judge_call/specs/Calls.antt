@@ -1,10 +1,8 @@
 -- The rows of a call, in their order, and then the rules. `own` is the automata's own sets.
-use mathlib.Core.Bool.{true, false, not, _||_}
+use mathlib.Core.Bool.{true, false}
 use mathlib.Core.List.{List}
 use Prim.Native.Nat.{ℕ}
 use lib.IntN.{ℤ}
-use lib.ListN.{length}
-use lib.Dec.{eqb}
 use Rattle.model.specs.Table.{openTable}
 use Rattle.table_places.specs.declared.layout.Layout.{Layout}
 use Rattle.table_places.specs.Layout.{layoutOf}
@@ -12,60 +10,18 @@ use Rattle.table_places.specs.Own.{ownSets}
 use Rattle.table_check.specs.Check.{answered}
 use Rattle.model.specs.declared.Checked.{Checked}
 use Rattle.model.specs.declared.Checked.the-variants as C
-use Rattle.judge_call.specs.declared.Phase.{Phase}
-use Rattle.judge_call.specs.declared.Phase.the-variants.{Running}
-use Rattle.judge_call.specs.declared.State.{State}
-use Rattle.judge_call.specs.declared.Admitted.{Admitted}
-use Rattle.judge_call.specs.declared.Admitted.the-variants.{In, Out}
+use Rattle.judge_rows.specs.declared.Phase.{Phase}
+use Rattle.judge_rows.specs.declared.Phase.the-variants.{Running}
+use Rattle.judge_rows.specs.declared.State.{State}
+use Rattle.judge_rows.specs.declared.Admitted.{Admitted}
+use Rattle.judge_rows.specs.declared.Admitted.the-variants.{In, Out}
 use Rattle.judge_call.specs.declared.Answer.{Answer}
 use Rattle.judge_call.specs.declared.Answer.the-variants.{Yes, Marked, No, Refused}
-use Rattle.judge_call.specs.States.{stateOf}
-use Rattle.judge_call.specs.RowTests.{phaseRead, lengthsFit, locationsKnown, valuesKnown, actionKnown}
-use Rattle.judge_call.specs.Settled.{settledAt}
+use Rattle.judge_rows.specs.States.{stateOf}
+use Rattle.judge_rows.specs.RowTests.{actionKnown}
+use Rattle.judge_rows.specs.Checks.{stateChecked, valuesChecked, admittedOn}
+use Rattle.judge_settled.specs.Settled.{settledAt}
 use Rattle.judge_call.specs.Taken.{takenAt, markAt}
-
-module _ (words : List ℕ) (x : Layout) where
-  -- rows 21 to 23 of one state
-  unfoldable pub stateChecked : (locations : List ℕ) (values : List ℤ) → Checked
-  stateChecked locations values =
-      elim (lengthsFit x (length locations) (length values)) [
-        | false ↦ C.Refused 21
-        | true ↦
-            elim (locationsKnown words x locations) [
-              | false ↦ C.Refused 22
-              | true ↦ elim (valuesKnown words x values) [ false ↦ C.Refused 23 | true ↦ C.Good ]
-            ]
-      ]
-
-  -- of values, for locations that have passed
-  unfoldable pub valuesChecked : (values : List ℤ) → Checked
-  valuesChecked values =
-      elim (eqb (length values) (x .variables)) [
-        | false ↦ C.Refused 21
-        | true ↦ elim (valuesKnown words x values) [ false ↦ C.Refused 23 | true ↦ C.Good ]
-      ]
-
-  -- of the states before and after
-  unfoldable pub listsChecked : (locations : List ℕ) (values : List ℤ) (newLocations : List ℕ) (newValues : List ℤ) → Checked
-  listsChecked locations values newLocations newValues =
-      elim (not (lengthsFit x (length locations) (length values)) || not (lengthsFit x (length newLocations) (length newValues))) [
-        | true ↦ C.Refused 21
-        | false ↦
-            elim (not (locationsKnown words x locations) || not (locationsKnown words x newLocations)) [
-              | true ↦ C.Refused 22
-              | false ↦
-                  elim (not (valuesKnown words x values) || not (valuesKnown words x newValues)) [ true ↦ C.Refused 23 | false ↦ C.Good ]
-            ]
-      ]
-
--- the first row that refuses, or the phase
-unfoldable pub thenLists : Checked → Phase → Admitted
-thenLists C.Good phase = In phase
-thenLists (C.Refused row) phase = Out row
-
-unfoldable pub thenPhase : Admitted → Checked → Admitted
-thenPhase (Out row) lists = Out row
-thenPhase (In phase) lists = thenLists lists phase
 
 -- the refusal, or what the rules answer in the phase
 unfoldable pub thenRules : Admitted → (Phase → Answer) → Answer
@@ -78,26 +34,25 @@ thenAnswer (C.Refused row) answer = Refused row
 thenAnswer C.Good answer = answer
 
 module _ (words : List ℕ) (x : Layout) where
-  -- rows 20 to 23
-  unfoldable pub admittedOn : (phase : ℕ) (locations : List ℕ) (values : List ℤ) (newLocations : List ℕ) (newValues : List ℤ) → Admitted
-  admittedOn phase locations values newLocations newValues = thenPhase (phaseRead phase) (listsChecked words x locations values newLocations newValues)
-
   -- the environment judge, from state s to state t: every automaton is still
   unfoldable pub environmentBy : (s t : State) → Answer
   environmentBy s t = elim (settledAt words x s t) [ true ↦ Yes | false ↦ No ]
 
   abbrev pub environmentIn : (locations : List ℕ) (values newValues : List ℤ) → Phase → Answer
-  environmentIn locations values newValues phase = environmentBy (stateOf phase locations values) (stateOf Running locations newValues)
+  environmentIn locations values newValues phase =
+      environmentBy (stateOf phase locations values) (stateOf Running locations newValues)
 
   unfoldable pub environmentOn : (phase : ℕ) (locations : List ℕ) (values newValues : List ℤ) → Answer
   environmentOn phase locations values newValues =
-      thenRules (admittedOn phase locations values locations newValues) (environmentIn locations values newValues)
+      thenRules (admittedOn words x phase locations values locations newValues)
+      (environmentIn locations values newValues)
 
   -- where s has passed the rows
   unfoldable pub environmentFrom : (s : State) (newValues : List ℤ) (t : State) → Answer
   environmentFrom s newValues t = thenAnswer (valuesChecked words x newValues) (environmentBy s t)
 
-  -- the step judge: row 24; then what holds of every automaton; then whether some of them can take the action, and its mark
+  -- the step judge: row 24; then what holds of every automaton; then whether some of them can take the action, and its
+  -- mark
   module _ (own : List ℕ) where
     unfoldable pub stepBy : (s : State) (action : ℕ) (t : State) → Answer
     stepBy s action t =
@@ -106,20 +61,29 @@ module _ (words : List ℕ) (x : Layout) where
           | true ↦
               elim (settledAt words x s t) [
                 | false ↦ No
-                | true ↦ elim (takenAt words x own action s t) [ false ↦ No | true ↦ Marked (markAt words x own action) ]
+                | true ↦
+                    elim (takenAt words x own action s t) [
+                      | false ↦ No
+                      | true ↦ Marked (markAt words x own action)
+                    ]
               ]
         ]
 
-    abbrev pub stepIn : (locations : List ℕ) (values : List ℤ) (action : ℕ) (newLocations : List ℕ) (newValues : List ℤ) → Phase → Answer
+    abbrev pub stepIn : (locations : List ℕ) (values : List ℤ) (action : ℕ) (newLocations : List ℕ)
+        → (newValues : List ℤ) → Phase → Answer
     stepIn locations values action newLocations newValues phase =
         stepBy (stateOf phase locations values) action (stateOf Running newLocations newValues)
 
-    unfoldable pub stepOn : (phase : ℕ) (locations : List ℕ) (values : List ℤ) (action : ℕ) (newLocations : List ℕ) (newValues : List ℤ) → Answer
+    unfoldable pub stepOn : (phase : ℕ) (locations : List ℕ) (values : List ℤ) (action : ℕ) (newLocations : List ℕ)
+        → (newValues : List ℤ) → Answer
     stepOn phase locations values action newLocations newValues =
-        thenRules (admittedOn phase locations values newLocations newValues) (stepIn locations values action newLocations newValues)
+        thenRules (admittedOn words x phase locations values newLocations newValues)
+        (stepIn locations values action newLocations newValues)
 
-    unfoldable pub stepFrom : (s : State) (action : ℕ) (newLocations : List ℕ) (newValues : List ℤ) (t : State) → Answer
-    stepFrom s action newLocations newValues t = thenAnswer (stateChecked words x newLocations newValues) (stepBy s action t)
+    unfoldable pub stepFrom : (s : State) (action : ℕ) (newLocations : List ℕ) (newValues : List ℤ) (t : State)
+        → Answer
+    stepFrom s action newLocations newValues t =
+        thenAnswer (stateChecked words x newLocations newValues) (stepBy s action t)
 
 -- over any table: the check, and then by its layout
 abbrev pub ownOf : (table : List ℕ) → List ℕ
@@ -127,8 +91,11 @@ ownOf table = ownSets table (layoutOf table .sets)
 
 unfoldable pub environmentAt : (table : List ℕ) (phase : ℕ) (locations : List ℕ) (values newValues : List ℤ) → Answer
 environmentAt table phase locations values newValues =
-    thenAnswer (answered (openTable table)) (environmentOn table (layoutOf table) phase locations values newValues)
+    thenAnswer (answered (openTable table))
+    (environmentOn table (layoutOf table) phase locations values newValues)
 
-unfoldable pub stepAt : (table : List ℕ) (phase : ℕ) (locations : List ℕ) (values : List ℤ) (action : ℕ) (newLocations : List ℕ) (newValues : List ℤ) → Answer
+unfoldable pub stepAt : (table : List ℕ) (phase : ℕ) (locations : List ℕ) (values : List ℤ) (action : ℕ)
+    → (newLocations : List ℕ) (newValues : List ℤ) → Answer
 stepAt table phase locations values action newLocations newValues =
-    thenAnswer (answered (openTable table)) (stepOn table (layoutOf table) (ownOf table) phase locations values action newLocations newValues)
+    thenAnswer (answered (openTable table))
+    (stepOn table (layoutOf table) (ownOf table) phase locations values action newLocations newValues)

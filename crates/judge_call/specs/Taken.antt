@@ -1,5 +1,5 @@
--- Whether some automata can take the action, by the search over what each could take; and the mark. On a model's table, its layout and
--- the automata's own sets these are the definitions': the laws taken-is and mark-is.
+-- Whether some automata can take the action, by the search over what each could take; and the mark. On a model's table,
+-- its layout and the automata's own sets these are the definitions': the laws taken-is and mark-is.
 use mathlib.Core.Bool.{Bool}
 use mathlib.Core.List.{List}
 use Prim.Native.Nat.{ℕ}
@@ -12,7 +12,7 @@ use Rattle.table_tree.specs.Members.{inSetAt}
 use Rattle.judge_search.specs.Found.{foundIn}
 use Rattle.judge_candidates.specs.Bits.{changedBits, stillBits}
 use Rattle.judge_candidates.specs.Walk.{masksAfter, firstAfter}
-use Rattle.judge_call.specs.declared.State.{State}
+use Rattle.judge_rows.specs.declared.State.{State}
 
 module _ (words : List ℕ) (x : Layout) (own : List ℕ) where
   -- the search, given the edges that each automaton could take; what was in the two lists before plays no part

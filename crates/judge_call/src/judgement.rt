@@ -1,23 +1,21 @@
 // The judgement over a table that is known to be good, by its layout and the automata's own sets, which a caller finds
 // once.
-use crate::Admitted;
 use crate::Answer;
-use crate::Phase;
-use crate::State;
-use crate::call::{self};
-use crate::rows::{self};
-use crate::settled::{self};
 use crate::taken::{self};
+use judge_rows::Admitted;
+use judge_rows::Phase;
+use judge_rows::State;
 use model::Checked;
 use table_places::Layout;
 ghost use mathlib.Core.Path.{_≡_};
-ghost use Rattle.judge_call.specs.Calls.{environmentBy, environmentOn, environmentFrom, stepBy, stepOn, stepFrom};
+ghost use Rattle.judge_call.specs.Calls.{environmentBy, environmentOn, environmentFrom};
+ghost use Rattle.judge_call.specs.Calls.{stepBy, stepOn, stepFrom};
 
 // What the rules say of a change of values from s to t.
 fn environment_by(words: &[u32], x: Layout, s: State, t: State) -> Answer
     ensures { λ r. ⌜ r ≡ environmentBy (now (words .entry)) x s t ⌝ }
 {
-    if settled::settled(words, x, s, t) {
+    if judge_settled::settled(words, x, s, t) {
         Answer::Yes
     } else {
         Answer::No
@@ -36,7 +34,7 @@ pub(crate) fn environment_on(
     ensures { λ r. ⌜ r ≡ environmentOn (now (words .entry)) x phase (now (locations .entry))
         (now (values .entry)) (now («new_values» .entry)) ⌝ }
 {
-    let admitted = call::admitted(words, x, phase, locations, values, locations, new_values);
+    let admitted = judge_rows::admit(words, x, phase, locations, values, locations, new_values);
     match admitted {
         Admitted::Out(row) => Answer::Refused(row),
         Admitted::In(p) => {
@@ -51,7 +49,7 @@ pub(crate) fn environment_on(
 pub fn environment_from(words: &[u32], x: Layout, s: State, new_values: &[i32], t: State) -> Answer
     ensures { λ r. ⌜ r ≡ environmentFrom (now (words .entry)) x s (now («new_values» .entry)) t ⌝ }
 {
-    match call::values_checked(words, x, new_values) {
+    match judge_rows::values_checked(words, x, new_values) {
         Checked::Refused(row) => Answer::Refused(row),
         Checked::Good => environment_by(words, x, s, t),
     }
@@ -61,10 +59,10 @@ pub fn environment_from(words: &[u32], x: Layout, s: State, new_values: &[i32], 
 fn step_by(words: &[u32], x: Layout, own: &[u64], s: State, action: u32, t: State) -> Answer
     ensures { λ r. ⌜ r ≡ stepBy (now (words .entry)) x (now (own .entry)) s action t ⌝ }
 {
-    if !rows::action_known(x, action) {
+    if !judge_rows::action_known(x, action) {
         return Answer::Refused(24);
     }
-    if !settled::settled(words, x, s, t) {
+    if !judge_settled::settled(words, x, s, t) {
         return Answer::No;
     }
     if !taken::taken(words, x, own, s, action, t) {
@@ -89,7 +87,7 @@ pub(crate) fn step_on(
         (now (locations .entry)) (now (values .entry)) action (now («new_locations» .entry))
         (now («new_values» .entry)) ⌝ }
 {
-    let admitted = call::admitted(
+    let admitted = judge_rows::admit(
         words,
         x,
         phase,
@@ -122,7 +120,7 @@ pub fn step_from(
     ensures { λ r. ⌜ r ≡ stepFrom (now (words .entry)) x (now (own .entry)) s action
         (now («new_locations» .entry)) (now («new_values» .entry)) t ⌝ }
 {
-    match call::state_checked(words, x, new_locations, new_values) {
+    match judge_rows::state_checked(words, x, new_locations, new_values) {
         Checked::Refused(row) => Answer::Refused(row),
         Checked::Good => step_by(words, x, own, s, action, t),
     }

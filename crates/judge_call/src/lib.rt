@@ -1,33 +1,15 @@
-// One call of a judge: is a proposed step of the composition allowed? The judges know a checked table, and nothing of how a text spells it.
-mod call;
-mod fill;
+// One call of a judge: is a proposed step of the composition allowed? The judges know a checked table, and nothing of
+// how a text spells it.
 mod judgement;
-mod rows;
-mod settled;
 mod taken;
 
-pub use call::state_checked;
 pub use judgement::environment_from;
 pub use judgement::step_from;
 use model::Checked;
-pub use rows::phase_of;
 ghost use mathlib.Core.Path.{_≡_};
 ghost use Prim.Native.Nat.{_%_, _^_};
 ghost use Rattle.model.specs.Judge.{stepAnswer, environmentAnswer};
 ghost use Rattle.judge_call.specs.Answers.{answerOf, answerNumber};
-
-// Phase 0 is Start, phase 1 Running.
-pub enum Phase {
-    Start,
-    Running,
-}
-
-// The phase, each automaton's location and each variable's value; what the model has none of is 0.
-pub struct State {
-    pub phase: Phase,
-    pub locations: [u32; 16],
-    pub values: [i32; 48],
-}
 
 // Yes is the environment judge's; the step judge says yes with the mark. Refused has the row.
 pub enum Answer {
@@ -35,12 +17,6 @@ pub enum Answer {
     Marked(bool),
     No,
     Refused(u32),
-}
-
-// What the rows say of a call: it passes, in this phase; or the row that refuses it.
-pub enum Admitted {
-    In(Phase),
-    Out(u32),
 }
 
 // May the variables become `new_values` while every automaton is still?
@@ -51,7 +27,8 @@ pub fn environment(
     values: &[i32],
     new_values: &[i32],
 ) -> Answer
-    ensures { λ r. ⌜ answerOf r ≡ environmentAnswer (now (table .entry)) phase (now (locations .entry)) (now (values .entry)) (now («new_values» .entry)) ⌝ }
+    ensures { λ r. ⌜ answerOf r ≡ environmentAnswer (now (table .entry)) phase (now (locations .entry))
+        (now (values .entry)) (now («new_values» .entry)) ⌝ }
 {
     if let Checked::Refused(row) = table_check::check(table) {
         return Answer::Refused(row);
@@ -70,7 +47,8 @@ pub fn step(
     new_locations: &[u32],
     new_values: &[i32],
 ) -> Answer
-    ensures { λ r. ⌜ answerOf r ≡ stepAnswer (now (table .entry)) phase (now (locations .entry)) (now (values .entry)) action (now («new_locations» .entry)) (now («new_values» .entry)) ⌝ }
+    ensures { λ r. ⌜ answerOf r ≡ stepAnswer (now (table .entry)) phase (now (locations .entry)) (now (values .entry))
+        action (now («new_locations» .entry)) (now («new_values» .entry)) ⌝ }
 {
     if let Checked::Refused(row) = table_check::check(table) {
         return Answer::Refused(row);
@@ -90,7 +68,8 @@ pub fn step(
     )
 }
 
-// An answer as one number: 0 no, 1 yes, 2 yes with the mark true; 100 + row refused. The sum wraps on no answer that a judge gives.
+// An answer as one number: 0 no, 1 yes, 2 yes with the mark true; 100 + row refused. The sum wraps on no answer that a
+// judge gives.
 pub fn number(answer: Answer) -> u32
     ensures { λ r. ⌜ r ≡ answerNumber (answerOf answer) % 2 ^ 32 ⌝ }
 {

@@ -1,5 +1,5 @@
 // Can some automata take the action so that the step is theirs? And is the action marked?
-use crate::State;
+use judge_rows::State;
 use table_places::Layout;
 ghost use mathlib.Core.Path.{_≡_};
 ghost use Rattle.judge_call.specs.Taken.{takenIn, takenAt, markAt};

@@ -2,7 +2,7 @@
 use mathlib.Core.Path.{_≡_, refl, sym, ap, _∙_}
 use mathlib.Core.Bool.{Bool, true, false, not, true≢false}
 use mathlib.Core.List.{List, [], _∷_}
-use Prim.Native.Nat.{ℕ, zero, suc, _+_, _-_, _*_, _%_, _/_, _^_, _≤_, _<_}
+use Prim.Native.Nat.{ℕ, zero, suc, _+_, _-_, _*_, _%_, _^_, _≤_, _<_}
 use native.Mathlib.Omega.{arith}
 use native.Mathlib.Nat.{div-eq-of-lt, one-mul, pow-succ'}
 use native.Mathlib.Numerals.{add-one, sub-one}
@@ -11,7 +11,7 @@ use lib.ListN.{length, getD, take, drop, drop-of-length-le}
 use lib.Seq.{drop-cons, take-nil}
 use lib.Dec.{eqb, leb}
 use lib.Pow.{pow-mono, shl-exact}
-use borrow.Author.Tests.{le-leb, lt-leb, eq-eqb, ne-eqb, leb-true, leb-false}
+use borrow.Author.Tests.{leb-true, leb-false}
 use Rattle.model.specs.Basic.{eqZ}
 use Rattle.model.specs.Bounds.{maxVariables, maxAutomata}
 use Rattle.model.specs.Predicate.{named, nothing, theOld, theNew}
@@ -22,6 +22,7 @@ use Rattle.node_words.specs.Nodes.{meant, nodeOf}
 use Rattle.node_words.proofs.NodeLaws.{word-by, Other, by-others}
 use Rattle.table_places.specs.AtMost.{atMost}
 use Rattle.judge_search.specs.Masks.{mask}
+use Rattle.judge_search.proofs.MaskLaws.{mask-small}
 use Rattle.judge_candidates.specs.Bits.{clear, withBit, leftOut, restOf, differs, changedBits, agrees, stillBits}
 
 -- `power`
@@ -124,16 +125,6 @@ module _ (s k : ℕ) (b : Bool) where
 
 pub ruleset with-laws = (with-true, with-false)
 
--- a set of numbers below n weighs less than n's bit
-pub mask-below : (f : ℕ → Bool) (n : ℕ) → mask f n < 2 ^ n
-unfolding mask
-mask-below f zero = omega arith
-mask-below f (suc n) = go (f n) (mask-below f n)
-  where
-    go : (b : Bool) → mask f n < 2 ^ n → elim b as (λ c. ℕ) [ true ↦ 2 ^ n + mask f n | false ↦ mask f n ] < 2 ^ suc n
-    go true h = let e : 2 ^ suc n ≡ 2 * 2 ^ n = pow-succ' 2 n in omega arith
-    go false h = let e : 2 ^ suc n ≡ 2 * 2 ^ n = pow-succ' 2 n in omega arith
-
 -- `differs` and `agrees`
 pub differs-is : (before after : List ℤ) (k : ℕ) (x y : ℤ) (b : Bool) → x ≡ getD before k (pos 0) → y ≡ getD after k (pos 0) → b ≡ eqZ x y
     → not b ≡ differs before after k
@@ -156,7 +147,7 @@ noted-start f most n h = record { is = refl; low = omega arith; few = h }
 
 module _ (f : ℕ → Bool) (most n k s : ℕ) (h : Noted f most n k s) where
   pub noted-room : k < n → most ≤ 64 → (k < 64) × (s < 2 ^ k)
-  noted-room l m = (omega arith, rw (h .is) (mask-below f k))
+  noted-room l m = (omega arith, rw (h .is) (mask-small f k))
 
   pub noted-step : k < n → (b : Bool) → b ≡ f k → (r : ℕ) → r ≡ withBit s k b → Noted f most n (k + 1) r
   unfolding mask withBit
@@ -166,7 +157,7 @@ module _ (f : ℕ → Bool) (most n k s : ℕ) (h : Noted f most n k s) where
   noted-fits width m =
       let p : k ≤ width = omega arith in
       let q : 2 ^ k ≤ 2 ^ width = pow-mono p in
-      let r : s < 2 ^ k = rw (h .is) (mask-below f k) in
+      let r : s < 2 ^ k = rw (h .is) (mask-small f k) in
       omega arith
 
   noted-done : n ≤ k → s ≡ mask f n

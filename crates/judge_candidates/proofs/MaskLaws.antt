@@ -4,11 +4,9 @@ use mathlib.Core.Bool.{Bool, true, false, not, _&&_, _||_, and-true, and-false}
 use mathlib.Core.List.{List, [], _∷_, map}
 use Prim.Native.Nat.{ℕ, zero, suc, _+_, _-_, _^_, _≤_, _<_}
 use native.Mathlib.Omega.{arith}
-use native.Mathlib.Nat.{div-eq-of-lt}
 use lib.ListN.{length}
 use lib.Dec.{eqb, leb}
-use lib.Pow.{pow-mono}
-use borrow.Author.Tests.{leb-true, leb-false, eqb-true, eq-eqb, ne-eqb}
+use borrow.Author.Tests.{leb-true, leb-false, eqb-true, eq-eqb}
 use Rattle.model.specs.Basic.{every, exists}
 use Rattle.model.specs.Bounds.{maxVariables, maxAutomata}
 use Rattle.model.specs.Predicate.{Word, words, Named, nothing, theOld, theNew, named, isNewOf, mentions}
@@ -18,17 +16,12 @@ use Rattle.model.specs.Limits.{inRange}
 use Rattle.model.specs.Table.{code, bit}
 use Rattle.model.proofs.Tests.{and-left, and-right}
 use Rattle.model.proofs.Decode.{word-back}
-use Rattle.judge_cover.proofs.BitLaws.{bit-under, bit-top}
+use Rattle.table_tree.proofs.SetLaws.{bit-above}
 use Rattle.judge_search.specs.Search.{unmoved}
 use Rattle.judge_search.specs.Masks.{mask, restMask, changedMask}
+use Rattle.judge_search.proofs.MaskLaws.{mask-small, bit-mask}
 use Rattle.judge_candidates.specs.Bits.{clear, allVariables, leftOut, restOf, differs, changedBits, agrees, stillBits}
 use Rattle.table_places.proofs.CodeLaws.{at-most-all}
-use Rattle.judge_candidates.proofs.BitsLaws.{mask-below}
-
--- bits past a word's end
-bit-past : (x k : ℕ) → x < 2 ^ k → bit x k ≡ false
-unfolding bit
-bit-past x k h = rw (div-eq-of-lt h)
 
 -- a set by its highest number
 module _ (f : ℕ → Bool) (n : ℕ) where
@@ -47,23 +40,6 @@ mask-same f g (suc n) h = go (f n) refl (h n (omega arith)) (mask-same f g n (λ
     go : (b : Bool) → f n ≡ b → f n ≡ g n → mask f n ≡ mask g n → mask f (suc n) ≡ mask g (suc n)
     go true e s ih = mask-in f n e ∙ ap (λ m. 2 ^ n + m) ih ∙ sym (mask-in g n (sym s ∙ e))
     go false e s ih = mask-out f n e ∙ ih ∙ sym (mask-out g n (sym s ∙ e))
-
--- bit k of a set says whether k is in it
-pub mask-bit : (f : ℕ → Bool) (n k : ℕ) → k < n → bit (mask f n) k ≡ f k
-mask-bit f zero k h = absurd (omega arith)
-mask-bit f (suc n) k h = go (f n) refl (leb n k) refl (mask-bit f n k)
-  where
-    go : (b : Bool) → f n ≡ b → (c : Bool) → leb n k ≡ c → (k < n → bit (mask f n) k ≡ f k) → bit (mask f (suc n)) k ≡ f k
-    go true e true l ih =
-        let m = leb-true n k l in
-        let z : k ≡ n = omega arith in
-        rw (z, mask-in f n e) (bit-top (mask f n) n (mask-below f n) ∙ sym e)
-    go true e false l ih = let m = leb-false n k l in rw (mask-in f n e) (bit-under (mask f n) n k m ∙ ih m)
-    go false e true l ih =
-        let m = leb-true n k l in
-        let z : k ≡ n = omega arith in
-        rw (z, mask-out f n e) (bit-past (mask f n) n (mask-below f n) ∙ sym e)
-    go false e false l ih = rw (mask-out f n e) (ih (leb-false n k l))
 
 -- a set without a number
 abbrev without : (ℕ → Bool) → ℕ → ℕ → Bool
@@ -113,17 +89,15 @@ clear-mask f n k = go (leb n k) refl (f k) refl
     go : (c : Bool) → leb n k ≡ c → (b : Bool) → f k ≡ b → clear (mask f n) k ≡ mask (without f k) n
     go true l b e =
         let m = leb-true n k l in
-        let p : 2 ^ n ≤ 2 ^ k = pow-mono m in
-        let q = mask-below f n in
-        clear-out (mask f n) k (bit-past (mask f n) k (omega arith)) ∙
+        clear-out (mask f n) k (bit-above (mask f n) n k (mask-small f n) m) ∙
         sym (mask-same (without f k) f n (λ j i. without-other f k j (λ z. absurd (omega arith))))
     go false l true e =
         let m = leb-false n k l in
         let w = mask-without f n k m e in
-        clear-in (mask f n) k (mask-bit f n k m ∙ e) ∙ omega arith
+        clear-in (mask f n) k (bit-mask f n k m ∙ e) ∙ omega arith
     go false l false e =
         let m = leb-false n k l in
-        clear-out (mask f n) k (mask-bit f n k m ∙ e) ∙
+        clear-out (mask f n) k (bit-mask f n k m ∙ e) ∙
         sym (mask-same (without f k) f n (λ j i. without-other f k j (λ z. ap f z ∙ e)))
 
 -- One node word: the words other than `nK` leave the set as it is.
@@ -176,4 +150,4 @@ pub still-bit : (s t : State) (k : ℕ) → length (s .locations) ≤ maxAutomat
     → bit (stillBits (s .locations) (t .locations)) k ≡ unmoved s t k
 unfolding stillBits agrees unmoved
 still-bit s t k h l =
-    rw (← at-most-all maxAutomata (length (s .locations)) h) (mask-bit (agrees (s .locations) (t .locations)) (length (s .locations)) k l)
+    rw (← at-most-all maxAutomata (length (s .locations)) h) (bit-mask (agrees (s .locations) (t .locations)) (length (s .locations)) k l)

@@ -1,6 +1,6 @@
 -- On a sheet's words, `gather` gives the search what it is to be given: each automaton's candidates, by their masks.
 use mathlib.Core.Path.{_≡_, refl, sym, ap, _∙_}
-use mathlib.Core.List.{List, [], _∷_, _++_, map, List·Memᴰ, List·Memᴰ·head, List·Memᴰ·tail}
+use mathlib.Core.List.{List, [], _∷_, _++_, map, List·Memᴰ}
 use mathlib.Core.Bool.{Bool, true, false}
 use Prim.Native.Nat.{ℕ, zero, suc, _+_, _-_, _≤_, _<_}
 use native.Mathlib.Omega.{arith}
@@ -19,11 +19,12 @@ use Rattle.model.specs.Moves.{under}
 use Rattle.model.specs.Rules.{State}
 use Rattle.model.specs.Table.{code, sheetWords}
 use Rattle.arithmetic.specs.Values.{Inside}
+use Rattle.evaluator.proofs.Items.{item-in}
 use Rattle.evaluator.proofs.Meaning.{evaluate-lawful}
 use Rattle.evaluator.proofs.FewNodes.{update-nodes}
 use Rattle.table_places.specs.Outline.{firstEdge, edgesAt, automatonAt}
 use Rattle.table_places.specs.Layout.{layoutOf, automataOf}
-use Rattle.table_places.proofs.OutlineLaws.{automatonWords, edge-count, first-edge}
+use Rattle.table_places.proofs.OutlineLaws.{edge-count, first-edge}
 use Rattle.table_places.proofs.Standing.{automaton-stands}
 use Rattle.table_places.proofs.LayoutLaws.{all-automata, edges-place}
 use Rattle.judge_search.specs.Search.{isCandidate, candidates}
@@ -32,11 +33,6 @@ use Rattle.judge_candidates.specs.Walk.{kept, Gathering, gathering, legO
 use Rattle.judge_candidates.proofs.EdgeLaws.{Said, Added, automaton-added}
 
 module _ {A : Type 0} where
-  item-in : (l : List A) (k : ℕ) (d : A) → k < length l → List·Memᴰ (getD l k d) l
-  item-in [] k d h = absurd (omega arith)
-  item-in (x ∷ l) zero d h = List·Memᴰ·head refl
-  item-in (x ∷ l) (suc k) d h = List·Memᴰ·tail (item-in l k d (omega arith))
-
   keep-fewer : (f : A → Bool) (l : List A) → length (keep f l) ≤ length l
   unfolding keep
   keep-fewer f [] = omega arith

@@ -1,5 +1,5 @@
--- The walk over all edges of a table that gathers those which can be taken, by the places of a layout. On a sheet's words and its layout it
--- gives what the search is to be given: the law gather-offers.
+-- The walk over all edges of a table that gathers those which can be taken, by the places of a layout. On a sheet's
+-- words and its layout it gives what the search is to be given: the law gather-offers.
 use mathlib.Core.Bool.{Bool, true, false, _&&_}
 use mathlib.Core.List.{List}
 use Prim.Native.Nat.{ℕ, zero, suc, _+_}
@@ -62,7 +62,9 @@ module _ (t : List ℕ) (before after : List ℤ) where
   unfoldable pub edgeOn : Leg → Walk → Walk
   edgeOn leg w =
       elim (ltb (w .count) maxEdges && takesAt leg (w .next)) [
-        | true ↦ walk (set (w .masks) (w .count) (restAt t (w .next))) (afterPredicate t (updatePlace t (w .next))) (w .count + 1)
+        | true ↦
+            walk (set (w .masks) (w .count) (restAt t (w .next)))
+            (afterPredicate t (updatePlace t (w .next))) (w .count + 1)
         | false ↦ walk (w .masks) (afterPredicate t (updatePlace t (w .next))) (w .count)
       ]
 

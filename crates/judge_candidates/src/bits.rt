@@ -3,7 +3,8 @@ use node_words::Node;
 ghost use mathlib.Core.Path.{_≡_};
 ghost use Prim.Native.Nat.{_^_, _<_};
 ghost use lib.ListN.{take, drop};
-ghost use Rattle.judge_candidates.specs.Bits.{clear, withBit, leftOut, restOf, allVariables, differs, changedBits, agrees, stillBits};
+ghost use Rattle.judge_candidates.specs.Bits.{clear, withBit, leftOut, restOf, allVariables};
+ghost use Rattle.judge_candidates.specs.Bits.{differs, changedBits, agrees, stillBits};
 
 // All 48 variables.
 const ALL: u64 = 281474976710655;

@@ -2,7 +2,8 @@
 use crate::bits::{self};
 use table_places::Layout;
 ghost use mathlib.Core.Path.{_≡_};
-ghost use Rattle.judge_candidates.specs.Walk.{walk, kept, fitsAt, takesAt, restAt, edgeOn, edgesFrom, automatonOn, legOf, masksAfter, firstAfter};
+ghost use Rattle.judge_candidates.specs.Walk.{walk, kept, fitsAt, takesAt, restAt, edgeOn, edgesFrom};
+ghost use Rattle.judge_candidates.specs.Walk.{automatonOn, legOf, masksAfter, firstAfter};
 
 // What a step asks of an automaton's edge: from where it leads, its action, and where to.
 pub struct Leg {
@@ -58,7 +59,8 @@ fn edge(
     count: usize,
 ) -> Reached
     ensures { λ r. ⌜ walk (now (masks .exit)) (r .next) (r .count)
-        ≡ edgeOn (now (words .entry)) (now (before .entry)) (now (after .entry)) leg (walk (now (masks .entry)) at count) ⌝ }
+        ≡ edgeOn (now (words .entry)) (now (before .entry)) (now (after .entry)) leg
+        (walk (now (masks .entry)) at count) ⌝ }
 {
     let next = table_places::after_predicate(words, table_places::update_at(words, at));
     if model::Model::EDGES <= count {
@@ -86,7 +88,8 @@ fn edges(
     count: usize,
 ) -> Reached
     ensures { λ r. ⌜ walk (now (masks .exit)) (r .next) (r .count)
-        ≡ edgesFrom (now (words .entry)) (now (before .entry)) (now (after .entry)) leg number (walk (now (masks .entry)) at count) ⌝ }
+        ≡ edgesFrom (now (words .entry)) (now (before .entry)) (now (after .entry)) leg number
+        (walk (now (masks .entry)) at count) ⌝ }
 {
     let mut left = number;
     let mut next = at;
@@ -114,7 +117,8 @@ fn automaton(
     count: usize,
 ) -> usize
     ensures { λ r. ⌜ kept (now (masks .exit)) r
-        ≡ automatonOn (now (words .entry)) (now (before .entry)) (now (after .entry)) leg place (kept (now (masks .entry)) count) ⌝ }
+        ≡ automatonOn (now (words .entry)) (now (before .entry)) (now (after .entry)) leg place
+        (kept (now (masks .entry)) count) ⌝ }
 {
     let number = table_places::word(words, place);
     let start = table_places::first_edge(words, place);
@@ -133,8 +137,9 @@ fn leg_of(old: &[u32], new: &[u32], action: u32, k: usize) -> Leg
     }
 }
 
-// For each automaton, the edges that it can take under the action: from its old location to its new one, with an update that holds. Each
-// as the mask of the variables that the update does not mention. Automaton k's stand in masks[first[k]..first[k + 1]].
+// For each automaton, the edges that it can take under the action: from its old location to its new one, with an update
+// that holds. Each as the mask of the variables that the update does not mention. Automaton k's stand in
+// masks[first[k]..first[k + 1]].
 pub fn gather(
     words: &[u32],
     x: Layout,
@@ -147,11 +152,11 @@ pub fn gather(
     first: &mut [usize; 17],
 )
     ensures { λ _. ⌜ now (masks .exit)
-        ≡ masksAfter (now (words .entry)) (now (before .entry)) (now (after .entry)) x (now (old .entry)) (now (new .entry)) action
-        (now (masks .entry)) (now (first .entry)) ⌝ }
+        ≡ masksAfter (now (words .entry)) (now (before .entry)) (now (after .entry)) x (now (old .entry))
+        (now (new .entry)) action (now (masks .entry)) (now (first .entry)) ⌝ }
     ensures { λ _. ⌜ now (first .exit)
-        ≡ firstAfter (now (words .entry)) (now (before .entry)) (now (after .entry)) x (now (old .entry)) (now (new .entry)) action
-        (now (masks .entry)) (now (first .entry)) ⌝ }
+        ≡ firstAfter (now (words .entry)) (now (before .entry)) (now (after .entry)) x (now (old .entry))
+        (now (new .entry)) action (now (masks .entry)) (now (first .entry)) ⌝ }
 {
     let automata = table_places::automata_of(x);
     let edges = x.edges;

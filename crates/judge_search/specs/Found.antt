@@ -1,5 +1,6 @@
 -- The search over plain data. On a step's data it says whether some move fits the step: the law found-is.
--- Automata are named by a set, bit k for automaton k; candidates by the masks of the variables that their updates do not mention.
+-- Automata are named by a set, bit k for automaton k; candidates by the masks of the variables that their updates do
+-- not mention.
 use Prim.Native.Nat.{ℕ, zero, suc, _+_, _*_, _/_, _%_, _^_}
 use mathlib.Core.Bool.{Bool, true, false, _&&_, _||_}
 use mathlib.Core.List.{List}
@@ -12,8 +13,8 @@ use Rattle.table_tree.specs.Nodes.{nodeAt, skipFrom}
 use Rattle.table_tree.specs.Members.{inSetAt}
 use Rattle.judge_cover.specs.Cover.{coverable, groupsOf}
 
--- The duties are subtrees that stand one after the other from a place on. What each must do is a bit of a number, from the
--- lowest on: 1 takes the action, 0 rests. A last 1 stands above them.
+-- The duties are subtrees that stand one after the other from a place on. What each must do is a bit of a number, from
+-- the lowest on: 1 takes the action, 0 rests. A last 1 stands above them.
 abbrev pub maxDuties : ℕ
 maxDuties = 2 ^ 62
 
@@ -34,7 +35,8 @@ takenBy S next duties k takers =
     ]
 
 -- a `par` whose sides stand from `next` on; no tree has too many duties
-unfoldable pub partedAt : (words sets : List ℕ) (action : ℕ) (S : (at duties takers : ℕ) → Bool) (next duties takers : ℕ) → Bool
+unfoldable pub partedAt : (words sets : List ℕ) (action : ℕ) (S : (at duties takers : ℕ) → Bool)
+    → (next duties takers : ℕ) → Bool
 partedAt words sets action S next duties takers =
     elim (ltb (duties / 2) maxDuties) [
       | false ↦ false
@@ -42,7 +44,8 @@ partedAt words sets action S next duties takers =
           elim (eqb (duties % 2) 0) [
             | true ↦ S next (duties / 2 * 4) takers
             | false ↦
-                sharedBits (inSetAt words sets action next) (inSetAt words sets action (skipFrom words maxTreeNodes 1 next))
+                sharedBits (inSetAt words sets action next)
+                (inSetAt words sets action (skipFrom words maxTreeNodes 1 next))
                 (λ b. S next (duties / 2 * 4 + b) takers)
           ]
     ]
@@ -63,7 +66,8 @@ module _ (words sets : List ℕ) (action : ℕ) (masks first : List ℕ) (still 
       ]
   seekBy S duties takers Stray = false
 
-  -- Can the duties from `at` on be done, so that all takers together cover the changed variables? They have at most `left` nodes.
+  -- Can the duties from `at` on be done, so that all takers together cover the changed variables? They have at most
+  -- `left` nodes.
   unfoldable pub seekAt : (left at duties takers : ℕ) → Bool
   seekAt zero at duties takers = elim (leb duties 1) [ true ↦ coveredBy takers | false ↦ false ]
   seekAt (suc n) at duties takers =
@@ -73,5 +77,7 @@ module _ (words sets : List ℕ) (action : ℕ) (masks first : List ℕ) (still 
       ]
 
 -- the one duty at first: the tree takes the action
-unfoldable pub foundIn : (words : List ℕ) (at : ℕ) (sets : List ℕ) (action : ℕ) (masks first : List ℕ) (still changed : ℕ) → Bool
-foundIn words at sets action masks first still changed = seekAt words sets action masks first still changed maxTreeNodes at 3 0
+unfoldable pub foundIn : (words : List ℕ) (at : ℕ) (sets : List ℕ) (action : ℕ) (masks first : List ℕ)
+    → (still changed : ℕ) → Bool
+foundIn words at sets action masks first still changed =
+    seekAt words sets action masks first still changed maxTreeNodes at 3 0

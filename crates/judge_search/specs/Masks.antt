@@ -24,8 +24,8 @@ restMask e = mask (λ k. not (mentions k (e .update))) maxVariables
 unfoldable pub changedMask : Model → State → State → ℕ
 changedMask m s t = mask (λ k. not (eqZ (val s k) (val t k))) (length (m .variables))
 
--- What the search is given, for a step from s to t under action a: automaton k's candidates are the masks from the place
--- `first` k up to the place `first` (k + 1).
+-- What the search is given, for a step from s to t under action a: automaton k's candidates are the masks from the
+-- place `first` k up to the place `first` (k + 1).
 pub record Offers (m : Model) (s : State) (a : ℕ) (t : State) (masks first : List ℕ) : Type 0 where
   pub rising : (k : ℕ) → k < length (m .automata) → getD first k 0 ≤ getD first (suc k) 0
   pub inside : getD first (length (m .automata)) 0 ≤ length masks

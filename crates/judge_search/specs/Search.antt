@@ -1,5 +1,6 @@
--- The step judge's search: does some move of the composition fit the step? It lists no moves. The tree says which automata can take
--- the action together, and for each such set of takers it is asked whether they can cover the changed variables. (The law search-is.)
+-- The step judge's search: does some move of the composition fit the step? It lists no moves. The tree says which
+-- automata can take the action together, and for each such set of takers it is asked whether they can cover the changed
+-- variables. (The law search-is.)
 use Prim.Native.Nat.{ℕ}
 use mathlib.Core.Bool.{Bool, true, false, not, _&&_}
 use mathlib.Core.List.{List, [], _∷_, _++_, map, flatMap}
@@ -50,8 +51,8 @@ ways false false both left right = left ++ right
 
 -- from state s to state t under action a
 module _ (m : Model) (s : State) (a : ℕ) (t : State) where
-  -- the edges that automaton k can take: its edges under the action whose updates hold and that lead from its old location to
-  -- its new one, in file order
+  -- the edges that automaton k can take: its edges under the action whose updates hold and that lead from its old
+  -- location to its new one, in file order
   unfoldable pub isCandidate : ℕ → Edge → Bool
   isCandidate k e = updated s t (record { automaton = k; edge = e }) && led s t (record { automaton = k; edge = e })
 

@@ -1,6 +1,6 @@
-// The walk over the tree. Duties are subtrees that stand one after the other; bit by bit, from the lowest on, `duties` says what
-// each must do: 1 takes the action, 0 rests. A last 1 stands above them. Each call of `seek` uses up a tree node.
-// `takers` is the set of the automata that take the action so far.
+// The walk over the tree. Duties are subtrees that stand one after the other; bit by bit, from the lowest on, `duties`
+// says what each must do: 1 takes the action, 0 rests. A last 1 stands above them. Each call of `seek` uses up a tree
+// node. `takers` is the set of the automata that take the action so far.
 use table_tree::Found;
 ghost use mathlib.Core.Path.{_≡_};
 ghost use Prim.Native.Nat.{_≤_, _<_, _^_};
@@ -46,7 +46,8 @@ pub fn seek(
     duties: u64,
     takers: u64,
 ) -> bool
-    ensures { λ r. ⌜ r ≡ seekAt (now (words .entry)) (now (sets .entry)) (step .action) (now (masks .entry)) (now (first .entry)) (step .still) (step .changed) left at duties takers ⌝ }
+    ensures { λ r. ⌜ r ≡ seekAt (now (words .entry)) (now (sets .entry)) (step .action) (now (masks .entry))
+        (now (first .entry)) (step .still) (step .changed) left at duties takers ⌝ }
 {
     if duties <= 1 {
         return judge_cover::covered(masks, first, takers, step.changed);
@@ -73,7 +74,8 @@ pub fn seek(
     }
 }
 
-// The first duty is a `par` whose sides stand from `at` on: both take the action, one does and the other rests, or both rest.
+// The first duty is a `par` whose sides stand from `at` on: both take the action, one does and the other rests, or both
+// rest.
 fn parted(
     words: &[u32],
     sets: &[u64],
@@ -86,7 +88,8 @@ fn parted(
     takers: u64,
 ) -> bool
     ensures { λ r. ⌜ r ≡ partedAt (now (words .entry)) (now (sets .entry)) (step .action)
-        (seekAt (now (words .entry)) (now (sets .entry)) (step .action) (now (masks .entry)) (now (first .entry)) (step .still) (step .changed) n) at duties takers ⌝ }
+        (seekAt (now (words .entry)) (now (sets .entry)) (step .action) (now (masks .entry)) (now (first .entry))
+        (step .still) (step .changed) n) at duties takers ⌝ }
 {
     if DUTIES <= duties / 2 {
         return false;
@@ -125,7 +128,8 @@ fn taken(
     k: usize,
 ) -> bool
     ensures { λ r. ⌜ r ≡ takenBy
-        (seekAt (now (words .entry)) (now (sets .entry)) (step .action) (now (masks .entry)) (now (first .entry)) (step .still) (step .changed) n) at duties k takers ⌝ }
+        (seekAt (now (words .entry)) (now (sets .entry)) (step .action) (now (masks .entry)) (now (first .entry))
+        (step .still) (step .changed) n) at duties k takers ⌝ }
 {
     if model::Model::AUTOMATA <= k {
         return false;

@@ -1,14 +1,14 @@
-// The search of the step judge for automata that can take a step. What it decides stands in specs/Search.antt, how it is
-// told in specs/Found.antt.
+// The search of the step judge for automata that can take a step. What it decides stands in specs/Search.antt, how it
+// is told in specs/Found.antt.
 mod duties;
 
 use crate::duties::Step;
 ghost use mathlib.Core.Path.{_≡_};
 ghost use Rattle.judge_search.specs.Found.{foundIn};
 
-// Can the tree's automata take the action so that every changed variable is mentioned? The tree's nodes stand from `at` on;
-// `sets` has the automata's own synchronising sets; automaton k's candidates are `masks[first[k] .. first[k + 1]]`, and bit k
-// of `still` says that it keeps its location.
+// Can the tree's automata take the action so that every changed variable is mentioned? The tree's nodes stand from `at`
+// on; `sets` has the automata's own synchronising sets; automaton k's candidates are `masks[first[k] .. first[k + 1]]`,
+// and bit k of `still` says that it keeps its location.
 pub fn found(
     words: &[u32],
     at: usize,
@@ -19,7 +19,8 @@ pub fn found(
     still: u32,
     changed: u64,
 ) -> bool
-    ensures { λ r. ⌜ r ≡ foundIn (now (words .entry)) at (now (sets .entry)) action (now (masks .entry)) (now (first .entry)) still changed ⌝ }
+    ensures { λ r. ⌜ r ≡ foundIn (now (words .entry)) at (now (sets .entry)) action (now (masks .entry))
+        (now (first .entry)) still changed ⌝ }
 {
     let step = Step {
         action,

@@ -12,7 +12,7 @@ use lib.Dec.{leb, leb→le}
 use Rattle.text_bytes.specs.declared.answer.Written.{Written}
 use Rattle.text_bytes.specs.declared.answer.Written.the-variants.{To, Full}
 use Rattle.text_bytes.specs.Write.{fits, writtenTo, Wrote}
-use Rattle.judge_call.proofs.Filled.{Filling}
+use Rattle.judge_rows.proofs.Filled.{Filling}
 
 pub padded-long : (words all : List ℕ) (i : ℕ) → Filling tableWords 0 words all i → tableWords ≡ length all
 padded-long words all i f = sym (f .size)

@@ -3,7 +3,7 @@ use model::Model;
 ghost use mathlib.Core.Path.{_≡_};
 ghost use lib.ListN.{length, getD};
 ghost use Rattle.model.specs.Bounds.{tableWords};
-ghost use Rattle.judge_call.specs.States.{filled};
+ghost use Rattle.judge_rows.specs.States.{filled};
 
 // sheets/oven.txt: door, steam, and v0 the valve. Both share action 1.
 const OVEN: [u32; 51] = [

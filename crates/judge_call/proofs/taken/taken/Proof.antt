@@ -1,5 +1,5 @@
 -- `judge_call::taken::taken` meets its contract: the parts of the arrays are those of the definition.
-use Rattle.judge_call.proofs.CodeLaws.{front-fits, front-whole}
+use Rattle.judge_rows.proofs.Filled.{front-fits, front-whole}
 use Rattle.judge_call.proofs.TakenLaws.{taken-at}
 use borrow.Author.Needs.{needs}
 use Rattle.judge_call.proofs.taken.taken.Statement.{statement}

@@ -1,7 +1,7 @@
 -- `try_oven::sheets::padded` meets its contract: the first i words are in place. The measure is the words left.
 use Prim.Native.Nat.{_-_}
 use Rattle.model.specs.Bounds.{tableWords}
-use Rattle.judge_call.proofs.Filled.{Filling, fill-laws}
+use Rattle.judge_rows.proofs.Filled.{Filling, fill-laws}
 use Rattle.try_oven.proofs.CaseLaws.{padded-long}
 use borrow.Author.Needs.{needs}
 use Rattle.try_oven.proofs.sheets.padded.Statement.{statement}

@@ -1,0 +1,5 @@
+pub mod Phases
+pub mod States
+pub mod Each
+pub mod RowTests
+pub mod Checks
