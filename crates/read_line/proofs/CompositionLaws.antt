@@ -17,7 +17,7 @@ use Rattle.model.proofs.Tests.{not-false}
 use Rattle.line_order.specs.declared.Counts.{Counts}
 use Rattle.line_order.specs.Due.{numberOf}
 use Rattle.line_order.specs.Counts.{nodesOf, Counted}
-use Rattle.line_order.specs.Counts.{capped}
+use Rattle.table_check.specs.Line.{capped}
 use Rattle.table_check.proofs.NumberLines.{rises-capped}
 use Rattle.format.specs.Bytes.{Bytes, bytes, parts, comma}
 use Rattle.format.specs.Rows.{fault, entry, field, fields, hasPred, is, numbersSound, place, theTree, treeTokens, nodesIn, treeOf, valueOf, row2, row3, row4, row5, row6, row7, row8, row9, row10, row11, row12, row13, row14, row15, row16}

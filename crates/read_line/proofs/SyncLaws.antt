@@ -16,7 +16,7 @@ use Rattle.model.proofs.Tests.{and-intro, not-false}
 use Rattle.line_order.specs.declared.Counts.{Counts}
 use Rattle.line_order.specs.Due.{numberOf}
 use Rattle.line_order.specs.Counts.{nodesOf, Counted}
-use Rattle.line_order.specs.Counts.{capped}
+use Rattle.table_check.specs.Line.{capped}
 use Rattle.table_check.proofs.NumberLines.{rises-capped}
 use Rattle.format.specs.Bytes.{Bytes, bytes}
 use Rattle.format.specs.Number.{within, naturalOf}

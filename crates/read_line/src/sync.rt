@@ -5,7 +5,7 @@ use line_order::Counts;
 use model::Model;
 use table_append::append_one;
 ghost use mathlib.Core.Path.{_≡_};
-ghost use Rattle.line_order.specs.Counts.{capped};
+ghost use Rattle.table_check.specs.Line.{capped};
 ghost use Rattle.read_line.specs.Sync.{syncRead, syncAfter};
 
 // A, or 63: no list holds more.
