@@ -29,14 +29,14 @@ use Rattle.merge_moves.proofs.Plans.{Told}
 use Rattle.merge_moves.proofs.Whole.{plan-is, pick-is, pick-there}
 use Rattle.table_places.specs.Outline.{reach, afterPredicate, edgesAt, afterAutomaton, automatonAt, treeAt}
 use Rattle.table_places.proofs.OutlineLaws.{read, reached, wordsOf, edgeWords, automatonWords, words-append, after-predicate, edges-at, after-automaton}
-use Rattle.merge_words.specs.Append.{narrow}
-use Rattle.merge_words.specs.NodeWords.{most, capped}
+use Rattle.merge_append.specs.Append.{narrow}
+use Rattle.merge_append.specs.NodeWords.{most, capped}
 use Rattle.merge_words.specs.Head.{automataOf}
 use Rattle.table_places.specs.AtMost.{atMost}
 use Rattle.merge_words.specs.MergedEdge.{isUnder, edgeWordsAt}
 use Rattle.merge_words.specs.MergedEdges.{oneMore, underFrom, underAt, countsFrom, countsOf, rootOf, cellsOf, moveTotal, picksOf, edgesFrom, edgesUnder, edgesOf}
 use Rattle.merge_words.specs.Sync.{ownSets}
-use Rattle.merge_words.proofs.NodeLaws.{capped-is}
+use Rattle.merge_append.proofs.NodeLaws.{capped-is}
 use Rattle.merge_words.proofs.EdgeLaws.{at-most-is}
 use Rattle.merge_words.proofs.AllEdgesLaws.{more-here, more-not}
 use Rattle.merge_table.proofs.Standing.{narrow-is, automata-cons, edges-stand}

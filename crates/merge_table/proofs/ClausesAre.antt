@@ -18,18 +18,18 @@ use Rattle.model.specs.Lines.{locationLines, automatonLines, composeLine}
 use Rattle.model.specs.Table.{code, predWords, lineWords, sheetWords}
 use Rattle.model.specs.Linear.{pointer, atLocations, atAutomata, mergedInit, mergedInv}
 use Rattle.model.proofs.LinearLimits.{preds-count, locations-length, automata-length}
-use Rattle.table_places.specs.Outline.{reach, afterPredicate, afterAutomaton, automatonAt}
+use Rattle.table_places.specs.Outline.{reach, nodesPlace, afterPredicate, afterAutomaton, automatonAt}
 use Rattle.table_places.proofs.OutlineLaws as O
 use Rattle.table_places.proofs.OutlineLaws.{locationWords, automatonWords, after-automaton, after-predicate}
 use Rattle.node_words.specs.declared.Node.the-variants.{All, Number, Old}
 use Rattle.node_words.specs.Nodes.{wordFor}
 use Rattle.node_words.proofs.NodeLaws.{unbiased-up, all-held, old-held, number-held}
-use Rattle.merge_words.specs.Append.{narrow}
-use Rattle.merge_words.specs.Runs.{nodesAt}
-use Rattle.merge_words.specs.NodeWords.{upward, allNode, numberNode, oldNode, pointerOf, most, capped}
+use Rattle.merge_append.specs.Append.{narrow}
+use Rattle.merge_append.specs.Runs.{nodesAt}
+use Rattle.merge_append.specs.NodeWords.{upward, allNode, numberNode, oldNode, pointerOf, most, capped}
 use Rattle.merge_words.specs.Head.{variablesOf, automataOf}
 use Rattle.merge_words.specs.Clauses.{partAt, clauseWords, locationClauses, automatonClauses, automataClauses, locationNodes, automataNodes, locationTotal, mergedNodes, mergedWords}
-use Rattle.merge_words.proofs.NodeLaws.{capped-over, capped-is}
+use Rattle.merge_append.proofs.NodeLaws.{capped-over, capped-is}
 use Rattle.merge_table.proofs.Standing.{narrow-is, run-length, count-stands, nodes-stand, automata-cons, locations-number, locations-stand}
 use Rattle.merge_table.proofs.HeadIs.{pointer-sum, upward-small, variables-are, automata-are, automata-stand, few-locations}
 
@@ -57,7 +57,7 @@ capped-add a b = go (leb a most) refl
 -- a clause's nodes are its four and the predicate's
 clause-length : (t : List ℕ) (k j part : ℕ) → length (clauseWords t k j part) ≡ 4 + getD t part 0
 unfolding clauseWords nodesAt
-clause-length t k j part = omega (arith, run-length t (reach t part 1) (getD t part 0))
+clause-length t k j part = omega (arith, run-length t (nodesPlace t part) (getD t part 0))
 
 -- On any words: the count of the nodes is the number of words.
 module _ (t : List ℕ) (inv : Bool) where

@@ -21,11 +21,11 @@ use Rattle.merge_moves.specs.declared.planning.Planned.{Planned}
 use Rattle.merge_moves.specs.Capping as M
 use Rattle.merge_moves.proofs.CappingLaws.{cap-small, cap-large}
 use Rattle.merge_moves.proofs.Whole.{plan-is}
-use Rattle.merge_words.specs.NodeWords.{pointerOf, most, capped}
+use Rattle.merge_append.specs.NodeWords.{pointerOf, most, capped}
 use Rattle.merge_words.specs.Head.{variablesOf, automataOf}
 use Rattle.merge_words.specs.MergedEdges.{countsOf, rootOf, moveTotal, movesOf}
 use Rattle.merge_words.specs.Sync.{ownSets}
-use Rattle.merge_words.proofs.NodeLaws.{capped-over, capped-is}
+use Rattle.merge_append.proofs.NodeLaws.{capped-over, capped-is}
 use Rattle.merge_table.proofs.HeadIs.{pointer-sum, variables-are, automata-are}
 use Rattle.merge_table.proofs.SyncIs.{root-stands}
 use Rattle.merge_table.proofs.AllEdgesAre.{told}

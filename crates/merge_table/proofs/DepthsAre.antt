@@ -18,9 +18,9 @@ use Rattle.model.proofs.Decode.{words-back}
 use Rattle.table_places.specs.Outline.{reach}
 use Rattle.table_places.proofs.OutlineLaws.{read, reached}
 use Rattle.merge_words.specs.declared.depth.Depth.{Depth}
-use Rattle.merge_words.specs.NodeWords.{most, capped}
+use Rattle.merge_append.specs.NodeWords.{most, capped}
 use Rattle.merge_words.specs.Depths.{arity, operandsOf, depthTo, greater, deepest, depthAt, isDeeper}
-use Rattle.merge_words.proofs.NodeLaws.{capped-is}
+use Rattle.merge_append.proofs.NodeLaws.{capped-is}
 
 -- a predicate whose words say it, at most as deep as it may be
 pub record Readable (p : Pred) : Type 0 where

@@ -26,16 +26,16 @@ use Rattle.model.proofs.Lists.{keep-out}
 use Rattle.model.proofs.LinearLimits.{preds-count, pointers-length}
 use Rattle.table_places.specs.Outline.{reach, nodesPlace, afterPredicate, edgesAt, afterAutomaton, automatonAt}
 use Rattle.table_places.proofs.OutlineLaws.{read, reached, wordsOf as linesOf, edgeWords, automatonWords, after-predicate, sheet-parts, edges-at, after-automaton}
-use Rattle.merge_words.specs.Runs.{nodesAt}
+use Rattle.merge_append.specs.Runs.{nodesAt}
 use Rattle.node_words.specs.declared.Node.the-variants.{New}
 use Rattle.node_words.specs.Nodes.{wordFor}
 use Rattle.node_words.proofs.NodeLaws.{new-held}
-use Rattle.merge_words.specs.NodeWords.{allNode, numberNode, oldNode, newNode, pointerOf, most, capped}
+use Rattle.merge_append.specs.NodeWords.{allNode, numberNode, oldNode, newNode, pointerOf, most, capped}
 use Rattle.merge_words.specs.Head.{variablesOf, automataOf}
 use Rattle.merge_words.specs.Depths.{updateDeep, updatesDeep}
 use Rattle.table_places.specs.AtMost.{atMost}
 use Rattle.merge_words.specs.MergedEdge.{isUnder, still, edgeUnder, takenAt, takenFrom, takers, updateAt, moveAt, updatesAt, movesAt, takerNodes, takersNodes, takerOperands, takersOperands, edgeBy, edgeWordsAt}
-use Rattle.merge_words.proofs.NodeLaws.{capped-is}
+use Rattle.merge_append.proofs.NodeLaws.{capped-is}
 use Rattle.merge_words.proofs.EdgeLaws.{at-most-is}
 use Rattle.merge_table.proofs.Standing.{narrow-is, run-length, nodes-stand, automata-cons, edges-stand}
 use Rattle.merge_table.proofs.HeadIs.{pointer-sum, variables-are, automata-are, automata-stand}
@@ -288,7 +288,7 @@ moves-size t k place sum h = go (eqb place 0) refl
     go : (b : Bool) → eqb place 0 ≡ b → takerNodes t sum place ≡ capped (sum + (length (updateAt t place) + length (moveAt t k place)))
     go true q = rw (q, takerNodes, updateAt, moveAt) (capped-is sum h ∙ ap capped (omega arith))
     go false q =
-        let n = run-length t (reach t (reach t place 3) 1) (getD t (reach t place 3) 0) in
+        let n = run-length t (nodesPlace t (reach t place 3)) (getD t (reach t place 3) 0) in
         rw (q, takerNodes, updateAt, moveAt) (capped-add (sum + 6) (getD t (reach t place 3) 0) ∙ ap capped (omega arith))
 
 nodes-size : (t : List ℕ) (v i : ℕ) (places : List ℕ) (sum : ℕ) → sum ≤ most → takersNodes t sum places ≡ capped (sum + (length (updatesAt t places) + length (movesAt t v i places)))

@@ -15,9 +15,9 @@ use Rattle.model.specs.Table.{biased, lineWords, sheetWords}
 use Rattle.model.specs.Linear.{pointerRange, linear}
 use Rattle.table_places.specs.Outline.{reach, actionsIn, variablesIn, automataIn, afterAutomaton, countAt, automatonAt}
 use Rattle.table_places.proofs.OutlineLaws.{reached, wordsOf, automatonWords, words-append, after-automaton, sheet-parts, actions-in, variables-in, automata-in, automaton-at}
-use Rattle.merge_words.specs.Append.{narrow}
-use Rattle.merge_words.specs.Runs.{run}
-use Rattle.merge_words.specs.NodeWords.{upward, pointerOf}
+use Rattle.merge_append.specs.Append.{narrow}
+use Rattle.merge_append.specs.Runs.{run}
+use Rattle.merge_append.specs.NodeWords.{upward, pointerOf}
 use Rattle.merge_words.specs.Head.{variablesOf, automataOf, lastLocationAt, pointerRanges, headWords}
 use Rattle.merge_table.proofs.Standing.{narrow-is, run-is, automata-cons, locations-number}
 

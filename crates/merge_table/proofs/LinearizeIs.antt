@@ -5,8 +5,7 @@ use mathlib.Core.List.{List, _++_, map}
 use mathlib.Core.Option.{Option, none, some}
 use Prim.Native.Nat.{ℕ, suc, _+_, _≤_}
 use native.Mathlib.Omega.{arith}
-use lib.ListN.{length, replicate, length-replicate}
-use lib.Seq.{sets, length-sets}
+use lib.ListN.{length, replicate}
 use lib.Dec.{eqb, ltb}
 use borrow.Author.Tests.{le-leb, eq-eqb, ne-eqb}
 use Rattle.model.specs.Bounds.{maxEdges, maxNodes, tableWords}
@@ -20,7 +19,8 @@ use Rattle.table_check.specs.declared.Checked.{Checked}
 use Rattle.table_check.specs.declared.Checked.the-variants.{Good, Refused}
 use Rattle.table_check.specs.Check.{answered}
 use Rattle.merge_words.specs.declared.Linearization.{Linearization}
-use Rattle.merge_words.specs.Append.{narrow, placed, Appended}
+use Rattle.table_append.specs.Append.{put}
+use Rattle.merge_append.specs.Append.{narrow, placed, Appended}
 use Rattle.table_places.specs.AtMost.{atMost}
 use Rattle.merge_words.specs.MergedEdges.{movesOf}
 use Rattle.merge_words.specs.MergedSheet.{mergedSheet}
@@ -63,8 +63,7 @@ module _ (m : Model) (lawful : Lawful m) (t rest : List ℕ) (e : t ≡ sheetWor
   merges f g =
       let ws = mergedSheet t own counted (m .actions) in
       let zeros : List ℕ = replicate tableWords 0 in
-      let long : length (sets zeros 0 (map narrow ws)) ≡ tableWords = length-sets zeros 0 (map narrow ws) ∙ length-replicate {A = ℕ} tableWords 0 in
-      let there : Appended ws 0 zeros (sets zeros 0 (map narrow ws)) (placed 0 (length ws)) = record { next = refl; memory = refl; long = long } in
+      let there : Appended ws 0 zeros (put 0 (map narrow ws) zeros) (placed 0 (length ws)) = record { next = refl; memory = refl } in
       let table : sheetTable t own counted (m .actions) ≡ tableOf (linear m) = whole-table m lawful t rest e g _ _ there in
       let count : counted ≡ mergedCount m = count-exact m lawful t rest e (rows-kept m g .edges) in
       rw (eq-eqb (faultBy t own counted (m .actions)) 0 f, linearFor, g, linearModel) (ap₂ mergedTo count table)

@@ -16,7 +16,7 @@ use Rattle.model.specs.Table.{setWords, predWords, nodeWords, lineWords, sheetW
 use Rattle.model.specs.Moves.{moves, moveCount}
 use Rattle.model.specs.Linear.{mergedInit, mergedInv, mergedEdge, mergedEdges, linear}
 use Rattle.table_places.proofs.OutlineLaws.{wordsOf, edgeWords, words-append}
-use Rattle.merge_words.specs.NodeWords.{most}
+use Rattle.merge_append.specs.NodeWords.{most}
 use Rattle.merge_words.specs.Head.{headWords}
 use Rattle.merge_words.specs.Clauses.{mergedWords}
 use Rattle.merge_words.specs.Sync.{ownSets, syncBy, syncWords}

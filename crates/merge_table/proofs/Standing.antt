@@ -9,10 +9,10 @@ use Rattle.model.specs.Predicate.{Pred, words, nodeCount}
 use Rattle.model.specs.Model.{Automaton}
 use Rattle.model.specs.Lines.{automatonLines}
 use Rattle.model.specs.Table.{code, predWords}
-use Rattle.table_places.specs.Outline.{reach, locationCount, firstLocation, firstEdge, edgesAt}
+use Rattle.table_places.specs.Outline.{reach, nodesPlace, locationCount, firstLocation, firstEdge, edgesAt}
 use Rattle.table_places.proofs.OutlineLaws.{read, reached, wordsOf, locationWords, edgeWords, automatonWords, words-append, location-count, first-location, first-edge}
-use Rattle.merge_words.specs.Append.{narrow}
-use Rattle.merge_words.specs.Runs.{run, nodesAt}
+use Rattle.merge_append.specs.Append.{narrow}
+use Rattle.merge_append.specs.Runs.{run, nodesAt}
 
 pub narrow-is : (n : ℕ) → n < 4294967296 → narrow n ≡ n
 unfolding narrow
@@ -37,7 +37,7 @@ module _ (t : List ℕ) (at : ℕ) (p : Pred) (rest : List ℕ) (e : drop at t �
   count-stands = read t at (nodeCount p) (map code (words p) ++ rest) e
 
   pub nodes-stand : nodesAt t at ≡ map code (words p)
-  unfolding nodesAt predWords nodeCount
+  unfolding nodesAt predWords nodeCount nodesPlace
   nodes-stand =
       let nodes = map code (words p) in
       let a : drop (reach t at 1) t ≡ nodes ++ rest = reached t at 1 (length (words p) ∷ []) (nodes ++ rest) e refl in

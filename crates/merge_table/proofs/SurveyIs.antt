@@ -23,11 +23,11 @@ use Rattle.model.specs.Linear.{mergedInit, mergedInv, mergedEdge, mergedEdges, 
 use Rattle.model.proofs.Tests.{exists-append}
 use Rattle.model.proofs.Count.{moves-length}
 use Rattle.merge_words.specs.declared.survey.Survey.{Survey}
-use Rattle.merge_words.specs.NodeWords.{most, capped}
+use Rattle.merge_append.specs.NodeWords.{most, capped}
 use Rattle.merge_words.specs.Sync.{ownSets}
 use Rattle.merge_words.specs.MergedEdges.{cellsOf, placesOf}
 use Rattle.merge_words.specs.Survey.{surveyed, withEdge, surveyFrom, surveyUnder, surveyOf, surveyStart, surveyWhole}
-use Rattle.merge_words.proofs.NodeLaws.{capped-is, capped-over}
+use Rattle.merge_append.proofs.NodeLaws.{capped-is, capped-over}
 use Rattle.merge_table.proofs.ClausesAre.{capped-most, capped-add, init-nodes, inv-nodes}
 use Rattle.merge_table.proofs.EdgesAre.{edge-nodes}
 use Rattle.merge_table.proofs.DeepAre.{init-deep, inv-deep, edge-too-deep}

@@ -22,12 +22,12 @@ use Rattle.model.proofs.Count.{count-is}
 use Rattle.model.proofs.Decode.{unbroken}
 use Rattle.model.proofs.LinearLimits.{linear-lawful}
 use Rattle.model.proofs.Sizes.{words-fit}
-use Rattle.merge_words.specs.Append.{Appended}
-use Rattle.merge_words.specs.NodeWords.{most}
+use Rattle.merge_append.specs.Append.{Appended}
+use Rattle.merge_append.specs.NodeWords.{most}
 use Rattle.merge_words.specs.MergedEdges.{movesOf}
 use Rattle.merge_words.specs.MergedSheet.{mergedSheet}
 use Rattle.merge_words.specs.Sync.{ownSets}
-use Rattle.merge_words.proofs.AppendLaws.{appended-is}
+use Rattle.merge_append.proofs.AppendLaws.{appended-is}
 use Rattle.merge_table.proofs.EdgesAre.{drop-zeros}
 use Rattle.merge_table.proofs.CountIs.{count-exact, counts-few}
 use Rattle.merge_table.proofs.SheetIs.{sheet-words}
@@ -114,5 +114,5 @@ module _ (m : Model) (lawful : Lawful m) (t rest : List ℕ) (e : t ≡ sheetWor
       let law = linear-lawful m lawful unrefused in
       let room = words-fit (linear m) law in
       let there : Appended ws 0 (replicate tableWords 0) new r = subst (λ (l : List ℕ). Appended l 0 (replicate tableWords 0) new r) whole-words a in
-      let is = appended-is ws 0 (replicate tableWords 0) new r there (fits (linear m) law) (length-replicate {A = ℕ} tableWords 0) (omega arith) .1 in
+      let is = appended-is ws 0 (replicate tableWords 0) new r there (fits (linear m) law) (length-replicate {A = ℕ} tableWords 0) (omega arith) in
       is ∙ ap (λ (l : List ℕ). ws ++ l) (ap (λ n. drop n (replicate tableWords 0)) (zero-add (length ws)) ∙ drop-zeros (length ws) tableWords room)

@@ -7,13 +7,13 @@ use native.Mathlib.Omega.{arith}
 use native.Mathlib.Numerals.{sub-one, add-one}
 use lib.ListN.{length, getD, set, replicate, length-set}
 use lib.Seq.{sets}
-use Rattle.model.specs.Bounds.{maxAutomata, maxTreeNodes, tableWords}
+use Rattle.model.specs.Bounds.{maxAutomata, maxTreeNodes}
 use Rattle.table_places.specs.Outline.{nodesPlace, reach, afterPredicate, edgesAt, afterAutomaton, countAt, automatonAt}
 use Rattle.merge_moves.specs.declared.planning.Planned.{Planned}
 use Rattle.merge_moves.specs.Plan.{planAt, fillAt, PlansTree}
 use Rattle.merge_moves.specs.Pick.{pickAt}
-use Rattle.merge_words.specs.Append.{narrow, Appended}
-use Rattle.merge_words.specs.NodeWords.{capped}
+use Rattle.merge_append.specs.Append.{narrow, Appended}
+use Rattle.merge_append.specs.NodeWords.{capped}
 use Rattle.table_places.specs.AtMost.{atMost}
 use Rattle.merge_words.specs.MergedEdge.{isUnder, takers, edgeBy, edgeWordsAt}
 use Rattle.merge_words.specs.MergedEdges.{oneMore, underFrom, underAt, countsFrom, countsOf, rootOf, cellsOf, moveTotal, picksOf, placesOf, edgesFrom, edgesUnder, edgesOf, movesOf, Plans}
@@ -22,7 +22,7 @@ use Rattle.merge_words.specs.Head.{automataOf}
 use Rattle.table_places.specs.Layout.{layoutOf}
 use Rattle.merge_words.specs.Starts.{edgeStarts, underIn}
 use Rattle.merge_words.proofs.Ahead.{Ahead, ahead-begun, ahead-here, ahead-next, layout-root}
-use Rattle.merge_words.proofs.AppendLaws.{then, Underway, begun, on-by, ended}
+use Rattle.merge_append.proofs.AppendLaws.{then, Underway, begun, on-by, ended}
 use Rattle.merge_words.proofs.EdgeLaws.{at-most-few}
 
 -- `one_more`
@@ -143,9 +143,9 @@ unfolding edgeWordsAt placesOf
 edge-is t cells action k places at r old new el a = rw (← el) a
 
 -- `edges`
-pub edges-begun : (t cells : List ℕ) (action count at : ℕ) (old : List ℕ) → length old ≡ tableWords
+pub edges-begun : (t cells : List ℕ) (action count at : ℕ) (old : List ℕ)
     → Underway (edgesFrom t cells action 0 count) at old (edgesFrom t cells action 0 (count - 0)) at old
-edges-begun t cells action count at old h = let z : count - 0 ≡ count = omega arith in rw z (begun (edgesFrom t cells action 0 count) at old h)
+edges-begun t cells action count at old = let z : count - 0 ≡ count = omega arith in rw z (begun (edgesFrom t cells action 0 count) at old)
 
 module _ (t cells whole old now : List ℕ) (action at k count next : ℕ) (u : Underway whole at old (edgesFrom t cells action k (count - k)) next now) where
   pub edges-turn : k < count → (r : ℕ) (new : List ℕ) → Appended (edgeWordsAt t action (picksOf t cells k)) next now new r
@@ -166,8 +166,8 @@ unfolding edgesUnder
 action-is t own cells action a count at r old new p e h = rw (← p .cells-are, ← p .count-is) (rw e at h)
 
 -- `all_edges`
-pub all-begun : (t own : List ℕ) (last at : ℕ) (old : List ℕ) → length old ≡ tableWords → Underway (edgesOf t own 0 (last + 1)) at old (edgesOf t own 0 (last + 1 - 0)) at old
-all-begun t own last at old h = let z : last + 1 - 0 ≡ last + 1 = omega arith in rw z (begun (edgesOf t own 0 (last + 1)) at old h)
+pub all-begun : (t own : List ℕ) (last at : ℕ) (old : List ℕ) → Underway (edgesOf t own 0 (last + 1)) at old (edgesOf t own 0 (last + 1 - 0)) at old
+all-begun t own last at old = let z : last + 1 - 0 ≡ last + 1 = omega arith in rw z (begun (edgesOf t own 0 (last + 1)) at old)
 
 module _ (t own whole old now : List ℕ) (at action last next : ℕ) (u : Underway whole at old (edgesOf t own action (last + 1 - action)) next now) where
   pub all-turn : action ≤ last → (r : ℕ) (new : List ℕ) → Appended (edgesUnder t own action) next now new r → Underway whole at old (edgesOf t own (action + 1) (last + 1 - (action + 1))) r new

@@ -7,12 +7,12 @@ use native.Mathlib.Omega.{arith}
 use native.Mathlib.Numerals.{sub-one}
 use lib.ListN.{length, getD}
 use Rattle.table_places.specs.Outline.{reach, afterPredicate, afterAutomaton, countAt, automatonAt}
-use Rattle.merge_words.specs.Append.{Appended}
-use Rattle.merge_words.specs.Runs.{run, nodesAt}
-use Rattle.merge_words.specs.NodeWords.{allNode, numberNode, oldNode, impNode, eqNode, pointerOf, capped}
+use Rattle.merge_append.specs.Append.{Appended}
+use Rattle.merge_append.specs.Runs.{run, nodesAt}
+use Rattle.merge_append.specs.NodeWords.{allNode, numberNode, oldNode, impNode, eqNode, pointerOf, capped}
 use Rattle.merge_words.specs.Head.{variablesOf, automataOf}
 use Rattle.merge_words.specs.Clauses.{partAt, clauseWords, locationClauses, automatonClauses, automataClauses, locationNodes, automataNodes, locationTotal, mergedNodes, mergedWords}
-use Rattle.merge_words.proofs.AppendLaws.{then, Underway, begun, on-by, ended}
+use Rattle.merge_append.proofs.AppendLaws.{then, Underway, begun, on-by, ended}
 
 -- `part`
 module _ (t : List ℕ) (inv : Bool) (at : ℕ) where

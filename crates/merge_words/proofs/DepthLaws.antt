@@ -15,7 +15,7 @@ use Rattle.node_words.specs.Nodes.{meant, nodeOf}
 use Rattle.node_words.proofs.NodeLaws.{word-by, Other, by-others}
 use Rattle.table_places.specs.Outline.{reach, afterPredicate, afterAutomaton, countAt, automatonAt}
 use Rattle.merge_words.specs.declared.depth.Depth.{Depth}
-use Rattle.merge_words.specs.NodeWords.{capped}
+use Rattle.merge_append.specs.NodeWords.{capped}
 use Rattle.merge_words.specs.Head.{automataOf}
 use Rattle.merge_words.specs.Clauses.{partAt}
 use Rattle.merge_words.specs.Depths.{arity, operandsOf, depthTo, greater, deepest, depthAt, isDeeper, locationsDeeper, automataDeeper, mergedDeep, updateDeep, updatesDeep}

@@ -9,17 +9,17 @@ use lib.ListN.{length, getD, drop, set, replicate, drop-of-length-le, length-set
 use lib.Seq.{sets, drop-cons}
 use lib.Dec.{eqb, leb}
 use borrow.Author.Tests.{eq-eqb, ne-eqb, leb-true, le-leb, lt-leb}
-use Rattle.model.specs.Bounds.{tableWords, maxAutomata}
+use Rattle.model.specs.Bounds.{maxAutomata}
 use Rattle.table_places.specs.Outline.{reach, afterPredicate, edgesAt, afterAutomaton, countAt, automatonAt}
-use Rattle.merge_words.specs.Append.{Appended}
-use Rattle.merge_words.specs.Runs.{nodesAt}
-use Rattle.merge_words.specs.NodeWords.{allNode, numberNode, oldNode, newNode, eqNode, pointerOf, capped}
+use Rattle.merge_append.specs.Append.{Appended}
+use Rattle.merge_append.specs.Runs.{nodesAt}
+use Rattle.merge_append.specs.NodeWords.{allNode, numberNode, oldNode, newNode, eqNode, pointerOf, capped}
 use Rattle.merge_words.specs.Head.{variablesOf, automataOf}
 use Rattle.table_places.specs.AtMost.{atMost}
 use Rattle.merge_words.specs.MergedEdge.{isUnder, still, edgeUnder, takenAt, takenFrom, takers, updateAt, moveAt, updatesAt, movesAt, takerNodes, takersNodes, takerOperands, takersOperands, edgeBy}
 use Rattle.merge_words.specs.Starts.{edgeStarts, takenIn}
 use Rattle.merge_words.proofs.Ahead.{Ahead, ahead-begun, ahead-here, ahead-next}
-use Rattle.merge_words.proofs.AppendLaws.{nothing, then, Underway, begun, on-by, ended}
+use Rattle.merge_append.proofs.AppendLaws.{nothing, then, Underway, begun, on-by, ended}
 
 -- `is_under`
 pub is-under : (t : List ℕ) (action at s w : ℕ) → s ≡ reach t at 1 → w ≡ getD t s 0 → eqb w action ≡ isUnder t action at
@@ -165,9 +165,9 @@ pub ruleset taking-laws = (taking-begun, taking-turn, taking-end)
 
 -- `update`
 module _ (t : List ℕ) (place at : ℕ) (old : List ℕ) where
-  pub update-none : length old ≡ tableWords → place ≡ 0 → Appended (updateAt t place) at old old at
+  pub update-none : place ≡ 0 → Appended (updateAt t place) at old old at
   unfolding updateAt
-  update-none l z = rw (eq-eqb place 0 z, updateAt) (nothing old at l)
+  update-none z = rw (eq-eqb place 0 z, updateAt) (nothing old at)
 
   pub update-is : (place ≡ 0 → ⊥) → (p r : ℕ) (new : List ℕ) → p ≡ reach t place 3 → Appended (nodesAt t p) at old new r → Appended (updateAt t place) at old new r
   unfolding updateAt
@@ -182,9 +182,9 @@ equal-is p l q z at a b r old m1 m2 new f e p1 p2 p3 = rw (← f, ← e) (then p
 
 -- `pointer_move`
 module _ (t : List ℕ) (k place at : ℕ) (old : List ℕ) where
-  pub move-none : length old ≡ tableWords → place ≡ 0 → Appended (moveAt t k place) at old old at
+  pub move-none : place ≡ 0 → Appended (moveAt t k place) at old old at
   unfolding moveAt
-  move-none l z = rw (eq-eqb place 0 z, moveAt) (nothing old at l)
+  move-none z = rw (eq-eqb place 0 z, moveAt) (nothing old at)
 
   pub move-is : (place ≡ 0 → ⊥) → (from s to o n a r : ℕ) (mid new : List ℕ) → from ≡ getD t place 0 → s ≡ reach t place 2 → to ≡ getD t s 0 → o ≡ oldNode k → n ≡ newNode k
       → Appended (eqNode ∷ o ∷ numberNode from ∷ []) at old mid a → Appended (eqNode ∷ n ∷ numberNode to ∷ []) a mid new r → Appended (moveAt t k place) at old new r

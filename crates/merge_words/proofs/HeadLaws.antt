@@ -7,11 +7,11 @@ use native.Mathlib.Numerals.{sub-one}
 use lib.ListN.{length, getD}
 use Rattle.model.specs.Bounds.{bias}
 use Rattle.table_places.specs.Outline.{reach, afterAutomaton, countAt, automatonAt}
-use Rattle.merge_words.specs.Append.{Appended}
-use Rattle.merge_words.specs.Runs.{run}
-use Rattle.merge_words.specs.NodeWords.{upward, pointerOf}
+use Rattle.merge_append.specs.Append.{Appended}
+use Rattle.merge_append.specs.Runs.{run}
+use Rattle.merge_append.specs.NodeWords.{upward, pointerOf}
 use Rattle.merge_words.specs.Head.{variablesOf, automataOf, lastLocationAt, pointerRanges, headWords}
-use Rattle.merge_words.proofs.AppendLaws.{then, Underway, begun, on-by, ended}
+use Rattle.merge_append.proofs.AppendLaws.{then, Underway, begun, on-by, ended}
 
 -- `last_location`
 module _ (t : List ℕ) (at p n : ℕ) (e : p ≡ reach t at 2) (f : n ≡ getD t p 0) where

@@ -1,5 +1,3 @@
-pub mod AppendLaws
-pub mod NodeLaws
 pub mod HeadLaws
 pub mod ClauseLaws
 pub mod Ahead

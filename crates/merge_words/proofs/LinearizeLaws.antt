@@ -14,8 +14,8 @@ use Rattle.table_places.specs.declared.layout.Layout.{Layout}
 use Rattle.table_places.specs.Outline.{countAt}
 use Rattle.table_places.specs.Layout.{layoutOf}
 use Rattle.table_places.specs.Own as Own
-use Rattle.merge_words.specs.Append.{Appended}
-use Rattle.merge_words.specs.NodeWords.{pointerOf}
+use Rattle.merge_append.specs.Append.{Appended}
+use Rattle.merge_append.specs.NodeWords.{pointerOf}
 use Rattle.table_places.specs.AtMost.{atMost}
 use Rattle.merge_words.specs.MergedEdges.{movesOf}
 use Rattle.merge_words.specs.MergedSheet.{mergedSheet}

@@ -2,13 +2,13 @@
 use mathlib.Core.Bool.{true, false}
 use mathlib.Core.List.{List, [], _∷_}
 use Prim.Native.Nat.{ℕ, _+_}
-use Rattle.merge_words.specs.Append.{Appended}
+use Rattle.merge_append.specs.Append.{Appended}
 use Rattle.merge_words.specs.Head.{headWords}
 use Rattle.merge_words.specs.Clauses.{mergedWords}
 use Rattle.merge_words.specs.Sync.{syncBy}
 use Rattle.merge_words.specs.MergedEdges.{edgesOf}
 use Rattle.merge_words.specs.MergedSheet.{locationWords, automatonWords, mergedSheet}
-use Rattle.merge_words.proofs.AppendLaws.{then}
+use Rattle.merge_append.proofs.AppendLaws.{then}
 
 pub location-is : (t : List ℕ) (at a b r : ℕ) (old m1 m2 new : List ℕ) → Appended (1 ∷ []) at old m1 a → Appended (mergedWords t false) a m1 m2 b → Appended (mergedWords t true) b m2 new r
     → Appended (locationWords t) at old new r

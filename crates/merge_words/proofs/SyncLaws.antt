@@ -9,9 +9,9 @@ use lib.ListN.{getD}
 use lib.Dec.{eqb, leb}
 use Rattle.table_tree.specs.Members.{inSetAt}
 use Rattle.table_places.specs.Outline.{reach, treeAt}
-use Rattle.merge_words.specs.Append.{Appended}
+use Rattle.merge_append.specs.Append.{Appended}
 use Rattle.merge_words.specs.Sync.{isShared, shifted, bitsFrom, syncBy}
-use Rattle.merge_words.proofs.AppendLaws.{then}
+use Rattle.merge_append.proofs.AppendLaws.{then}
 
 -- `shared`
 pub shared-is : (t own : List ℕ) (action p at w : ℕ) (b : Bool) → p ≡ treeAt t → at ≡ reach t p 1 → b ≡ inSetAt t own action at → w ≡ getD t 1 0

@@ -4,9 +4,9 @@ use mathlib.Core.List.{List, [], _∷_, _++_}
 use Prim.Native.Nat.{ℕ, zero, suc, _+_}
 use lib.ListN.{getD}
 use Rattle.table_places.specs.Outline.{reach, afterPredicate, afterAutomaton, automatonAt}
-use Rattle.merge_words.specs.Runs.{nodesAt}
+use Rattle.merge_append.specs.Runs.{nodesAt}
 use Rattle.merge_words.specs.Head.{variablesOf, automataOf}
-use Rattle.merge_words.specs.NodeWords.{allNode, numberNode, oldNode, impNode, eqNode, pointerOf, capped}
+use Rattle.merge_append.specs.NodeWords.{allNode, numberNode, oldNode, impNode, eqNode, pointerOf, capped}
 
 -- of the location at a place, its init, or its inv
 unfoldable pub partAt : (t : List ℕ) (inv : Bool) (at : ℕ) → ℕ

@@ -11,7 +11,7 @@ use Rattle.table_places.specs.Outline.{reach, afterPredicate, afterAutomaton, a
 use Rattle.merge_words.specs.declared.depth.Depth.{Depth}
 use Rattle.merge_words.specs.Head.{automataOf}
 use Rattle.merge_words.specs.Clauses.{partAt}
-use Rattle.merge_words.specs.NodeWords.{capped}
+use Rattle.merge_append.specs.NodeWords.{capped}
 
 -- the operands of a node
 unfoldable pub arity : Word → ℕ

@@ -4,8 +4,8 @@ use Prim.Native.Nat.{ℕ, zero, suc, _+_, _-_}
 use lib.ListN.{getD}
 use Rattle.model.specs.Bounds.{bias}
 use Rattle.table_places.specs.Outline.{reach, afterAutomaton, countAt, automatonAt}
-use Rattle.merge_words.specs.Runs.{run}
-use Rattle.merge_words.specs.NodeWords.{upward, pointerOf}
+use Rattle.merge_append.specs.Runs.{run}
+use Rattle.merge_append.specs.NodeWords.{upward, pointerOf}
 
 -- V and N
 abbrev pub variablesOf : List ℕ → ℕ

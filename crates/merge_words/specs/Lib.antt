@@ -1,6 +1,3 @@
-pub mod Append
-pub mod Runs
-pub mod NodeWords
 pub mod Head
 pub mod Clauses
 pub mod MergedEdge

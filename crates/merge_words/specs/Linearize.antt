@@ -4,12 +4,12 @@ use mathlib.Core.Bool.{Bool, true, false}
 use mathlib.Core.List.{List, map}
 use Prim.Native.Nat.{ℕ, _+_}
 use lib.ListN.{getD, replicate}
-use lib.Seq.{sets}
 use lib.Dec.{eqb, ltb}
 use Rattle.model.specs.Bounds.{maxVariables, maxEdges, maxNodes, tableWords}
 use Rattle.merge_words.specs.declared.Linearization.{Linearization}
-use Rattle.merge_words.specs.Append.{narrow}
-use Rattle.merge_words.specs.NodeWords.{pointerOf}
+use Rattle.table_append.specs.Append.{put}
+use Rattle.merge_append.specs.Append.{narrow}
+use Rattle.merge_append.specs.NodeWords.{pointerOf}
 use Rattle.merge_words.specs.Head.{variablesOf, automataOf}
 use Rattle.table_places.specs.AtMost.{atMost}
 use Rattle.merge_words.specs.MergedEdges.{movesOf}
@@ -47,7 +47,7 @@ module _ (t own : List ℕ) (edges last : ℕ) where
 
   -- the merged sheet in an empty table
   unfoldable pub sheetTable : List ℕ
-  sheetTable = sets (replicate tableWords 0) 0 (map narrow (mergedSheet t own edges last))
+  sheetTable = put 0 (map narrow (mergedSheet t own edges last)) (replicate tableWords 0)
 
   unfoldable pub linearFor : Linearization
   linearFor = elim (eqb faultBy 0) [ true ↦ mergedTo edges sheetTable | false ↦ refusedBy faultBy ]

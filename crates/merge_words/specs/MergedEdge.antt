@@ -8,9 +8,9 @@ use lib.Dec.{eqb}
 use Rattle.model.specs.Bounds.{maxAutomata}
 use Rattle.table_places.specs.AtMost.{atMost}
 use Rattle.table_places.specs.Outline.{reach, afterPredicate, edgesAt, afterAutomaton, automatonAt}
-use Rattle.merge_words.specs.Runs.{nodesAt}
+use Rattle.merge_append.specs.Runs.{nodesAt}
 use Rattle.merge_words.specs.Head.{variablesOf, automataOf}
-use Rattle.merge_words.specs.NodeWords.{allNode, numberNode, oldNode, newNode, eqNode, pointerOf, capped}
+use Rattle.merge_append.specs.NodeWords.{allNode, numberNode, oldNode, newNode, eqNode, pointerOf, capped}
 
 -- is the edge at a place under an action?
 unfoldable pub isUnder : (t : List ℕ) (action at : ℕ) → Bool

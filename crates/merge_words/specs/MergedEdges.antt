@@ -10,8 +10,8 @@ use Rattle.table_places.specs.Outline.{reach, afterPredicate, edgesAt, afterAut
 use Rattle.table_places.specs.Layout.{layoutOf}
 use Rattle.merge_moves.specs.Plan.{planAt, fillAt}
 use Rattle.merge_moves.specs.Pick.{pickAt}
-use Rattle.merge_words.specs.Append.{narrow}
-use Rattle.merge_words.specs.NodeWords.{capped}
+use Rattle.merge_append.specs.Append.{narrow}
+use Rattle.merge_append.specs.NodeWords.{capped}
 use Rattle.merge_words.specs.Head.{automataOf}
 use Rattle.table_places.specs.AtMost.{atMost}
 use Rattle.merge_words.specs.MergedEdge.{isUnder, takers, edgeWordsAt}

@@ -4,7 +4,7 @@ use mathlib.Core.Bool.{Bool, false, true, _||_}
 use mathlib.Core.List.{List}
 use Prim.Native.Nat.{ℕ, zero, suc, _+_}
 use Rattle.merge_words.specs.declared.survey.Survey.{Survey}
-use Rattle.merge_words.specs.NodeWords.{capped}
+use Rattle.merge_append.specs.NodeWords.{capped}
 use Rattle.merge_words.specs.Clauses.{mergedNodes}
 use Rattle.merge_words.specs.Depths.{mergedDeep, updatesDeep}
 use Rattle.merge_words.specs.MergedEdge.{takersNodes}

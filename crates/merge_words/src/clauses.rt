@@ -1,11 +1,7 @@
 // The merged init, and the merged inv: `all K` of `imp eq vI J` with that init (or inv), for each automaton's pointer and location.
-use crate::put::{self};
-use crate::words::{self};
 use model::Model;
 ghost use mathlib.Core.Path.{_≡_};
-ghost use lib.ListN.{length};
-ghost use Rattle.model.specs.Bounds.{tableWords};
-ghost use Rattle.merge_words.specs.Append.{Appended};
+ghost use Rattle.merge_append.specs.Append.{Appended};
 ghost use Rattle.merge_words.specs.Clauses.{partAt, clauseWords, locationClauses, automatonClauses, automataClauses, locationNodes, automataNodes, locationTotal, mergedNodes, mergedWords};
 
 // Of the location at a place, its init, or its inv.
@@ -27,14 +23,13 @@ fn clause(
     out: &mut [u32; Model::WORDS],
     at: usize,
 ) -> usize
-    requires { ⌜ length (now out) ≡ tableWords ⌝ }
     ensures { λ r. ⌜ Appended (clauseWords (now (t .entry)) k j part) at (now (out .entry)) (now (out .exit)) r ⌝ }
 {
-    let a = put::put(words::imp_node(), out, at);
-    let b = put::put(words::eq_node(), out, a);
-    let c = put::put(words::old_node(k), out, b);
-    let d = put::put(words::number_node(j), out, c);
-    put::nodes(t, part, out, d)
+    let a = merge_append::put(merge_append::imp_node(), out, at);
+    let b = merge_append::put(merge_append::eq_node(), out, a);
+    let c = merge_append::put(merge_append::old_node(k), out, b);
+    let d = merge_append::put(merge_append::number_node(j), out, c);
+    merge_append::nodes(t, part, out, d)
 }
 
 // For the `count` locations of an automaton with the pointer k, of which the first stands at `first`.
@@ -47,7 +42,6 @@ fn at_locations(
     out: &mut [u32; Model::WORDS],
     at: usize,
 ) -> usize
-    requires { ⌜ length (now out) ≡ tableWords ⌝ }
     ensures { λ r. ⌜ Appended (locationClauses (now (t .entry)) inv k 0 count first) at (now (out .entry)) (now (out .exit)) r ⌝ }
 {
     let mut j = 0;
@@ -72,7 +66,6 @@ fn at_automaton(
     out: &mut [u32; Model::WORDS],
     at: usize,
 ) -> usize
-    requires { ⌜ length (now out) ≡ tableWords ⌝ }
     ensures { λ r. ⌜ Appended (automatonClauses (now (t .entry)) inv k place) at (now (out .entry)) (now (out .exit)) r ⌝ }
 {
     let locations = table_places::word(t, table_places::step(t, place, 2));
@@ -97,7 +90,6 @@ fn at_automata(
     out: &mut [u32; Model::WORDS],
     at: usize,
 ) -> usize
-    requires { ⌜ length (now out) ≡ tableWords ⌝ }
     ensures { λ r. ⌜ Appended (automataClauses (now (t .entry)) inv variables 0 count first) at (now (out .entry)) (now (out .exit)) r ⌝ }
 {
     let mut i = 0;
@@ -105,7 +97,14 @@ fn at_automata(
     let mut place = first;
     let mut next = at;
     while left != 0 {
-        next = at_automaton(t, inv, words::pointer(variables, i), place, out, next);
+        next = at_automaton(
+            t,
+            inv,
+            merge_append::pointer(variables, i),
+            place,
+            out,
+            next,
+        );
         place = table_places::after_automaton(t, place);
         i += 1;
         left -= 1;
@@ -122,7 +121,7 @@ fn location_nodes(t: &[u32], inv: bool, count: usize, first: usize, sum: usize) 
     let mut total = sum;
     while left != 0 {
         let nodes = table_places::word(t, part(t, inv, place));
-        total = words::add(words::add(total, 4), nodes);
+        total = merge_append::add(merge_append::add(total, 4), nodes);
         place = table_places::after_predicate(t, table_places::after_predicate(t, place));
         left -= 1;
     }
@@ -154,7 +153,7 @@ fn location_total(t: &[u32], count: usize, first: usize) -> usize
     let mut total = 0;
     while left != 0 {
         let locations = table_places::word(t, table_places::step(t, place, 2));
-        total = words::add(total, locations);
+        total = merge_append::add(total, locations);
         place = table_places::after_automaton(t, place);
         left -= 1;
     }
@@ -171,13 +170,12 @@ pub fn merged_nodes(t: &[u32], inv: bool) -> usize
 
 // The merged init, or the merged inv, with its count of nodes.
 pub fn merged(t: &[u32], inv: bool, out: &mut [u32; Model::WORDS], at: usize) -> usize
-    requires { ⌜ length (now out) ≡ tableWords ⌝ }
     ensures { λ r. ⌜ Appended (mergedWords (now (t .entry)) inv) at (now (out .entry)) (now (out .exit)) r ⌝ }
 {
     let automata = table_places::word(t, table_places::count_at(t));
     let first = table_places::automaton_at(t, 0);
-    let a = put::put(merged_nodes(t, inv), out, at);
+    let a = merge_append::put(merged_nodes(t, inv), out, at);
     let operands = location_total(t, automata, first);
-    let b = put::put(words::all_node(operands), out, a);
+    let b = merge_append::put(merge_append::all_node(operands), out, a);
     at_automata(t, inv, table_places::word(t, 2), automata, first, out, b)
 }

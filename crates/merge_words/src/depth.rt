@@ -1,6 +1,5 @@
 // How deep the predicates nest that the merged ones take in (row 33).
 use crate::clauses::{self};
-use crate::words::{self};
 use node_words::Node;
 ghost use mathlib.Core.Path.{_≡_};
 ghost use lib.ListN.{length, getD};
@@ -62,7 +61,7 @@ fn depth_at(t: &[u32], left: usize, at: usize) -> Depth
         rest -= 1;
     }
     Depth {
-        depth: words::add(1, deepest),
+        depth: merge_append::add(1, deepest),
         next,
     }
 }

@@ -1,14 +1,11 @@
 // All merged edges: for each action its moves, one after the other.
 use crate::merged_edge::{self};
-use crate::put::{self};
-use crate::words::{self};
 use model::Model;
 use table_places::Layout;
 ghost use mathlib.Core.Path.{_≡_};
 ghost use Prim.Native.Nat.{_+_, _≤_};
-ghost use lib.ListN.{length, replicate};
-ghost use Rattle.model.specs.Bounds.{tableWords};
-ghost use Rattle.merge_words.specs.Append.{narrow, Appended};
+ghost use lib.ListN.{replicate};
+ghost use Rattle.merge_append.specs.Append.{narrow, Appended};
 ghost use Rattle.merge_words.specs.MergedEdge.{takers, edgeWordsAt};
 ghost use Rattle.table_places.specs.Layout.{layoutOf};
 ghost use Rattle.merge_words.specs.Starts.{edgeStarts, underIn};
@@ -22,7 +19,7 @@ pub struct Counts {
 fn one_more(here: bool, sum: usize) -> usize
     ensures { λ r. ⌜ r ≡ oneMore here sum ⌝ }
 {
-    if here { words::add(sum, 1) } else { sum }
+    if here { merge_append::add(sum, 1) } else { sum }
 }
 
 // Of `count` edges, how many are under the action.
@@ -57,7 +54,7 @@ fn counts_of(t: &[u32], starts: &[usize; 16], action: usize) -> Counts
     let mut i = 0;
     while i < count {
         let edges = starts[i];
-        under[i] = put::narrow(under_in(t, action, edges));
+        under[i] = merge_append::narrow(under_in(t, action, edges));
         i += 1;
     }
     Counts { under }
@@ -100,7 +97,6 @@ fn edge(
     at: usize,
 ) -> usize
     requires { ⌜ x ≡ layoutOf (now t) ⌝ }
-    requires { ⌜ length (now out) ≡ tableWords ⌝ }
     ensures { λ r. ⌜ Appended (edgeWordsAt (now (t .entry)) action (picksOf (now (t .entry)) (now (cells .entry)) k)) at (now (out .entry)) (now (out .exit)) r ⌝ }
 {
     let places = places_of(t, x, action, cells, k);
@@ -118,7 +114,6 @@ fn edges(
     at: usize,
 ) -> usize
     requires { ⌜ x ≡ layoutOf (now t) ⌝ }
-    requires { ⌜ length (now out) ≡ tableWords ⌝ }
     ensures { λ r. ⌜ Appended (edgesFrom (now (t .entry)) (now (cells .entry)) action 0 count) at (now (out .entry)) (now (out .exit)) r ⌝ }
 {
     let mut k = 0;
@@ -140,7 +135,6 @@ fn action_edges(
     at: usize,
 ) -> usize
     requires { ⌜ x ≡ layoutOf (now t) ⌝ }
-    requires { ⌜ length (now out) ≡ tableWords ⌝ }
     ensures { λ r. ⌜ Appended (edgesUnder (now (t .entry)) (now (own .entry)) action) at (now (out .entry)) (now (out .exit)) r ⌝ }
 {
     let mut cells = [0u32; 192];
@@ -156,7 +150,7 @@ pub fn all_edges(
     out: &mut [u32; Model::WORDS],
     at: usize,
 ) -> usize
-    requires { ⌜ (length (now out) ≡ tableWords) × (last ≤ 4294967294) ⌝ }
+    requires { ⌜ last ≤ 4294967294 ⌝ }
     ensures { λ r. ⌜ Appended (edgesOf (now (t .entry)) (now (own .entry)) 0 (last + 1)) at (now (out .entry)) (now (out .exit)) r ⌝ }
 {
     let x = table_places::layout_of(t);
@@ -187,7 +181,7 @@ pub fn all_moves(t: &[u32], own: &[u64; 16], last: u32) -> usize
     let mut action = 0;
     let mut sum = 0;
     while action <= last {
-        sum = words::add(sum, arithmetic::index(action_moves(t, x, own, action)));
+        sum = merge_append::add(sum, arithmetic::index(action_moves(t, x, own, action)));
         action += 1;
     }
     sum

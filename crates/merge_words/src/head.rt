@@ -1,12 +1,10 @@
 // The merged sheet's words before its automaton.
-use crate::put::{self};
-use crate::words::{self};
 use model::Model;
 ghost use mathlib.Core.Path.{_≡_};
 ghost use mathlib.Core.List.{[], _∷_};
-ghost use lib.ListN.{length, getD};
-ghost use Rattle.model.specs.Bounds.{tableWords, bias};
-ghost use Rattle.merge_words.specs.Append.{Appended};
+ghost use lib.ListN.{getD};
+ghost use Rattle.model.specs.Bounds.{bias};
+ghost use Rattle.merge_append.specs.Append.{Appended};
 ghost use Rattle.merge_words.specs.Head.{lastLocationAt, pointerRanges, headWords};
 
 // The last location of the automaton at a place.
@@ -22,11 +20,10 @@ fn last_location(t: &[u32], at: usize) -> usize
 
 // A pointer's range: from 0 to the last location.
 fn range(high: usize, out: &mut [u32; Model::WORDS], at: usize) -> usize
-    requires { ⌜ length (now out) ≡ tableWords ⌝ }
     ensures { λ r. ⌜ Appended (bias ∷ high ∷ []) at (now (out .entry)) (now (out .exit)) r ⌝ }
 {
-    let next = put::put(32768, out, at);
-    put::put(high, out, next)
+    let next = merge_append::put(32768, out, at);
+    merge_append::put(high, out, next)
 }
 
 // The ranges of `count` pointers, the first one's automaton standing at `first`.
@@ -37,14 +34,13 @@ fn pointers(
     out: &mut [u32; Model::WORDS],
     at: usize,
 ) -> usize
-    requires { ⌜ length (now out) ≡ tableWords ⌝ }
     ensures { λ r. ⌜ Appended (pointerRanges (now (t .entry)) first count) at (now (out .entry)) (now (out .exit)) r ⌝ }
 {
     let mut left = count;
     let mut place = first;
     let mut next = at;
     while left != 0 {
-        next = range(words::upward(last_location(t, place)), out, next);
+        next = range(merge_append::upward(last_location(t, place)), out, next);
         place = table_places::after_automaton(t, place);
         left -= 1;
     }
@@ -53,38 +49,35 @@ fn pointers(
 
 // The format, the actions, and the number of variables.
 fn numbers(t: &[u32], variables: usize, out: &mut [u32; Model::WORDS], at: usize) -> usize
-    requires { ⌜ length (now out) ≡ tableWords ⌝ }
     ensures { λ r. ⌜ Appended (getD (now (t .entry)) 0 0 ∷ getD (now (t .entry)) 1 0 ∷ variables ∷ []) at (now (out .entry)) (now (out .exit)) r ⌝ }
 {
-    let a = put::put(table_places::word(t, 0), out, at);
-    let b = put::put(table_places::word(t, 1), out, a);
-    put::put(variables, out, b)
+    let a = merge_append::put(table_places::word(t, 0), out, at);
+    let b = merge_append::put(table_places::word(t, 1), out, a);
+    merge_append::put(variables, out, b)
 }
 
 // Format, actions, V + N, the ranges, and one automaton.
 pub fn head(t: &[u32], out: &mut [u32; Model::WORDS], at: usize) -> usize
-    requires { ⌜ length (now out) ≡ tableWords ⌝ }
     ensures { λ r. ⌜ Appended (headWords (now (t .entry))) at (now (out .entry)) (now (out .exit)) r ⌝ }
 {
     let variables = table_places::word(t, 2);
     let automata = table_places::word(t, table_places::count_at(t));
-    let a = numbers(t, words::pointer(variables, automata), out, at);
-    let b = put::copy(
+    let a = numbers(t, merge_append::pointer(variables, automata), out, at);
+    let b = merge_append::copy(
         t,
         table_places::step(t, 0, 3),
-        words::pointer(variables, variables),
+        merge_append::pointer(variables, variables),
         out,
         a,
     );
     let c = pointers(t, table_places::automaton_at(t, 0), automata, out, b);
-    put::put(1, out, c)
+    merge_append::put(1, out, c)
 }
 
 // The merged sheet's last words: a tree of one leaf.
 pub fn tail(out: &mut [u32; Model::WORDS], at: usize) -> usize
-    requires { ⌜ length (now out) ≡ tableWords ⌝ }
     ensures { λ r. ⌜ Appended (1 ∷ 2 ∷ []) at (now (out .entry)) (now (out .exit)) r ⌝ }
 {
-    let next = put::put(1, out, at);
-    put::put(2, out, next)
+    let next = merge_append::put(1, out, at);
+    merge_append::put(2, out, next)
 }

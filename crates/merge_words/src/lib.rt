@@ -5,12 +5,10 @@ mod depth;
 mod edges;
 mod head;
 mod merged_edge;
-mod put;
 mod rows;
 mod sheet;
 mod survey;
 mod sync;
-mod words;
 
 use model::Model;
 ghost use mathlib.Core.Path.{_≡_};

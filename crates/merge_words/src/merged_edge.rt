@@ -1,13 +1,11 @@
 // One merged edge, from what each automaton takes: none by 0, and edge j among its edges under the action by 1 + j.
-use crate::put::{self};
-use crate::words::{self};
 use model::Model;
 ghost use mathlib.Core.Path.{_≡_};
 ghost use mathlib.Core.List.{[], _∷_};
 ghost use lib.ListN.{length};
-ghost use Rattle.model.specs.Bounds.{tableWords, maxAutomata};
-ghost use Rattle.merge_words.specs.Append.{Appended};
-ghost use Rattle.merge_words.specs.NodeWords.{numberNode, eqNode};
+ghost use Rattle.model.specs.Bounds.{maxAutomata};
+ghost use Rattle.merge_append.specs.Append.{Appended};
+ghost use Rattle.merge_append.specs.NodeWords.{numberNode, eqNode};
 ghost use Rattle.merge_words.specs.Starts.{edgeStarts, takenIn};
 ghost use Rattle.table_places.specs.AtMost.{atMost};
 ghost use Rattle.merge_words.specs.MergedEdge.{isUnder, still, edgeUnder, takers, updateAt, moveAt, updatesAt, movesAt, takerNodes, takersNodes, takerOperands, takersOperands, edgeBy};
@@ -86,23 +84,21 @@ pub fn takers_of(t: &[u32], starts: &[usize; 16], action: usize, picks: &[u32; 1
 
 // A taker's update.
 fn update(t: &[u32], place: usize, out: &mut [u32; Model::WORDS], at: usize) -> usize
-    requires { ⌜ length (now out) ≡ tableWords ⌝ }
     ensures { λ r. ⌜ Appended (updateAt (now (t .entry)) place) at (now (out .entry)) (now (out .exit)) r ⌝ }
 {
     if place == 0 {
         return at;
     }
-    put::nodes(t, table_places::step(t, place, 3), out, at)
+    merge_append::nodes(t, table_places::step(t, place, 3), out, at)
 }
 
 // `eq` of an old or a new pointer and a location.
 fn equal(pointer: usize, location: usize, out: &mut [u32; Model::WORDS], at: usize) -> usize
-    requires { ⌜ length (now out) ≡ tableWords ⌝ }
     ensures { λ r. ⌜ Appended (eqNode ∷ pointer ∷ numberNode location ∷ []) at (now (out .entry)) (now (out .exit)) r ⌝ }
 {
-    let a = put::put(words::eq_node(), out, at);
-    let b = put::put(pointer, out, a);
-    put::put(words::number_node(location), out, b)
+    let a = merge_append::put(merge_append::eq_node(), out, at);
+    let b = merge_append::put(pointer, out, a);
+    merge_append::put(merge_append::number_node(location), out, b)
 }
 
 // A taker's pointer was FROM and becomes TO.
@@ -113,7 +109,6 @@ fn pointer_move(
     out: &mut [u32; Model::WORDS],
     at: usize,
 ) -> usize
-    requires { ⌜ length (now out) ≡ tableWords ⌝ }
     ensures { λ r. ⌜ Appended (moveAt (now (t .entry)) k place) at (now (out .entry)) (now (out .exit)) r ⌝ }
 {
     if place == 0 {
@@ -121,12 +116,12 @@ fn pointer_move(
     }
     let from = table_places::word(t, place);
     let to = table_places::word(t, table_places::step(t, place, 2));
-    let a = equal(words::old_node(k), from, out, at);
-    equal(words::new_node(k), to, out, a)
+    let a = equal(merge_append::old_node(k), from, out, at);
+    equal(merge_append::new_node(k), to, out, a)
 }
 
 fn updates(t: &[u32], places: &[usize; 16], out: &mut [u32; Model::WORDS], at: usize) -> usize
-    requires { ⌜ (length (now out) ≡ tableWords) × (length (now places) ≡ maxAutomata) ⌝ }
+    requires { ⌜ length (now places) ≡ maxAutomata ⌝ }
     ensures { λ r. ⌜ Appended (updatesAt (now (t .entry)) (now (places .entry))) at (now (out .entry)) (now (out .exit)) r ⌝ }
 {
     let mut next = at;
@@ -145,13 +140,13 @@ fn pointer_moves(
     out: &mut [u32; Model::WORDS],
     at: usize,
 ) -> usize
-    requires { ⌜ (length (now out) ≡ tableWords) × (length (now places) ≡ maxAutomata) ⌝ }
+    requires { ⌜ length (now places) ≡ maxAutomata ⌝ }
     ensures { λ r. ⌜ Appended (movesAt (now (t .entry)) variables 0 (now (places .entry))) at (now (out .entry)) (now (out .exit)) r ⌝ }
 {
     let mut next = at;
     let mut i = 0;
     while i < 16 {
-        next = pointer_move(t, words::pointer(variables, i), places[i], out, next);
+        next = pointer_move(t, merge_append::pointer(variables, i), places[i], out, next);
         i += 1;
     }
     next
@@ -165,7 +160,7 @@ fn taker_nodes(t: &[u32], sum: usize, place: usize) -> usize
         return sum;
     }
     let nodes = table_places::word(t, table_places::step(t, place, 3));
-    words::add(words::add(sum, 6), nodes)
+    merge_append::add(merge_append::add(sum, 6), nodes)
 }
 
 // The nodes of a merged edge's update.
@@ -188,7 +183,7 @@ fn taker_operands(sum: usize, place: usize) -> usize
     if place == 0 {
         return sum;
     }
-    words::add(sum, 3)
+    merge_append::add(sum, 3)
 }
 
 // The operands of a merged edge's `all`: three for a taker.
@@ -213,14 +208,14 @@ pub fn edge(
     out: &mut [u32; Model::WORDS],
     at: usize,
 ) -> usize
-    requires { ⌜ (length (now out) ≡ tableWords) × (length (now places) ≡ maxAutomata) ⌝ }
+    requires { ⌜ length (now places) ≡ maxAutomata ⌝ }
     ensures { λ r. ⌜ Appended (edgeBy (now (t .entry)) action (now (places .entry))) at (now (out .entry)) (now (out .exit)) r ⌝ }
 {
-    let a = put::put(0, out, at);
-    let b = put::put(action, out, a);
-    let c = put::put(0, out, b);
-    let d = put::put(takers_nodes(t, places), out, c);
-    let e = put::put(words::all_node(takers_operands(places)), out, d);
+    let a = merge_append::put(0, out, at);
+    let b = merge_append::put(action, out, a);
+    let c = merge_append::put(0, out, b);
+    let d = merge_append::put(takers_nodes(t, places), out, c);
+    let e = merge_append::put(merge_append::all_node(takers_operands(places)), out, d);
     let f = updates(t, places, out, e);
     pointer_moves(t, table_places::word(t, 2), places, out, f)
 }

@@ -1,6 +1,5 @@
 // Rows 31 to 34: is there a merged sheet?
 use crate::survey::{self};
-use crate::words::{self};
 use model::Model;
 ghost use mathlib.Core.Path.{_≡_};
 ghost use Prim.Native.Nat.{_≤_};
@@ -29,7 +28,7 @@ pub fn crowded(t: &[u32]) -> bool
     ensures { λ r. ⌜ r ≡ isCrowded (now (t .entry)) ⌝ }
 {
     let automata = table_places::word(t, table_places::count_at(t));
-    Model::VARIABLES < words::pointer(table_places::word(t, 2), automata)
+    Model::VARIABLES < merge_append::pointer(table_places::word(t, 2), automata)
 }
 
 // The first of rows 32 to 34 that refuses, or 0; `edges` is the count of merged edges under the actions from 0 to `last`.

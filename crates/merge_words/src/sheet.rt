@@ -2,22 +2,18 @@
 use crate::clauses::{self};
 use crate::edges::{self};
 use crate::head::{self};
-use crate::put::{self};
 use crate::sync::{self};
 use model::Model;
 ghost use mathlib.Core.Path.{_≡_};
 ghost use Prim.Native.Nat.{_≤_};
-ghost use lib.ListN.{length};
-ghost use Rattle.model.specs.Bounds.{tableWords};
-ghost use Rattle.merge_words.specs.Append.{Appended};
+ghost use Rattle.merge_append.specs.Append.{Appended};
 ghost use Rattle.merge_words.specs.MergedSheet.{locationWords, automatonWords, mergedSheet};
 
 // The one location: its number, its init and its inv.
 fn location(t: &[u32], out: &mut [u32; Model::WORDS], at: usize) -> usize
-    requires { ⌜ length (now out) ≡ tableWords ⌝ }
     ensures { λ r. ⌜ Appended (locationWords (now (t .entry))) at (now (out .entry)) (now (out .exit)) r ⌝ }
 {
-    let a = put::put(1, out, at);
+    let a = merge_append::put(1, out, at);
     let b = clauses::merged(t, false, out, a);
     clauses::merged(t, true, out, b)
 }
@@ -31,12 +27,12 @@ fn automaton(
     out: &mut [u32; Model::WORDS],
     at: usize,
 ) -> usize
-    requires { ⌜ (length (now out) ≡ tableWords) × (last ≤ 4294967294) ⌝ }
+    requires { ⌜ last ≤ 4294967294 ⌝ }
     ensures { λ r. ⌜ Appended (automatonWords (now (t .entry)) (now (own .entry)) count last) at (now (out .entry)) (now (out .exit)) r ⌝ }
 {
     let a = sync::sync(t, own, out, at);
     let b = location(t, out, a);
-    let c = put::put(count, out, b);
+    let c = merge_append::put(count, out, b);
     edges::all_edges(t, own, last, out, c)
 }
 
@@ -49,7 +45,7 @@ pub fn sheet(
     out: &mut [u32; Model::WORDS],
     at: usize,
 ) -> usize
-    requires { ⌜ (length (now out) ≡ tableWords) × (last ≤ 4294967294) ⌝ }
+    requires { ⌜ last ≤ 4294967294 ⌝ }
     ensures { λ r. ⌜ Appended (mergedSheet (now (t .entry)) (now (own .entry)) count last) at (now (out .entry)) (now (out .exit)) r ⌝ }
 {
     let a = head::head(t, out, at);

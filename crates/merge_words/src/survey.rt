@@ -3,7 +3,6 @@ use crate::clauses::{self};
 use crate::depth::{self};
 use crate::edges::{self};
 use crate::merged_edge::{self};
-use crate::words::{self};
 use table_places::Layout;
 ghost use mathlib.Core.Path.{_≡_};
 ghost use Prim.Native.Nat.{_+_, _≤_};
@@ -26,7 +25,7 @@ fn with_edge(t: &[u32], x: Layout, action: usize, cells: &[u32; 192], k: u32, s:
     let nodes = merged_edge::takers_nodes(t, &places);
     Survey {
         deep: s.deep | deep,
-        nodes: words::add(s.nodes, nodes),
+        nodes: merge_append::add(s.nodes, nodes),
     }
 }
 
@@ -86,7 +85,7 @@ fn start(t: &[u32]) -> Survey
     let inv = clauses::merged_nodes(t, true);
     Survey {
         deep: init_deep | inv_deep,
-        nodes: words::add(init, inv),
+        nodes: merge_append::add(init, inv),
     }
 }
 

@@ -1,11 +1,8 @@
 // The synchronising set of the whole.
-use crate::put::{self};
 use model::Model;
 ghost use mathlib.Core.Path.{_≡_};
 ghost use Prim.Native.Nat.{_≤_};
-ghost use lib.ListN.{length};
-ghost use Rattle.model.specs.Bounds.{tableWords};
-ghost use Rattle.merge_words.specs.Append.{Appended};
+ghost use Rattle.merge_append.specs.Append.{Appended};
 ghost use Rattle.merge_words.specs.Sync.{isShared, shifted, bitsFrom, syncBy};
 
 // Is the action, from 1 to A, in the whole's set?
@@ -44,11 +41,10 @@ fn bits(t: &[u32], own: &[u64], from: u32) -> u32
 
 // The set in two words.
 pub fn sync(t: &[u32], own: &[u64], out: &mut [u32; Model::WORDS], at: usize) -> usize
-    requires { ⌜ length (now out) ≡ tableWords ⌝ }
     ensures { λ r. ⌜ Appended (syncBy (now (t .entry)) (now (own .entry))) at (now (out .entry)) (now (out .exit)) r ⌝ }
 {
     let low = bits(t, own, 0);
     let high = bits(t, own, 32);
-    let next = put::put(arithmetic::index(low), out, at);
-    put::put(arithmetic::index(high), out, next)
+    let next = merge_append::put(arithmetic::index(low), out, at);
+    merge_append::put(arithmetic::index(high), out, next)
 }

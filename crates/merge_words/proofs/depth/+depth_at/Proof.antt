@@ -13,7 +13,7 @@ use Rattle.merge_words.proofs.depth.depth_at.Kinds as depth-at-kinds
 use Rattle.merge_words.proofs.depth.+depth_at.Lts-depth_at as depth-at-lts
 use Rattle.merge_words.proofs.depth.greater.Reads as greater-reads
 use Rattle.merge_words.proofs.depth.operands_at.Reads as operands-at-reads
-use Rattle.merge_words.proofs.words.add.Reads as add-reads
+use Rattle.merge_append.proofs.add.Reads as add-reads
 use Rattle.table_places.proofs.step.Reads as step-reads
 use Rattle.merge_words.proofs.depth.+depth_at.{statement}
 use Rattle.merge_words.proofs.depth.+depth_at.Tie.{close}

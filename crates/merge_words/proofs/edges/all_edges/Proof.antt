@@ -1,7 +1,7 @@
 -- `merge_words::edges::all_edges` meets its contract: what is done and what is left make up the whole. The measure is the actions left.
 use Rattle.merge_words.proofs.AllEdgesLaws.{all-laws}
 use Prim.Native.Nat.{_+_, _-_, _≤_}
-use Rattle.merge_words.proofs.AppendLaws.{Underway}
+use Rattle.merge_append.proofs.AppendLaws.{Underway}
 use Rattle.merge_words.specs.MergedEdges.{edgesOf}
 use mathlib.Core.Path.{_≡_}
 use Rattle.table_places.specs.Layout.{layoutOf}

@@ -1,7 +1,7 @@
 -- `merge_words::edges::edges` meets its contract: what is done and what is left make up the whole. The measure is the moves left.
 use Rattle.merge_words.proofs.AllEdgesLaws.{edges-laws}
 use Prim.Native.Nat.{_-_, _≤_}
-use Rattle.merge_words.proofs.AppendLaws.{Underway}
+use Rattle.merge_append.proofs.AppendLaws.{Underway}
 use Rattle.merge_words.specs.MergedEdges.{edgesFrom}
 use borrow.Author.Needs.{needs}
 use Rattle.merge_words.proofs.edges.edges.Statement.{statement}

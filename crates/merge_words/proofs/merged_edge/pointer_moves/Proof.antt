@@ -2,7 +2,7 @@
 use Rattle.merge_words.proofs.EdgeLaws.{moves-laws}
 use Prim.Native.Nat.{_-_, _≤_}
 use lib.ListN.{drop}
-use Rattle.merge_words.proofs.AppendLaws.{Underway}
+use Rattle.merge_append.proofs.AppendLaws.{Underway}
 use Rattle.merge_words.specs.MergedEdge.{movesAt}
 use borrow.Author.Needs.{needs}
 use Rattle.merge_words.proofs.merged_edge.pointer_moves.Statement.{statement}
