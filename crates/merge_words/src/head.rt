@@ -1,17 +1,17 @@
-// The merged sheet's words before its automaton.
+// The merged sheet's words before its automaton, and after it.
 use model::Model;
 ghost use mathlib.Core.Path.{_≡_};
 ghost use mathlib.Core.List.{[], _∷_};
-ghost use lib.ListN.{getD};
 ghost use Rattle.model.specs.Bounds.{bias};
+ghost use Rattle.table_places.specs.Outline.{actionsIn};
 ghost use Rattle.merge_append.specs.Append.{Appended};
-ghost use Rattle.merge_words.specs.Head.{lastLocationAt, pointerRanges, headWords};
+ghost use Rattle.merge_words.specs.Head.{formatIn, lastLocationAt, pointerRanges, headWords};
 
 // The last location of the automaton at a place.
 fn last_location(t: &[u32], at: usize) -> usize
     ensures { λ r. ⌜ r ≡ lastLocationAt (now (t .entry)) at ⌝ }
 {
-    let locations = table_places::word(t, table_places::step(t, at, 2));
+    let locations = table_places::location_count(t, at);
     if locations == 0 {
         return 0;
     }
@@ -40,7 +40,8 @@ fn pointers(
     let mut place = first;
     let mut next = at;
     while left != 0 {
-        next = range(merge_append::upward(last_location(t, place)), out, next);
+        let high = merge_append::upward(last_location(t, place));
+        next = range(high, out, next);
         place = table_places::after_automaton(t, place);
         left -= 1;
     }
@@ -49,10 +50,11 @@ fn pointers(
 
 // The format, the actions, and the number of variables.
 fn numbers(t: &[u32], variables: usize, out: &mut [u32; Model::WORDS], at: usize) -> usize
-    ensures { λ r. ⌜ Appended (getD (now (t .entry)) 0 0 ∷ getD (now (t .entry)) 1 0 ∷ variables ∷ []) at (now (out .entry)) (now (out .exit)) r ⌝ }
+    ensures { λ r. ⌜ Appended (formatIn (now (t .entry)) ∷ actionsIn (now (t .entry)) ∷ variables ∷ [])
+        at (now (out .entry)) (now (out .exit)) r ⌝ }
 {
     let a = merge_append::put(table_places::word(t, 0), out, at);
-    let b = merge_append::put(table_places::word(t, 1), out, a);
+    let b = merge_append::put(table_places::actions(t), out, a);
     merge_append::put(variables, out, b)
 }
 
@@ -60,17 +62,14 @@ fn numbers(t: &[u32], variables: usize, out: &mut [u32; Model::WORDS], at: usize
 pub fn head(t: &[u32], out: &mut [u32; Model::WORDS], at: usize) -> usize
     ensures { λ r. ⌜ Appended (headWords (now (t .entry))) at (now (out .entry)) (now (out .exit)) r ⌝ }
 {
-    let variables = table_places::word(t, 2);
-    let automata = table_places::word(t, table_places::count_at(t));
+    let variables = table_places::variables(t);
+    let automata = table_places::automata(t);
     let a = numbers(t, merge_append::pointer(variables, automata), out, at);
-    let b = merge_append::copy(
-        t,
-        table_places::step(t, 0, 3),
-        merge_append::pointer(variables, variables),
-        out,
-        a,
-    );
-    let c = pointers(t, table_places::automaton_at(t, 0), automata, out, b);
+    let ranges = table_places::range_at(t, 0);
+    let words = merge_append::pointer(variables, variables);
+    let b = merge_append::copy(t, ranges, words, out, a);
+    let first = table_places::first_automaton(t);
+    let c = pointers(t, first, automata, out, b);
     merge_append::put(1, out, c)
 }
 
