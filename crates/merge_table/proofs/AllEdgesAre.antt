@@ -27,41 +27,31 @@ use Rattle.merge_moves.specs.Takers.{takerOf, takersIn, takersOf}
 use Rattle.merge_moves.proofs.CappingLaws.{cap-small}
 use Rattle.merge_moves.proofs.Plans.{Told}
 use Rattle.merge_moves.proofs.Whole.{plan-is, pick-is, pick-there}
-use Rattle.table_places.specs.Outline.{reach, afterPredicate, edgesAt, afterAutomaton, automatonAt, treeAt}
-use Rattle.table_places.proofs.OutlineLaws.{read, reached, wordsOf, edgeWords, automatonWords, words-append, after-predicate, edges-at, after-automaton}
-use Rattle.merge_words.specs.Append.{narrow}
-use Rattle.merge_words.specs.NodeWords.{most, capped}
-use Rattle.merge_words.specs.Head.{automataOf}
-use Rattle.table_places.specs.AtMost.{atMost}
-use Rattle.merge_words.specs.MergedEdge.{isUnder, edgeWordsAt}
-use Rattle.merge_words.specs.MergedEdges.{oneMore, underFrom, underAt, countsFrom, countsOf, rootOf, cellsOf, moveTotal, picksOf, edgesFrom, edgesUnder, edgesOf}
-use Rattle.merge_words.specs.Sync.{ownSets}
-use Rattle.merge_words.proofs.NodeLaws.{capped-is}
-use Rattle.merge_words.proofs.EdgeLaws.{at-most-is}
-use Rattle.merge_words.proofs.AllEdgesLaws.{more-here, more-not}
-use Rattle.merge_table.proofs.Standing.{narrow-is, automata-cons, edges-stand}
-use Rattle.merge_table.proofs.HeadIs.{automata-are, automata-stand}
+use Rattle.table_places.specs.declared.layout.Layout.{Layout}
+use Rattle.table_places.specs.Outline.{afterPredicate, updatePlace, firstEdge, edgesAt, afterAutomaton, firstAutomaton}
+use Rattle.table_places.specs.Layout.{layoutOf}
+use Rattle.table_places.proofs.OutlineLaws.{wordsOf, edgeWords, automatonWords, words-append, edge-count, first-edge, after-automaton}
+use Rattle.table_places.proofs.LayoutLaws.{all-automata}
+use Rattle.table_places.proofs.AgreeLaws.{own-agrees}
+use Rattle.merge_append.specs.Append.{narrow}
+use Rattle.merge_append.specs.NodeWords.{most, capped}
+use Rattle.merge_append.proofs.NodeLaws.{capped-is}
+use Rattle.merge_edges.specs.Taking.{isUnder}
+use Rattle.merge_edges.specs.Moves.{oneMore, underFrom, underAt, countsFrom, countsOf, rootOf, cellsOf, moveTotal, picksOf, lastAction}
+use Rattle.merge_edges.specs.Edges.{edgeWordsAt, edgesFrom, edgesUnder, edgesOf, edgesIn}
+use Rattle.merge_edges.proofs.MovesLaws.{more-here, more-not, last-all}
+use Rattle.merge_table.proofs.Standing.{narrow-is, automata-cons, ownOf}
+use Rattle.merge_table.proofs.HeadIs.{automata-stand, laid-actions}
 use Rattle.merge_table.proofs.ClausesAre.{capped-most, capped-add}
-use Rattle.merge_table.proofs.EdgesAre.{noEdge, zeros, drop-zeros, under-yes, under-no, takerBy, takersFrom, Valid, edge-words}
-use Rattle.merge_table.proofs.SyncIs.{own-agree, root-stands}
+use Rattle.merge_table.proofs.EdgesAre.{noEdge, zeros, drop-zeros, under-yes, under-no, first-under, first-past, Starts, starts-first, starts-rest, layout-starts, takerBy, takersFrom, Valid, edge-words}
+use Rattle.merge_table.proofs.SyncIs.{root-stands}
 
--- the first of some edges
-module _ (t : List ℕ) (at : ℕ) (x : Edge) (es : List Edge) (rest : List ℕ) (e : drop at t ≡ edgeWords (x ∷ es) ++ rest) where
-  first-there : drop at t ≡ lineWords (edgeLine x) ++ (edgeWords es ++ rest)
-  unfolding flatMap
-  first-there = e ∙ append-assoc (lineWords (edgeLine x)) (edgeWords es) rest
-
-  first-action : getD t (reach t at 1) 0 ≡ x .action
-  unfolding lineWords
-  first-action = read t (reach t at 1) (x .action) _ (reached t at 1 (x .from ∷ []) _ first-there refl)
-
-  first-under : (action : ℕ) → isUnder t action at ≡ eqb (x .action) action
-  unfolding isUnder
-  first-under action = ap (λ a. eqb a action) first-action
-
-  first-past : drop (afterPredicate t (reach t at 3)) t ≡ edgeWords es ++ rest
-  unfolding lineWords
-  first-past = after-predicate t (reach t at 3) (x .update) (edgeWords es ++ rest) (reached t at 3 (x .from ∷ x .action ∷ x .to ∷ []) _ first-there refl)
+-- A, as the layout has it
+pub last-is : (m : Model) → Lawful m → (t rest : List ℕ) → t ≡ sheetWords m ++ rest → lastAction (layoutOf t) ≡ m .actions
+last-is m lawful t rest e =
+    let few = lawful .few-actions in
+    let same = laid-actions m lawful t rest e in
+    sym (last-all (layoutOf t) (omega arith)) ∙ same
 
 none-under : (action sum : ℕ) → sum + length (under action []) ≡ sum
 unfolding under keep
@@ -73,11 +63,11 @@ count-under : (t : List ℕ) (action : ℕ) (es : List Edge) (at sum : ℕ) (res
 unfolding underFrom
 count-under t action [] at sum rest h e = let z : sum + length (under action []) ≡ sum = none-under action sum in rw z (capped-is sum h)
 count-under t action (x ∷ es) at sum rest h e =
-    go (eqb (x .action) action) refl (λ s l. count-under t action es (afterPredicate t (reach t at 3)) s rest l (first-past t at x es rest e))
+    go (eqb (x .action) action) refl (λ s l. count-under t action es (afterPredicate t (updatePlace t at)) s rest l (first-past t at x es rest e))
   where
     go : (b : Bool) → eqb (x .action) action ≡ b
-        → ((s : ℕ) → s ≤ most → underFrom t action (length es) (afterPredicate t (reach t at 3)) s ≡ capped (s + length (under action es)))
-        → underFrom t action (length es) (afterPredicate t (reach t at 3)) (oneMore (isUnder t action at) sum) ≡ capped (sum + length (under action (x ∷ es)))
+        → ((s : ℕ) → s ≤ most → underFrom t action (length es) (afterPredicate t (updatePlace t at)) s ≡ capped (s + length (under action es)))
+        → underFrom t action (length es) (afterPredicate t (updatePlace t at)) (oneMore (isUnder t action at) sum) ≡ capped (sum + length (under action (x ∷ es)))
     go true q ih =
         let u : isUnder t action at ≡ true = first-under t at x es rest e action ∙ q in
         let m : oneMore (isUnder t action at) sum ≡ capped (sum + 1) = sym (more-here (isUnder t action at) sum u (capped (sum + 1)) refl) in
@@ -107,53 +97,59 @@ edges-few (y ∷ xs) x (List·Memᴰ·tail i) = let h = edges-few xs x i in omeg
 abbrev countOf : ℕ → Automaton → ℕ
 countOf action x = length (under action (x .edges))
 
-counts-are : (t : List ℕ) (action : ℕ) (xs : List Automaton) (at : ℕ) (rest : List ℕ) → ((x : Automaton) → List·Memᴰ x xs → length (x .edges) ≤ maxEdges)
-    → drop at t ≡ automatonWords xs ++ rest → countsFrom t action (length xs) at ≡ map (countOf action) xs
+counts-are : (t edges : List ℕ) (action : ℕ) (xs : List Automaton) (i at : ℕ) (rest : List ℕ) → ((x : Automaton) → List·Memᴰ x xs → length (x .edges) ≤ maxEdges)
+    → drop at t ≡ automatonWords xs ++ rest → Starts t edges i at (length xs) → countsFrom t edges action i (length xs) ≡ map (countOf action) xs
 unfolding countsFrom underAt
-counts-are t action [] at rest few e = refl
-counts-are t action (x ∷ xs) at rest few e =
+counts-are t edges action [] i at rest few e starts = refl
+counts-are t edges action (x ∷ xs) i at rest few e starts =
     let f = automata-cons t at x xs rest e in
     let others = automatonWords xs ++ rest in
-    let n : getD t (edgesAt t at) 0 ≡ length (x .edges) = read t (edgesAt t at) (length (x .edges)) _ (edges-at t others x at f) in
+    let place : getD edges i 0 ≡ edgesAt t at = starts-first t edges i at (length xs) starts in
+    let n : getD t (edgesAt t at) 0 ≡ length (x .edges) = edge-count t others x at f in
     let some = few x (List·Memᴰ·head refl) in
     let k = kept-few action (x .edges) in
     let small : countOf action x ≤ most = omega arith in
     let fits : countOf action x < 4294967296 = omega arith in
-    let one : narrow (underFrom t action (getD t (edgesAt t at) 0) (reach t (edgesAt t at) 1) 0) ≡ countOf action x =
-    ap narrow (ap (λ c. underFrom t action c (reach t (edgesAt t at) 1) 0) n ∙ count-under t action (x .edges) (reach t (edgesAt t at) 1) 0 others (omega arith) (edges-stand t others x at f) ∙
+    let one : narrow (underFrom t action (getD t (getD edges i 0) 0) (firstEdge t (getD edges i 0)) 0) ≡ countOf action x =
+    ap narrow (ap (λ c. underFrom t action (getD t c 0) (firstEdge t c) 0) place ∙ ap (λ c. underFrom t action c (firstEdge t (edgesAt t at)) 0) n ∙
+    count-under t action (x .edges) (firstEdge t (edgesAt t at)) 0 others (omega arith) (first-edge t others x at f) ∙
     ap capped (zero-add (countOf action x)) ∙ sym (capped-is (countOf action x) small)) ∙ narrow-is (countOf action x) fits in
-    ap₂ (λ (y : ℕ) (l : List ℕ). y ∷ l) one (counts-are t action xs (afterAutomaton t at) rest (λ y i. few y (List·Memᴰ·tail i)) (after-automaton t others x at f))
+    rw (add-one i)
+    (ap₂ (λ (y : ℕ) (l : List ℕ). y ∷ l) one
+    (counts-are t edges action xs (suc i) (afterAutomaton t at) rest (λ y q. few y (List·Memᴰ·tail q)) (after-automaton t others x at f) (starts-rest t edges i at (length xs) starts)))
 
 module _ (m : Model) (lawful : Lawful m) (t rest : List ℕ) (e : t ≡ sheetWords m ++ rest) where
-  counts-whole : (action : ℕ) → countsOf t action ≡ map (countOf action) (m .automata) ++ zeros (16 - length (m .automata))
+  abbrev lay : Layout
+  lay = layoutOf t
+
+  counts-whole : (action : ℕ) → countsOf t lay action ≡ map (countOf action) (m .automata) ++ zeros (16 - length (m .automata))
   unfolding countsOf
   counts-whole action =
       let n = length (m .automata) in
       let few = lawful .few-automata in
       let fe = lawful .few-edges in
-      let count : atMost maxAutomata (automataOf t) ≡ n = ap (atMost maxAutomata) (automata-are m lawful t rest e) ∙ sym (at-most-is n few) in
       let ps = map (countOf action) (m .automata) in
       let size : length ps ≡ n = length-map (m .automata) (countOf action) in
       let end : 0 + length ps ≡ n = omega arith in
       let room : 0 + length ps ≤ length (zeros 16) = omega (arith, length-replicate {A = ℕ} 16 0) in
-      ap (λ c. sets (zeros 16) 0 (countsFrom t action c (automatonAt t 0))) count ∙
-      ap (sets (zeros 16) 0) (counts-are t action (m .automata) (automatonAt t 0) _ (λ x i. let h = edges-few (m .automata) x i in omega arith) (automata-stand m lawful t rest e)) ∙
+      ap (λ c. sets (zeros 16) 0 (countsFrom t (lay .edges) action 0 c)) (all-automata m lawful t rest e) ∙
+      ap (sets (zeros 16) 0) (counts-are t (lay .edges) action (m .automata) 0 (firstAutomaton t) _ (λ x i. let h = edges-few (m .automata) x i in omega arith) (automata-stand m lawful t rest e) (layout-starts m lawful t rest e)) ∙
       sets-eq ps (zeros 16) 0 room ∙ ap (λ (l : List ℕ). ps ++ l) (ap (λ c. drop c (zeros 16)) end ∙ drop-zeros n 16 few)
 
-  count-at : (action k : ℕ) → k < length (m .automata) → getD (countsOf t action) k 0 ≡ length (under action (automaton m k .edges))
+  count-at : (action k : ℕ) → k < length (m .automata) → getD (countsOf t lay action) k 0 ≡ length (under action (automaton m k .edges))
   unfolding under keep
   count-at action k h =
       let inside : k < length (map (countOf action) (m .automata)) = omega (arith, length-map (m .automata) (countOf action)) in
       ap (λ (l : List ℕ). getD l k 0) (counts-whole action) ∙ List·getD-append (map (countOf action) (m .automata)) (zeros (16 - length (m .automata))) 0 k inside ∙ List·getD-map (countOf action) (m .automata) k nobody
 
-  pub told : (action k : ℕ) → k < length (m .automata) → Told (ownSets t) (countsOf t action) m action k
-  told action k h = record { inside = own-agree m lawful t rest e action k h; edges = count-at action k h }
+  pub told : (action k : ℕ) → k < length (m .automata) → Told (ownOf t) (countsOf t lay action) m action k
+  told action k h = record { inside = own-agrees m lawful t rest e action k; edges = count-at action k h }
 
   -- row 32's counts
-  pub total-is : (action : ℕ) → moveCount m action (m .tree) ≤ maxEdges → moveTotal t (ownSets t) action ≡ moveCount m action (m .tree)
+  pub total-is : (action : ℕ) → moveCount m action (m .tree) ≤ maxEdges → moveTotal t lay (ownOf t) action ≡ moveCount m action (m .tree)
   unfolding moveTotal
   total-is action few =
-      ap (λ (p : Planned). p .count) (plan-is t (ownSets t) (countsOf t action) m action (rootOf t) lawful (root-stands m lawful t rest e) (told action)) ∙ sym (cap-small (moveCount m action (m .tree)) few)
+      ap (λ (p : Planned). p .count) (plan-is t (ownOf t) (countsOf t lay action) m action (rootOf t lay) lawful (root-stands m lawful t rest e) (told action)) ∙ sym (cap-small (moveCount m action (m .tree)) few)
 
   -- the takers that picks name, said in two ways
   same-takers : (action : ℕ) (picks : List ℕ) (xs : List Automaton) (i : ℕ) → drop i (m .automata) ≡ xs → takersIn m action picks (countUp i (length xs)) ≡ takersFrom action picks i xs
@@ -195,7 +191,7 @@ module _ (m : Model) (lawful : Lawful m) (t rest : List ℕ) (e : t ≡ sheetWor
   -- the takers of move k
   module _ (action : ℕ) (few : moveCount m action (m .tree) ≤ maxEdges) (k : ℕ) (h : k < length (moves m action (m .tree))) where
     abbrev picked : List ℕ
-    picked = picksOf t (cellsOf t (ownSets t) action) k
+    picked = picksOf t lay (cellsOf t lay (ownOf t) action) k
 
     below : k < moveCount m action (m .tree)
     below = omega (arith, moves-length m action (m .tree))
@@ -204,13 +200,13 @@ module _ (m : Model) (lawful : Lawful m) (t rest : List ℕ) (e : t ≡ sheetWor
     unfolding picksOf cellsOf takersOf
     move-named =
         sym (same-takers action picked (m .automata) 0 refl) ∙
-        pick-is t (ownSets t) (countsOf t action) m action (rootOf t) lawful (root-stands m lawful t rest e) (told action) (replicate 192 0) refl k below few
+        pick-is t (ownOf t) (countsOf t lay action) m action (rootOf t lay) lawful (root-stands m lawful t rest e) (told action) (replicate 192 0) refl k below few
 
     pub move-valid : Valid action picked 0 (m .automata)
     unfolding picksOf cellsOf
     move-valid =
         valid-picks action picked
-        (pick-there t (ownSets t) (countsOf t action) m action (rootOf t) lawful (root-stands m lawful t rest e) (told action) (replicate 192 0) refl k below few)
+        (pick-there t (ownOf t) (countsOf t lay action) m action (rootOf t lay) lawful (root-stands m lawful t rest e) (told action) (replicate 192 0) refl k below few)
         (m .automata) 0 (omega arith) refl
 
   module _ (action : ℕ) (few : moveCount m action (m .tree) ≤ maxEdges)
@@ -219,14 +215,14 @@ module _ (m : Model) (lawful : Lawful m) (t rest : List ℕ) (e : t ≡ sheetWor
     listed = moves m action (m .tree)
 
     abbrev cells : List ℕ
-    cells = cellsOf t (ownSets t) action
+    cells = cellsOf t lay (ownOf t) action
 
     -- move k's edge
-    one-edge : (k : ℕ) → k < length listed → edgeWordsAt t action (picksOf t cells k) ≡ lineWords (edgeLine (mergedEdge m action (getD listed k [])))
+    one-edge : (k : ℕ) → k < length listed → edgeWordsAt t lay action (picksOf t lay cells k) ≡ lineWords (edgeLine (mergedEdge m action (getD listed k [])))
     one-edge k h =
         let named = move-named action few k h in
-        let fits : nodeCount (mergedEdge m action (takersFrom action (picksOf t cells k) 0 (m .automata)) .update) ≤ most = rw named (small (getD listed k []) (listed-at listed k h)) in
-        edge-words m lawful t rest e action (picksOf t cells k) (move-valid action few k h) fits ∙
+        let fits : nodeCount (mergedEdge m action (takersFrom action (picksOf t lay cells k) 0 (m .automata)) .update) ≤ most = rw named (small (getD listed k []) (listed-at listed k h)) in
+        edge-words m lawful t rest e action (picksOf t lay cells k) (move-valid action few k h) fits ∙
         ap (λ (ts : List Taker). lineWords (edgeLine (mergedEdge m action ts))) named
       where
         listed-at : (l : List (List Taker)) (j : ℕ) → j < length l → List·Memᴰ (getD l j []) l
@@ -234,7 +230,7 @@ module _ (m : Model) (lawful : Lawful m) (t rest : List ℕ) (e : t ≡ sheetWor
         listed-at (y ∷ l) zero q = List·Memᴰ·head refl
         listed-at (y ∷ l) (suc j) q = List·Memᴰ·tail (listed-at l j (omega arith))
 
-    edges-from : (n k : ℕ) → k + n ≡ length listed → edgesFrom t cells action k n ≡ edgeWords (map (mergedEdge m action) (drop k listed))
+    edges-from : (n k : ℕ) → k + n ≡ length listed → edgesFrom t lay cells action k n ≡ edgeWords (map (mergedEdge m action) (drop k listed))
     unfolding edgesFrom flatMap
     edges-from zero k h =
         let whole : length listed ≤ k = omega arith in
@@ -245,15 +241,15 @@ module _ (m : Model) (lawful : Lawful m) (t rest : List ℕ) (e : t ≡ sheetWor
         ap (λ (s : List (List Taker)). edgeWords (map (mergedEdge m action) s)) (sym (drop-cons listed k [] l)))
 
     -- the law for one action
-    pub action-words : edgesUnder t (ownSets t) action ≡ edgeWords (map (mergedEdge m action) listed)
+    pub action-words : edgesUnder t lay (ownOf t) action ≡ edgeWords (map (mergedEdge m action) listed)
     unfolding edgesUnder
     action-words =
-        ap (edgesFrom t cells action 0) (total-is action few ∙ sym (moves-length m action (m .tree))) ∙ edges-from (length listed) 0 (omega arith)
+        ap (edgesFrom t lay cells action 0) (total-is action few ∙ sym (moves-length m action (m .tree))) ∙ edges-from (length listed) 0 (omega arith)
 
   -- the law: all edges, in their order
   module _ (few : (a : ℕ) → a ≤ m .actions → moveCount m a (m .tree) ≤ maxEdges)
       (small : (a : ℕ) → a ≤ m .actions → (ts : List Taker) → List·Memᴰ ts (moves m a (m .tree)) → nodeCount (mergedEdge m a ts .update) ≤ most) where
-    edges-upto : (n a : ℕ) → a + n ≡ m .actions + 1 → edgesOf t (ownSets t) a n ≡ edgeWords (flatMap (λ b. map (mergedEdge m b) (moves m b (m .tree))) (countUp a n))
+    edges-upto : (n a : ℕ) → a + n ≡ m .actions + 1 → edgesOf t lay (ownOf t) a n ≡ edgeWords (flatMap (λ b. map (mergedEdge m b) (moves m b (m .tree))) (countUp a n))
     unfolding edgesOf flatMap countUp
     edges-upto zero a h = refl
     edges-upto (suc n) a h =
@@ -263,6 +259,9 @@ module _ (m : Model) (lawful : Lawful m) (t rest : List ℕ) (e : t ≡ sheetWor
         rw (add-one a) (ap₂ (λ (x y : List ℕ). x ++ y) (action-words a (few a l) (small a l)) (edges-upto n (suc a) (omega arith)) ∙
         sym (ap wordsOf (map-append edgeLine es others) ∙ words-append (map edgeLine es) (map edgeLine others)))
 
-    pub edges-words : edgesOf t (ownSets t) 0 (m .actions + 1) ≡ edgeWords (mergedEdges m)
-    unfolding mergedEdges
-    edges-words = let z : m .actions + 1 ≡ suc (m .actions) = omega arith in edges-upto (m .actions + 1) 0 (omega arith) ∙ ap (λ n. edgeWords (flatMap (λ b. map (mergedEdge m b) (moves m b (m .tree))) (countUp 0 n))) z
+    pub edges-words : edgesIn t (layoutOf t) (ownOf t) ≡ edgeWords (mergedEdges m)
+    unfolding edgesIn mergedEdges
+    edges-words =
+        let z : lastAction lay + 1 ≡ m .actions + 1 = ap (λ a. a + 1) (last-is m lawful t rest e) in
+        let y : m .actions + 1 ≡ suc (m .actions) = omega arith in
+        ap (edgesOf t lay (ownOf t) 0) z ∙ edges-upto (m .actions + 1) 0 (omega arith) ∙ ap (λ n. edgeWords (flatMap (λ b. map (mergedEdge m b) (moves m b (m .tree))) (countUp 0 n))) y

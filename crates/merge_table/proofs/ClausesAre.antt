@@ -18,20 +18,19 @@ use Rattle.model.specs.Lines.{locationLines, automatonLines, composeLine}
 use Rattle.model.specs.Table.{code, predWords, lineWords, sheetWords}
 use Rattle.model.specs.Linear.{pointer, atLocations, atAutomata, mergedInit, mergedInv}
 use Rattle.model.proofs.LinearLimits.{preds-count, locations-length, automata-length}
-use Rattle.table_places.specs.Outline.{reach, afterPredicate, afterAutomaton, automatonAt}
+use Rattle.table_places.specs.Outline.{nodesPlace, locationCount, firstLocation, afterPredicate, afterAutomaton, variablesIn, automataIn, firstAutomaton}
 use Rattle.table_places.proofs.OutlineLaws as O
-use Rattle.table_places.proofs.OutlineLaws.{locationWords, automatonWords, after-automaton, after-predicate}
+use Rattle.table_places.proofs.OutlineLaws.{locationWords, automatonWords, after-automaton, after-predicate, location-count, first-location, variables-in, automata-in}
 use Rattle.node_words.specs.declared.Node.the-variants.{All, Number, Old}
 use Rattle.node_words.specs.Nodes.{wordFor}
 use Rattle.node_words.proofs.NodeLaws.{unbiased-up, all-held, old-held, number-held}
-use Rattle.merge_words.specs.Append.{narrow}
-use Rattle.merge_words.specs.Runs.{nodesAt}
-use Rattle.merge_words.specs.NodeWords.{upward, allNode, numberNode, oldNode, pointerOf, most, capped}
-use Rattle.merge_words.specs.Head.{variablesOf, automataOf}
-use Rattle.merge_words.specs.Clauses.{partAt, clauseWords, locationClauses, automatonClauses, automataClauses, locationNodes, automataNodes, locationTotal, mergedNodes, mergedWords}
-use Rattle.merge_words.proofs.NodeLaws.{capped-over, capped-is}
-use Rattle.merge_table.proofs.Standing.{narrow-is, run-length, count-stands, nodes-stand, automata-cons, locations-number, locations-stand}
-use Rattle.merge_table.proofs.HeadIs.{pointer-sum, upward-small, variables-are, automata-are, automata-stand, few-locations}
+use Rattle.merge_append.specs.Append.{narrow}
+use Rattle.merge_append.specs.Runs.{nodesAt}
+use Rattle.merge_append.specs.NodeWords.{upward, allNode, numberNode, oldNode, pointerOf, most, capped}
+use Rattle.merge_predicates.specs.Clauses.{partAt, clauseWords, locationClauses, automatonClauses, automataClauses, locationNodes, automataNodes, locationTotal, mergedNodes, mergedWords}
+use Rattle.merge_append.proofs.NodeLaws.{capped-over, capped-is}
+use Rattle.merge_table.proofs.Standing.{narrow-is, run-length, nodes-stand, automata-cons}
+use Rattle.merge_table.proofs.HeadIs.{pointer-sum, upward-small, automata-stand, few-locations}
 
 -- sums that stay within a word
 pub capped-most : (n : ℕ) → capped n ≤ most
@@ -57,7 +56,7 @@ capped-add a b = go (leb a most) refl
 -- a clause's nodes are its four and the predicate's
 clause-length : (t : List ℕ) (k j part : ℕ) → length (clauseWords t k j part) ≡ 4 + getD t part 0
 unfolding clauseWords nodesAt
-clause-length t k j part = omega (arith, run-length t (reach t part 1) (getD t part 0))
+clause-length t k j part = omega (arith, run-length t (nodesPlace t part) (getD t part 0))
 
 -- On any words: the count of the nodes is the number of words.
 module _ (t : List ℕ) (inv : Bool) where
@@ -77,17 +76,17 @@ module _ (t : List ℕ) (inv : Bool) where
   unfolding automataNodes automataClauses automatonClauses
   automata-nodes-are zero v i at sum h = rw (add-zero sum) (capped-is sum h)
   automata-nodes-are (suc n) v i at sum h =
-      let c = locationClauses t inv (pointerOf v i) 0 (getD t (reach t at 2) 0) (reach t at 3) in
+      let c = locationClauses t inv (pointerOf v i) 0 (locationCount t at) (firstLocation t at) in
       let others = automataClauses t inv v (i + 1) n (afterAutomaton t at) in
-      let first = location-nodes-are (getD t (reach t at 2) 0) (pointerOf v i) 0 (reach t at 3) sum h in
-      let s = locationNodes t inv (getD t (reach t at 2) 0) (reach t at 3) sum in
+      let first = location-nodes-are (locationCount t at) (pointerOf v i) 0 (firstLocation t at) sum h in
+      let s = locationNodes t inv (locationCount t at) (firstLocation t at) sum in
       let few : s ≤ most = rw first (capped-most (sum + length c)) in
       let size : sum + length c + length others ≡ sum + length (c ++ others) = omega (arith, length-append c others) in
       automata-nodes-are n v (i + 1) (afterAutomaton t at) s few ∙ ap (λ x. capped (x + length others)) first ∙ capped-add (sum + length c) (length others) ∙ ap capped size
 
-  pub merged-nodes-are : mergedNodes t inv ≡ capped (1 + length (automataClauses t inv (variablesOf t) 0 (automataOf t) (automatonAt t 0)))
+  pub merged-nodes-are : mergedNodes t inv ≡ capped (1 + length (automataClauses t inv (variablesIn t) 0 (automataIn t) (firstAutomaton t)))
   unfolding mergedNodes
-  merged-nodes-are = automata-nodes-are (automataOf t) (variablesOf t) 0 (automatonAt t 0) 1 (omega arith)
+  merged-nodes-are = automata-nodes-are (automataIn t) (variablesIn t) 0 (firstAutomaton t) 1 (omega arith)
 
 -- which of a location's predicates stands at its part's place
 abbrev pub Part : Bool → (Location → Pred) → Type 0
@@ -175,14 +174,14 @@ module _ (m : Model) (inv : Bool) (part : Location → Pred) (stands : Part inv 
   automata-clauses-are (x ∷ xs) v i at rest ev hv h few e =
       let f = automata-cons t at x xs rest e in
       let others = automatonWords xs ++ rest in
-      let n : getD t (reach t at 2) 0 ≡ length (x .locations) = locations-number t others x at f in
+      let n : locationCount t at ≡ length (x .locations) = location-count t others x at f in
       let s = few x (List·Memᴰ·head refl) in
       let k : pointerOf v i ≡ v + i = pointer-sum v i (omega arith) (omega arith) in
       let kp : pointerOf v i ≡ pointer m i = k ∙ point v i ev in
       let kh : pointerOf v i < 65536 = omega arith in
       let small : 0 + length (x .locations) < 65536 = omega arith in
-      let c : locationClauses t inv (pointerOf v i) 0 (getD t (reach t at 2) 0) (reach t at 3) ≡ codes (atLocations m part i 0 (x .locations)) =
-      ap (λ c. locationClauses t inv (pointerOf v i) 0 c (reach t at 3)) n ∙ locations-are (x .locations) i (pointerOf v i) 0 (reach t at 3) _ kp kh small (locations-stand t others x at f) in
+      let c : locationClauses t inv (pointerOf v i) 0 (locationCount t at) (firstLocation t at) ≡ codes (atLocations m part i 0 (x .locations)) =
+      ap (λ c. locationClauses t inv (pointerOf v i) 0 c (firstLocation t at)) n ∙ locations-are (x .locations) i (pointerOf v i) 0 (firstLocation t at) _ kp kh small (first-location t others x at f) in
       let o = automata-clauses-are xs v (suc i) (afterAutomaton t at) rest ev hv (omega arith) (λ y q. few y (List·Memᴰ·tail q)) (after-automaton t others x at f) in
       rw (add-one i) (ap₂ (λ (a b : List ℕ). a ++ b) c o ∙ sym (codes-append (atLocations m part i 0 (x .locations)) (atAutomata m part (suc i) xs)))
     where
@@ -198,7 +197,7 @@ totals m part t (x ∷ xs) i at sum rest h e =
     let f = automata-cons t at x xs rest e in
     let others = automatonWords xs ++ rest in
     let l = length (x .locations) in
-    let n : getD t (reach t at 2) 0 ≡ length (x .locations) = locations-number t others x at f in
+    let n : locationCount t at ≡ length (x .locations) = location-count t others x at f in
     let more = atAutomata m part (suc i) xs in
     let size : sum + l + length more ≡ sum + length (atLocations m part i 0 (x .locations) ++ more) = omega (arith, length-append (atLocations m part i 0 (x .locations)) more, locations-length m part i 0 (x .locations)) in
     ap (λ c. locationTotal t (length xs) (afterAutomaton t at) (capped (sum + c))) n ∙
@@ -210,12 +209,12 @@ module _ (m : Model) (lawful : Lawful m) (t rest : List ℕ) (e : t ≡ sheetWor
     abbrev clauses : List Pred
     clauses = atAutomata m part 0 (m .automata)
 
-    clauses-are : automataClauses t inv (variablesOf t) 0 (automataOf t) (automatonAt t 0) ≡ codes clauses
+    clauses-are : automataClauses t inv (variablesIn t) 0 (automataIn t) (firstAutomaton t) ≡ codes clauses
     clauses-are =
         let fv = lawful .few-variables in
         let fn = lawful .few-automata in
-        ap₂ (λ v n. automataClauses t inv v 0 n (automatonAt t 0)) (variables-are m lawful t rest e) (automata-are m lawful t rest e) ∙
-        automata-clauses-are m inv part stands t (m .automata) (length (m .variables)) 0 (automatonAt t 0) _ refl (omega arith) (omega arith) (few-locations m lawful t rest e) (automata-stand m lawful t rest e)
+        ap₂ (λ v n. automataClauses t inv v 0 n (firstAutomaton t)) (variables-in t rest m e) (automata-in t rest m e) ∙
+        automata-clauses-are m inv part stands t (m .automata) (length (m .variables)) 0 (firstAutomaton t) _ refl (omega arith) (omega arith) (few-locations m lawful t rest e) (automata-stand m lawful t rest e)
 
     -- the count of nodes is the merged predicate's
     nodes-are : mergedNodes t inv ≡ capped (nodeCount (all (preds clauses)))
@@ -229,10 +228,10 @@ module _ (m : Model) (lawful : Lawful m) (t rest : List ℕ) (e : t ≡ sheetWor
         let fn = lawful .few-automata in
         let count : length clauses ≤ maxLocations * length (m .automata) = automata-length m part 0 (m .automata) (few-locations m lawful t rest e) in
         let small : length clauses ≤ most = omega arith in
-        let total : locationTotal t (automataOf t) (automatonAt t 0) 0 ≡ operands (preds clauses) =
-        ap (λ n. locationTotal t n (automatonAt t 0) 0) (automata-are m lawful t rest e) ∙ totals m part t (m .automata) 0 (automatonAt t 0) 0 _ (omega arith) (automata-stand m lawful t rest e) ∙
+        let total : locationTotal t (automataIn t) (firstAutomaton t) 0 ≡ operands (preds clauses) =
+        ap (λ n. locationTotal t n (firstAutomaton t) 0) (automata-in t rest m e) ∙ totals m part t (m .automata) 0 (firstAutomaton t) 0 _ (omega arith) (automata-stand m lawful t rest e) ∙
         ap capped (zero-add (length clauses)) ∙ sym (capped-is (length clauses) small) ∙ sym (preds-count clauses) in
-        let node : allNode (locationTotal t (automataOf t) (automatonAt t 0) 0) ≡ code (allOf (operands (preds clauses))) =
+        let node : allNode (locationTotal t (automataIn t) (firstAutomaton t) 0) ≡ code (allOf (operands (preds clauses))) =
         ap allNode total ∙ all-code (operands (preds clauses)) (omega (arith, preds-count clauses)) in
         let nodes : mergedNodes t inv ≡ nodeCount (all (preds clauses)) = nodes-are ∙ sym (capped-is (nodeCount (all (preds clauses))) few) in
         rw (nodes, node, clauses-are)

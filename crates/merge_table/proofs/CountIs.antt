@@ -21,14 +21,15 @@ use Rattle.merge_moves.specs.declared.planning.Planned.{Planned}
 use Rattle.merge_moves.specs.Capping as M
 use Rattle.merge_moves.proofs.CappingLaws.{cap-small, cap-large}
 use Rattle.merge_moves.proofs.Whole.{plan-is}
-use Rattle.merge_words.specs.NodeWords.{pointerOf, most, capped}
-use Rattle.merge_words.specs.Head.{variablesOf, automataOf}
-use Rattle.merge_words.specs.MergedEdges.{countsOf, rootOf, moveTotal, movesOf}
-use Rattle.merge_words.specs.Sync.{ownSets}
-use Rattle.merge_words.proofs.NodeLaws.{capped-over, capped-is}
-use Rattle.merge_table.proofs.HeadIs.{pointer-sum, variables-are, automata-are}
+use Rattle.merge_append.specs.NodeWords.{pointerOf, most, capped}
+use Rattle.merge_edges.specs.Moves.{countsOf, rootOf, moveTotal, lastAction, movesOf, movesIn}
+use Rattle.merge_append.proofs.NodeLaws.{capped-over, capped-is}
+use Rattle.merge_table.proofs.HeadIs.{pointer-sum, laid-variables, laid-automata}
+use Rattle.merge_table.proofs.Standing.{ownOf}
+use Rattle.table_places.specs.declared.layout.Layout.{Layout}
+use Rattle.table_places.specs.Layout.{layoutOf}
 use Rattle.merge_table.proofs.SyncIs.{root-stands}
-use Rattle.merge_table.proofs.AllEdgesAre.{told}
+use Rattle.merge_table.proofs.AllEdgesAre.{last-is, told}
 
 -- a sum above 512 stays above it where it is cut to a word
 capped-large : (n : ℕ) → maxEdges < n → maxEdges < capped n
@@ -56,61 +57,68 @@ one-of m (suc n) b a l h = go (decLt b a) (λ k. one-of m n (suc b) a k (omega a
         omega arith
 
 module _ (m : Model) (lawful : Lawful m) (t rest : List ℕ) (e : t ≡ sheetWords m ++ rest) where
+  abbrev lay : Layout
+  lay = layoutOf t
+
   -- the plan's count, which is cut above 512
-  total-cut : (action : ℕ) → moveTotal t (ownSets t) action ≡ M.capped (moveCount m action (m .tree))
+  total-cut : (action : ℕ) → moveTotal t lay (ownOf t) action ≡ M.capped (moveCount m action (m .tree))
   unfolding moveTotal
   total-cut action =
-      ap (λ (p : Planned). p .count) (plan-is t (ownSets t) (countsOf t action) m action (rootOf t) lawful (root-stands m lawful t rest e) (told m lawful t rest e action))
+      ap (λ (p : Planned). p .count) (plan-is t (ownOf t) (countsOf t lay action) m action (rootOf t lay) lawful (root-stands m lawful t rest e) (told m lawful t rest e action))
 
   -- up to 512 the sum is exact
-  few-are : (n a s : ℕ) → s + countFrom m a n ≤ maxEdges → movesOf t (ownSets t) a n s ≡ s + countFrom m a n
+  few-are : (n a s : ℕ) → s + countFrom m a n ≤ maxEdges → movesOf t lay (ownOf t) a n s ≡ s + countFrom m a n
   unfolding movesOf sum countUp
   few-are zero a s h = omega arith
   few-are (suc n) a s h =
       let c = moveCount m a (m .tree) in
-      let one : moveTotal t (ownSets t) a ≡ c = total-cut a ∙ sym (cap-small c (omega arith)) in
-      let next : capped (s + moveTotal t (ownSets t) a) ≡ s + c = ap (λ x. capped (s + x)) one ∙ sym (capped-is (s + c) (omega arith)) in
+      let one : moveTotal t lay (ownOf t) a ≡ c = total-cut a ∙ sym (cap-small c (omega arith)) in
+      let next : capped (s + moveTotal t lay (ownOf t) a) ≡ s + c = ap (λ x. capped (s + x)) one ∙ sym (capped-is (s + c) (omega arith)) in
       let all : s + c + countFrom m (suc a) n ≡ s + (c + countFrom m (suc a) n) = omega arith in
-      ap₂ (λ x y. movesOf t (ownSets t) x n y) (add-one a) next ∙ few-are n (suc a) (s + c) (omega arith) ∙ all
+      ap₂ (λ x y. movesOf t lay (ownOf t) x n y) (add-one a) next ∙ few-are n (suc a) (s + c) (omega arith) ∙ all
 
   -- and above it, it is above
-  many-are : (n a s : ℕ) → maxEdges < s + countFrom m a n → maxEdges < movesOf t (ownSets t) a n s
+  many-are : (n a s : ℕ) → maxEdges < s + countFrom m a n → maxEdges < movesOf t lay (ownOf t) a n s
   unfolding movesOf sum countUp
   many-are zero a s h = omega arith
-  many-are (suc n) a s h = go (decLt maxEdges c) (decLt maxEdges (s + moveTotal t (ownSets t) a)) (λ x l. many-are n (suc a) x l)
+  many-are (suc n) a s h = go (decLt maxEdges c) (decLt maxEdges (s + moveTotal t lay (ownOf t) a)) (λ x l. many-are n (suc a) x l)
     where
       c : ℕ
       c = moveCount m a (m .tree)
 
-      go : Dec (maxEdges < c) → Dec (maxEdges < s + moveTotal t (ownSets t) a) → ((x : ℕ) → maxEdges < x + countFrom m (suc a) n → maxEdges < movesOf t (ownSets t) (suc a) n x)
-          → maxEdges < movesOf t (ownSets t) (a + 1) n (capped (s + moveTotal t (ownSets t) a))
-      go p (yes q) ih = let k = capped-large (s + moveTotal t (ownSets t) a) q in rw (add-one a) (ih (capped (s + moveTotal t (ownSets t) a)) (omega arith))
+      go : Dec (maxEdges < c) → Dec (maxEdges < s + moveTotal t lay (ownOf t) a) → ((x : ℕ) → maxEdges < x + countFrom m (suc a) n → maxEdges < movesOf t lay (ownOf t) (suc a) n x)
+          → maxEdges < movesOf t lay (ownOf t) (a + 1) n (capped (s + moveTotal t lay (ownOf t) a))
+      go p (yes q) ih = let k = capped-large (s + moveTotal t lay (ownOf t) a) q in rw (add-one a) (ih (capped (s + moveTotal t lay (ownOf t) a)) (omega arith))
       go (yes p) (no q) ih = let k = total-cut a in let l = cap-large c p in absurd (omega arith)
       go (no p) (no q) ih =
           let k = total-cut a in
           let l = cap-small c (omega arith) in
-          let i = capped-is (s + moveTotal t (ownSets t) a) (omega arith) in
-          rw (add-one a) (ih (capped (s + moveTotal t (ownSets t) a)) (omega arith))
+          let i = capped-is (s + moveTotal t lay (ownOf t) a) (omega arith) in
+          rw (add-one a) (ih (capped (s + moveTotal t lay (ownOf t) a)) (omega arith))
 
   abbrev counted : ℕ
-  counted = movesOf t (ownSets t) 0 (m .actions + 1) 0
+  counted = movesIn t lay (ownOf t)
+
+  counted-is : counted ≡ movesOf t lay (ownOf t) 0 (m .actions + 1) 0
+  unfolding movesIn
+  counted-is = ap (λ a. movesOf t lay (ownOf t) 0 (a + 1) 0) (last-is m lawful t rest e)
 
   whole-count : countFrom m 0 (m .actions + 1) ≡ mergedCount m
   unfolding mergedCount
   whole-count = ap (countFrom m 0) (add-one (m .actions))
 
   exact : mergedCount m ≤ maxEdges → counted ≡ mergedCount m
-  exact h = few-are (m .actions + 1) 0 0 (omega (arith, whole-count)) ∙ zero-add (countFrom m 0 (m .actions + 1)) ∙ whole-count
+  exact h = counted-is ∙ few-are (m .actions + 1) 0 0 (omega (arith, whole-count)) ∙ zero-add (countFrom m 0 (m .actions + 1)) ∙ whole-count
 
-  pub count-row : ltb maxEdges (movesOf t (ownSets t) 0 (m .actions + 1) 0) ≡ row32 m
+  pub count-row : ltb maxEdges (movesIn t (layoutOf t) (ownOf t)) ≡ row32 m
   unfolding row32
   count-row = go (decLt maxEdges (mergedCount m))
     where
       go : Dec (maxEdges < mergedCount m) → ltb maxEdges counted ≡ ltb maxEdges (mergedCount m)
-      go (yes h) = lt-ltb maxEdges counted (many-are (m .actions + 1) 0 0 (omega (arith, whole-count))) ∙ sym (lt-ltb maxEdges (mergedCount m) h)
+      go (yes h) = ap (ltb maxEdges) counted-is ∙ lt-ltb maxEdges _ (many-are (m .actions + 1) 0 0 (omega (arith, whole-count))) ∙ sym (lt-ltb maxEdges (mergedCount m) h)
       go (no h) = ap (ltb maxEdges) (exact (omega arith))
 
-  pub count-exact : row32 m ≡ false → movesOf t (ownSets t) 0 (m .actions + 1) 0 ≡ mergedCount m
+  pub count-exact : row32 m ≡ false → movesIn t (layoutOf t) (ownOf t) ≡ mergedCount m
   unfolding row32
   count-exact h = exact (ltb-false maxEdges (mergedCount m) h)
 
@@ -121,10 +129,10 @@ module _ (m : Model) (lawful : Lawful m) (t rest : List ℕ) (e : t ≡ sheetWor
       let one = one-of m (m .actions + 1) 0 a (omega arith) (omega arith) in
       omega (arith, whole-count)
 
-  pub variables-row : ltb maxVariables (pointerOf (variablesOf t) (automataOf t)) ≡ row31 m
+  pub variables-row : ltb maxVariables (pointerOf (layoutOf t .variables) (layoutOf t .automata)) ≡ row31 m
   unfolding row31
   variables-row =
       let v = lawful .few-variables in
       let n = lawful .few-automata in
       ap (ltb maxVariables)
-      (ap₂ pointerOf (variables-are m lawful t rest e) (automata-are m lawful t rest e) ∙ pointer-sum (length (m .variables)) (length (m .automata)) (omega arith) (omega arith))
+      (ap₂ pointerOf (laid-variables m lawful t rest e) (laid-automata m lawful t rest e) ∙ pointer-sum (length (m .variables)) (length (m .automata)) (omega arith) (omega arith))

@@ -18,14 +18,15 @@ use Rattle.model.specs.Table.{predWords, lineWords, sheetWords}
 use Rattle.model.specs.Lines.{locationLines}
 use Rattle.model.specs.Linear.{pointer, atLocations, atAutomata, mergedInit, mergedInv, pointerMoves, mergedEdge}
 use Rattle.model.proofs.Tests.{exists-append}
-use Rattle.table_places.specs.Outline.{reach, afterPredicate, afterAutomaton, automatonAt}
-use Rattle.table_places.proofs.OutlineLaws.{locationWords, automatonWords, after-automaton}
-use Rattle.merge_words.specs.Head.{automataOf}
-use Rattle.merge_words.specs.Clauses.{partAt}
-use Rattle.merge_words.specs.MergedEdge.{takers}
-use Rattle.merge_words.specs.Depths.{isDeeper, locationsDeeper, automataDeeper, mergedDeep, updatesDeep}
-use Rattle.merge_table.proofs.Standing.{automata-cons, locations-number, locations-stand}
-use Rattle.merge_table.proofs.HeadIs.{automata-are, automata-stand}
+use Rattle.table_places.specs.Outline.{locationCount, firstLocation, afterPredicate, afterAutomaton, automataIn, firstAutomaton}
+use Rattle.table_places.proofs.OutlineLaws.{locationWords, automatonWords, after-automaton, location-count, first-location, automata-in}
+use Rattle.merge_predicates.specs.Clauses.{partAt}
+use Rattle.merge_edges.specs.Taking.{takers}
+use Rattle.merge_edges.specs.Edge.{updatesDeep}
+use Rattle.table_places.specs.Layout.{layoutOf}
+use Rattle.merge_predicates.specs.Depths.{isDeeper, locationsDeeper, automataDeeper, mergedDeep}
+use Rattle.merge_table.proofs.Standing.{automata-cons}
+use Rattle.merge_table.proofs.HeadIs.{automata-stand}
 use Rattle.merge_table.proofs.ClausesAre.{Part, init-part, inv-part, location-cons, past-location}
 use Rattle.merge_table.proofs.DepthsAre.{Readable, readable, deeper-stands}
 use Rattle.merge_table.proofs.EdgesAre.{Valid, takersFrom, edge-deep}
@@ -103,17 +104,17 @@ module _ (m : Model) (inv : Bool) (part : Location → Pred) (stands : Part inv 
     automata-read (x ∷ xs) at rest shallow e =
         let f = automata-cons t at x xs rest e in
         let others = automatonWords xs ++ rest in
-        let n : getD t (reach t at 2) 0 ≡ length (x .locations) = locations-number t others x at f in
+        let n : locationCount t at ≡ length (x .locations) = location-count t others x at f in
         ap₂ (λ (a b : Bool). a || b)
-        (ap (λ c. locationsDeeper t inv 22 c (reach t at 3)) n ∙ locations-read (x .locations) (reach t at 3) _ (shallow x (List·Memᴰ·head refl)) (locations-stand t others x at f))
+        (ap (λ c. locationsDeeper t inv 22 c (firstLocation t at)) n ∙ locations-read (x .locations) (firstLocation t at) _ (shallow x (List·Memᴰ·head refl)) (first-location t others x at f))
         (automata-read xs (afterAutomaton t at) rest (λ y q. shallow y (List·Memᴰ·tail q)) (after-automaton t others x at f))
 
   whole-deep : (lawful : Lawful m) (t rest : List ℕ) → t ≡ sheetWords m ++ rest → ((l : Location) → LawfulLocation (m .variables) l → Readable (part l))
       → mergedDeep t inv ≡ isTooDeep (all (preds (atAutomata m part 0 (m .automata))))
   unfolding mergedDeep
   whole-deep lawful t rest e shallow =
-      ap (λ n. automataDeeper t inv 22 n (automatonAt t 0)) (automata-are m lawful t rest e) ∙
-      automata-read t (m .automata) (automatonAt t 0) _ (λ x i l j. shallow l (lawful .automata x i .locations l j)) (automata-stand m lawful t rest e) ∙
+      ap (λ n. automataDeeper t inv 22 n (firstAutomaton t)) (automata-in t rest m e) ∙
+      automata-read t (m .automata) (firstAutomaton t) _ (λ x i l j. shallow l (lawful .automata x i .locations l j)) (automata-stand m lawful t rest e) ∙
       sym (all-deep (atAutomata m part 0 (m .automata)) ∙ automata-deep 0 (m .automata))
 
 -- the pointer moves are not deep
@@ -136,7 +137,7 @@ module _ (m : Model) (lawful : Lawful m) (t rest : List ℕ) (e : t ≡ sheetWor
   unfolding mergedInv
   inv-deep = whole-deep m true (λ l. l .inv) inv-part lawful t rest e (λ l h. readable (l .inv) (h .inv))
 
-  pub edge-too-deep : (action : ℕ) (picks : List ℕ) → Valid action picks 0 (m .automata) → updatesDeep t (takers t action picks) ≡ isTooDeep (mergedEdge m action (takersFrom action picks 0 (m .automata)) .update)
+  pub edge-too-deep : (action : ℕ) (picks : List ℕ) → Valid action picks 0 (m .automata) → updatesDeep t (takers t (layoutOf t) action picks) ≡ isTooDeep (mergedEdge m action (takersFrom action picks 0 (m .automata)) .update)
   unfolding mergedEdge
   edge-too-deep action picks valid =
       let ts = takersFrom action picks 0 (m .automata) in

@@ -15,12 +15,12 @@ use Rattle.model.specs.Limits.{inRange}
 use Rattle.model.specs.Lawful.{LawfulPred}
 use Rattle.model.specs.Table.{code, wordOf, predWords}
 use Rattle.model.proofs.Decode.{words-back}
-use Rattle.table_places.specs.Outline.{reach}
-use Rattle.table_places.proofs.OutlineLaws.{read, reached}
-use Rattle.merge_words.specs.declared.depth.Depth.{Depth}
-use Rattle.merge_words.specs.NodeWords.{most, capped}
-use Rattle.merge_words.specs.Depths.{arity, operandsOf, depthTo, greater, deepest, depthAt, isDeeper}
-use Rattle.merge_words.proofs.NodeLaws.{capped-is}
+use Rattle.table_places.specs.Outline.{reach, nodesPlace}
+use Rattle.table_places.proofs.OutlineLaws.{read, reached, nodes-stand}
+use Rattle.merge_predicates.specs.declared.depth.Depth.{Depth}
+use Rattle.merge_append.specs.NodeWords.{most, capped}
+use Rattle.merge_predicates.specs.Depths.{arity, operandsOf, depthTo, greater, deepest, depthAt, isDeeper}
+use Rattle.merge_append.proofs.NodeLaws.{capped-is}
 
 -- a predicate whose words say it, at most as deep as it may be
 pub record Readable (p : Pred) : Type 0 where
@@ -177,14 +177,13 @@ module _ (t : List ℕ) where
         (λ s g. expr-depth y n s rest (omega arith) (omega arith) g))
 
   -- the law: the depth read at a predicate's place is the predicate's
-  pub depth-of : (p : Pred) (at : ℕ) (rest : List ℕ) → Readable p → drop at t ≡ predWords p ++ rest → depthAt t (maxDepth + 1) (reach t at 1) .depth ≡ depth p
-  unfolding predWords
+  pub depth-of : (p : Pred) (at : ℕ) (rest : List ℕ) → Readable p → drop at t ≡ predWords p ++ rest → depthAt t (maxDepth + 1) (nodesPlace t at) .depth ≡ depth p
   depth-of p at rest h e =
       let l = h .shallow in
-      let f = reached t at 1 (nodeCount p ∷ []) (map code (words p) ++ rest) e refl in
-      let g : onward t (reach t at 1) ≡ words p ++ map wordOf rest =
+      let f = nodes-stand t at p rest e in
+      let g : onward t (nodesPlace t at) ≡ words p ++ map wordOf rest =
       ap (map wordOf) f ∙ map-append wordOf (map code (words p)) rest ∙ ap (λ (k : List Word). k ++ map wordOf rest) (words-back (words p) (h .ranged)) in
-      pred-depth p 25 (reach t at 1) (map wordOf rest) (omega arith) (omega arith) g .depth-is
+      pred-depth p 25 (nodesPlace t at) (map wordOf rest) (omega arith) (omega arith) g .depth-is
 
   pub deeper-stands : (p : Pred) (limit at : ℕ) (rest : List ℕ) → Readable p → drop at t ≡ predWords p ++ rest → isDeeper t limit at ≡ ltb limit (depth p)
   unfolding isDeeper

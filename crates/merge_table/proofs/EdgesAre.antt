@@ -5,7 +5,7 @@ use mathlib.Core.List.{List, [], _∷_, _++_, append-assoc, append-nil, map, map
 use Prim.Native.Nat.{ℕ, zero, suc, _+_, _-_, _*_, _≤_, _<_}
 use native.Mathlib.Omega.{arith}
 use native.Mathlib.Nat.{add-zero}
-use native.Mathlib.Numerals.{add-one, sub-one}
+use native.Mathlib.Numerals.{add-one}
 use lib.IntN.{pos}
 use lib.ListN.{length, getD, take, drop, replicate, length-append, length-map, length-replicate, drop-of-length-le, List·getD-eq-default}
 use lib.Seq.{sets, sets-eq, drop-cons}
@@ -24,21 +24,22 @@ use Rattle.model.specs.Linear.{pointer, pointerMoves, mergedEdge}
 use Rattle.model.proofs.Tests.{exists-append}
 use Rattle.model.proofs.Lists.{keep-out}
 use Rattle.model.proofs.LinearLimits.{preds-count, pointers-length}
-use Rattle.table_places.specs.Outline.{reach, nodesPlace, afterPredicate, edgesAt, afterAutomaton, automatonAt}
-use Rattle.table_places.proofs.OutlineLaws.{read, reached, wordsOf as linesOf, edgeWords, automatonWords, after-predicate, sheet-parts, edges-at, after-automaton}
-use Rattle.merge_words.specs.Runs.{nodesAt}
+use Rattle.table_places.specs.Outline.{reach, nodesPlace, afterPredicate, edgeAction, updatePlace, firstEdge, edgesAt, afterAutomaton, firstAutomaton, passed, automatonAt}
+use Rattle.table_places.specs.Layout.{layoutOf, automataOf}
+use Rattle.table_places.proofs.OutlineLaws as O
+use Rattle.table_places.proofs.OutlineLaws.{wordsOf as linesOf, edgeWords, automatonWords, sheet-parts, from-stands, to-stands, action-stands, update-stands, edge-count, first-edge, after-automaton}
+use Rattle.table_places.proofs.LayoutLaws.{all-automata, edges-place}
 use Rattle.node_words.specs.declared.Node.the-variants.{New}
 use Rattle.node_words.specs.Nodes.{wordFor}
 use Rattle.node_words.proofs.NodeLaws.{new-held}
-use Rattle.merge_words.specs.NodeWords.{allNode, numberNode, oldNode, newNode, pointerOf, most, capped}
-use Rattle.merge_words.specs.Head.{variablesOf, automataOf}
-use Rattle.merge_words.specs.Depths.{updateDeep, updatesDeep}
-use Rattle.table_places.specs.AtMost.{atMost}
-use Rattle.merge_words.specs.MergedEdge.{isUnder, still, edgeUnder, takenAt, takenFrom, takers, updateAt, moveAt, updatesAt, movesAt, takerNodes, takersNodes, takerOperands, takersOperands, edgeBy, edgeWordsAt}
-use Rattle.merge_words.proofs.NodeLaws.{capped-is}
-use Rattle.merge_words.proofs.EdgeLaws.{at-most-is}
-use Rattle.merge_table.proofs.Standing.{narrow-is, run-length, nodes-stand, automata-cons, edges-stand}
-use Rattle.merge_table.proofs.HeadIs.{pointer-sum, variables-are, automata-are, automata-stand}
+use Rattle.merge_append.specs.Runs.{nodesAt}
+use Rattle.merge_append.specs.NodeWords.{allNode, numberNode, oldNode, newNode, pointerOf, most, capped}
+use Rattle.merge_append.proofs.NodeLaws.{capped-is}
+use Rattle.merge_edges.specs.Taking.{isUnder, still, edgeUnder, takenAt, takenFrom, takers}
+use Rattle.merge_edges.specs.Edge.{updateAt, moveAt, updatesAt, movesAt, takerNodes, takersNodes, takerOperands, takersOperands, edgeBy, updateDeep, updatesDeep}
+use Rattle.merge_edges.specs.Edges.{edgeWordsAt}
+use Rattle.merge_table.proofs.Standing.{narrow-is, run-length, nodes-stand, automata-cons}
+use Rattle.merge_table.proofs.HeadIs.{pointer-sum, laid-variables, automata-stand}
 use Rattle.merge_table.proofs.ClausesAre.{capped-most, capped-add, codes, codes-append, codes-cons, number-code, old-code, all-code}
 use Rattle.merge_table.proofs.DepthsAre.{Readable, readable, deeper-stands}
 
@@ -73,16 +74,16 @@ reach-above t a n h k = go (leb (a + n) (length t)) refl
 under-above : (t : List ℕ) (action j n at : ℕ) → 1 ≤ length t → 1 ≤ at → 1 ≤ edgeUnder t action j n at
 unfolding edgeUnder afterPredicate nodesPlace
 under-above t action j zero at h k = h
-under-above t action j (suc n) at h k = go (isUnder t action at && eqb j 0) (under-above t action (still (isUnder t action at) j) n (afterPredicate t (reach t at 3)) h next)
+under-above t action j (suc n) at h k = go (isUnder t action at && eqb j 0) (under-above t action (still (isUnder t action at) j) n (afterPredicate t (updatePlace t at)) h next)
   where
-    first : 1 ≤ reach t (reach t at 3) 1
-    first = reach-above t (reach t at 3) 1 h (omega arith)
+    first : 1 ≤ nodesPlace t (updatePlace t at)
+    first = reach-above t (updatePlace t at) 1 h (omega arith)
 
-    next : 1 ≤ afterPredicate t (reach t at 3)
-    next = reach-above t (reach t (reach t at 3) 1) (getD t (reach t at 3) 0) h (omega (arith, first))
+    next : 1 ≤ afterPredicate t (updatePlace t at)
+    next = reach-above t (nodesPlace t (updatePlace t at)) (getD t (updatePlace t at) 0) h (omega (arith, first))
 
-    go : (b : Bool) → 1 ≤ edgeUnder t action (still (isUnder t action at) j) n (afterPredicate t (reach t at 3))
-        → 1 ≤ elim b as (λ c. ℕ) [ true ↦ at | false ↦ edgeUnder t action (still (isUnder t action at) j) n (afterPredicate t (reach t at 3)) ]
+    go : (b : Bool) → 1 ≤ edgeUnder t action (still (isUnder t action at) j) n (afterPredicate t (updatePlace t at))
+        → 1 ≤ elim b as (λ c. ℕ) [ true ↦ at | false ↦ edgeUnder t action (still (isUnder t action at) j) n (afterPredicate t (updatePlace t at)) ]
     go true i = k
     go false i = i
 
@@ -101,7 +102,7 @@ under-no action e es h = rw (h, keep)
 -- one step of the search
 module _ (t : List ℕ) (action n at : ℕ) where
   abbrev next-edge : ℕ
-  next-edge = afterPredicate t (reach t at 3)
+  next-edge = afterPredicate t (updatePlace t at)
 
   step-here : isUnder t action at ≡ true → edgeUnder t action 0 (suc n) at ≡ at
   unfolding edgeUnder
@@ -121,38 +122,41 @@ module _ (t : List ℕ) (action n at : ℕ) where
       let s : still (isUnder t action at) j ≡ j = rw (q, still) in
       rw (q, edgeUnder) (ap (λ i. edgeUnder t action i n next-edge) s)
 
+-- the first of some edges
+module _ (t : List ℕ) (at : ℕ) (x : Edge) (es : List Edge) (rest : List ℕ) (e : drop at t ≡ edgeWords (x ∷ es) ++ rest) where
+  first-there : drop at t ≡ lineWords (edgeLine x) ++ (edgeWords es ++ rest)
+  unfolding flatMap
+  first-there = e ∙ append-assoc (lineWords (edgeLine x)) (edgeWords es) rest
+
+  pub first-under : (action : ℕ) → isUnder t action at ≡ eqb (x .action) action
+  unfolding isUnder
+  first-under action = ap (λ a. eqb a action) (action-stands t (edgeWords es ++ rest) x at first-there)
+
+  pub first-past : drop (afterPredicate t (updatePlace t at)) t ≡ edgeWords es ++ rest
+  first-past = O.next-edge t (edgeWords es ++ rest) x at first-there
+
 under-stands : (t : List ℕ) (action : ℕ) (es : List Edge) (j at : ℕ) (rest : List ℕ) → j < length (under action es) → drop at t ≡ edgeWords es ++ rest
     → Stands t (edgeUnder t action j (length es) at) (getD (under action es) j noEdge)
-unfolding isUnder flatMap lineWords
 under-stands t action [] j at rest h e = let z : length (under action []) ≡ 0 = unfold under keep in refl in absurd (omega arith)
-under-stands t action (x ∷ es) j at rest h e = go (λ k l. under-stands t action es k (afterPredicate t (reach t at 3)) rest l past) (eqb (x .action) action) refl
+under-stands t action (x ∷ es) j at rest h e = go (λ k l. under-stands t action es k (afterPredicate t (updatePlace t at)) rest l (first-past t at x es rest e)) (eqb (x .action) action) refl
   where
-    here : drop at t ≡ lineWords (edgeLine x) ++ (edgeWords es ++ rest)
-    here = e ∙ append-assoc (lineWords (edgeLine x)) (edgeWords es) rest
-
-    action-is : getD t (reach t at 1) 0 ≡ x .action
-    action-is = read t (reach t at 1) (x .action) _ (reached t at 1 (x .from ∷ []) _ here refl)
-
-    past : drop (afterPredicate t (reach t at 3)) t ≡ edgeWords es ++ rest
-    past = after-predicate t (reach t at 3) (x .update) (edgeWords es ++ rest) (reached t at 3 (x .from ∷ x .action ∷ x .to ∷ []) _ here refl)
-
     Later : Type 0
-    Later = (k : ℕ) → k < length (under action es) → Stands t (edgeUnder t action k (length es) (afterPredicate t (reach t at 3))) (getD (under action es) k noEdge)
+    Later = (k : ℕ) → k < length (under action es) → Stands t (edgeUnder t action k (length es) (afterPredicate t (updatePlace t at))) (getD (under action es) k noEdge)
 
     found : Later → (k : ℕ) → eqb (x .action) action ≡ true → k < length (x ∷ under action es)
         → Stands t (edgeUnder t action k (suc (length es)) at) (getD (x ∷ under action es) k noEdge)
     found later zero q l =
-        let u : isUnder t action at ≡ true = ap (λ a. eqb a action) action-is ∙ q in
-        (edgeWords es ++ rest, ap (λ (p : ℕ). drop p t) (step-here t action (length es) at u) ∙ here)
+        let u : isUnder t action at ≡ true = first-under t at x es rest e action ∙ q in
+        (edgeWords es ++ rest, ap (λ (p : ℕ). drop p t) (step-here t action (length es) at u) ∙ first-there t at x es rest e)
     found later (suc k) q l =
-        let u : isUnder t action at ≡ true = ap (λ a. eqb a action) action-is ∙ q in
+        let u : isUnder t action at ≡ true = first-under t at x es rest e action ∙ q in
         let ih = later k (omega arith) in
         (ih .0, ap (λ (p : ℕ). drop p t) (step-on t action (length es) at k u) ∙ ih .1)
 
     go : Later → (b : Bool) → eqb (x .action) action ≡ b → Stands t (edgeUnder t action j (suc (length es)) at) (getD (under action (x ∷ es)) j noEdge)
     go later true q = rw (under-yes action x es q) (found later j q (rw (under-yes action x es q) at h))
     go later false q =
-        let u : isUnder t action at ≡ false = ap (λ a. eqb a action) action-is ∙ q in
+        let u : isUnder t action at ≡ false = first-under t at x es rest e action ∙ q in
         let ih = later j (rw (under-no action x es q) at h) in
         rw (under-no action x es q) (ih .0, ap (λ (p : ℕ). drop p t) (step-past t action (length es) at j u) ∙ ih .1)
 
@@ -178,30 +182,19 @@ module _ (m : Model) (t : List ℕ) (i place : ℕ) (e : Edge) (rest : List ℕ)
   isnt : eqb place 0 ≡ false
   isnt = ne-eqb place 0 (λ z. absurd (omega arith))
 
-  update-place : drop (reach t place 3) t ≡ predWords (e .update) ++ rest
-  unfolding lineWords
-  update-place = reached t place 3 (e .from ∷ e .action ∷ e .to ∷ []) (predWords (e .update) ++ rest) at refl
-
-  from-read : getD t place 0 ≡ e .from
-  unfolding lineWords
-  from-read = read t place (e .from) _ at
-
-  to-read : getD t (reach t place 2) 0 ≡ e .to
-  unfolding lineWords
-  to-read = read t (reach t place 2) (e .to) _ (reached t place 2 (e .from ∷ e .action ∷ []) _ at refl)
-
   adds-one : length (m .variables) < 32768 → i < 32768 → e .from < 65536 → e .to < 65536 → Readable (e .update) → Adds m t i place (alone i e)
   unfolding updateAt moveAt takerOperands updateDeep exists preds words wordsAll wordsOf pointerMoves
   adds-one hv hi hf ht hd =
       let k : pointerOf (length (m .variables)) i ≡ pointer m i = pointer-sum (length (m .variables)) i (omega arith) (omega arith) ∙ (unfold pointer in refl) in
       let kh : pointer m i < 65536 = small hv hi in
-      let u : nodesAt t (reach t place 3) ≡ map code (words (e .update)) = nodes-stand t (reach t place 3) (e .update) rest update-place in
+      let update-place = update-stands t rest e place at in
+      let u : nodesAt t (updatePlace t place) ≡ map code (words (e .update)) = nodes-stand t (updatePlace t place) (e .update) rest update-place in
       let one : codes (e .update ∷ []) ≡ map code (words (e .update)) = codes-cons (e .update) [] ∙ append-nil (map code (words (e .update))) in
       record {
         updates = rw (isnt, updateAt) (u ∙ sym one);
-        moves = rw (isnt, moveAt, k, from-read, to-read, old-code (pointer m i) kh, new-code (pointer m i) kh, number-code (e .from) hf, number-code (e .to) ht);
+        moves = rw (isnt, moveAt, k, from-stands t rest e place at, to-stands t rest e place at, old-code (pointer m i) kh, new-code (pointer m i) kh, number-code (e .from) hf, number-code (e .to) ht);
         operands-add = λ sum h. rw (isnt, takerOperands) (ap capped (omega arith));
-        deep = rw (isnt, updateDeep) (deeper-stands t (e .update) 23 (reach t place 3) rest hd update-place ∙ or-none (ltb 23 (depth (e .update))));
+        deep = rw (isnt, updateDeep) (deeper-stands t (e .update) 23 (updatePlace t place) rest hd update-place ∙ or-none (ltb 23 (depth (e .update))));
       }
     where
       small : length (m .variables) < 32768 → i < 32768 → pointer m i < 65536
@@ -213,21 +206,21 @@ module _ (m : Model) (t : List ℕ) (i place : ℕ) (e : Edge) (rest : List ℕ)
 
 -- the edges that stand at a lawful automaton's place
 taker-adds : (m : Model) (t : List ℕ) (A action i pick at : ℕ) (x : Automaton) (rest : List ℕ) → LawfulAutomaton (m .variables) A x → length (m .variables) < 32768 → i < 32768
-    → 1 ≤ length t → drop at t ≡ linesOf (automatonLines x) ++ rest → pick ≤ length (under action (x .edges)) → Adds m t i (takenAt t action pick at) (takerBy action i x pick)
+    → 1 ≤ length t → drop at t ≡ linesOf (automatonLines x) ++ rest → pick ≤ length (under action (x .edges)) → Adds m t i (takenAt t action pick (edgesAt t at)) (takerBy action i x pick)
 unfolding takenAt takerBy keep under
 taker-adds m t A action i zero at x rest lawful hv hi some e few = adds-none m t i
 taker-adds m t A action i (suc j) at x rest lawful hv hi some e few =
     let z : eqb (suc j) 0 ≡ false = ne-eqb (suc j) 0 (λ y. absurd (omega arith)) in
     let one : suc j - 1 ≡ j = omega arith in
-    let n : getD t (edgesAt t at) 0 ≡ length (x .edges) = read t (edgesAt t at) (length (x .edges)) _ (edges-at t rest x at e) in
-    let first = reach t (edgesAt t at) 1 in
+    let n : getD t (edgesAt t at) 0 ≡ length (x .edges) = edge-count t rest x at e in
+    let first = firstEdge t (edgesAt t at) in
     let place = edgeUnder t action j (length (x .edges)) first in
-    let s = under-stands t action (x .edges) j first rest (omega arith) (edges-stand t rest x at e) in
-    let above = under-above t action j (length (x .edges)) first some (reach-above t (edgesAt t at) 1 some (omega arith)) in
+    let s = under-stands t action (x .edges) j first rest (omega arith) (first-edge t rest x at e) in
+    let above = under-above t action j (length (x .edges)) first some (unfold firstEdge in reach-above t (edgesAt t at) 1 some (omega arith)) in
     let d = getD (under action (x .edges)) j noEdge in
     let l = lawful .edges d (keep-out (λ y. eqb (y .action) action) (x .edges) (member-at (under action (x .edges)) j (omega arith)) .0) in
     let few-locations = lawful .few-locations in
-    let it : takenAt t action (suc j) at ≡ place = rw (z, one, n, takenAt) in
+    let it : takenAt t action (suc j) (edgesAt t at) ≡ place = rw (z, one, n, takenAt) in
     rw it (adds-one m t i place d (s .0) (s .1) above hv hi (omega (arith, l .from)) (omega (arith, l .to)) (readable (d .update) (l .update)))
   where
     member-at : (l : List Edge) (k : ℕ) → k < length l → List·Memᴰ (getD l k noEdge) l
@@ -268,17 +261,36 @@ unfolding updatesAt movesAt takersOperands updatesDeep exists preds words wordsA
 adds-zeros m t i zero = record { updates = refl; moves = refl; operands-add = λ sum h. rw (add-zero sum) (capped-is sum h); deep = refl }
 adds-zeros m t i (suc k) = adds-more m t i 0 (replicate k 0) [] [] (adds-none m t i) (adds-zeros m t (suc i) k)
 
-adds-all : (m : Model) (t : List ℕ) (A action : ℕ) (picks : List ℕ) (xs : List Automaton) (i at k : ℕ) (rest : List ℕ) → ((x : Automaton) → List·Memᴰ x xs → LawfulAutomaton (m .variables) A x)
-    → length (m .variables) < 32768 → i + length xs < 32768 → 1 ≤ length t → drop at t ≡ automatonWords xs ++ rest → Valid action picks i xs
-    → AddsAll m t i (takenFrom t action picks i (length xs) at ++ replicate k 0) (takersFrom action picks i xs)
+-- Where the edges of n automata stand, of which the first is automaton i and stands at a place.
+abbrev pub Starts : (t edges : List ℕ) (i at n : ℕ) → Type 0
+Starts t edges i at n = (k : ℕ) → k < n → getD edges (i + k) 0 ≡ edgesAt t (passed t at k)
+
+module _ (t edges : List ℕ) (i at n : ℕ) (s : Starts t edges i at (suc n)) where
+  pub starts-first : getD edges i 0 ≡ edgesAt t at
+  unfolding passed
+  starts-first = let z : i + 0 ≡ i = omega arith in ap (λ j. getD edges j 0) (sym z) ∙ s 0 (omega arith)
+
+  pub starts-rest : Starts t edges (suc i) (afterAutomaton t at) n
+  unfolding passed
+  starts-rest k h = let z : suc i + k ≡ i + suc k = omega arith in ap (λ j. getD edges j 0) z ∙ s (suc k) (omega arith)
+
+pub layout-starts : (m : Model) → Lawful m → (t rest : List ℕ) → t ≡ sheetWords m ++ rest → Starts t (layoutOf t .edges) 0 (firstAutomaton t) (length (m .automata))
+unfolding automatonAt
+layout-starts m lawful t rest e k h = let z : 0 + k ≡ k = omega arith in ap (λ j. getD (layoutOf t .edges) j 0) z ∙ edges-place m lawful t rest e k h
+
+adds-all : (m : Model) (t edges : List ℕ) (A action : ℕ) (picks : List ℕ) (xs : List Automaton) (i at k : ℕ) (rest : List ℕ) → ((x : Automaton) → List·Memᴰ x xs → LawfulAutomaton (m .variables) A x)
+    → length (m .variables) < 32768 → i + length xs < 32768 → 1 ≤ length t → drop at t ≡ automatonWords xs ++ rest → Starts t edges i at (length xs) → Valid action picks i xs
+    → AddsAll m t i (takenFrom t edges action picks i (length xs) ++ replicate k 0) (takersFrom action picks i xs)
 unfolding takenFrom takersFrom Valid
-adds-all m t A action picks [] i at k rest lawful hv hi some e valid = adds-zeros m t i k
-adds-all m t A action picks (x ∷ xs) i at k rest lawful hv hi some e valid =
+adds-all m t edges A action picks [] i at k rest lawful hv hi some e starts valid = adds-zeros m t i k
+adds-all m t edges A action picks (x ∷ xs) i at k rest lawful hv hi some e starts valid =
     let f = automata-cons t at x xs rest e in
     let others = automatonWords xs ++ rest in
     let one = taker-adds m t A action i (getD picks i 0) at x others (lawful x (List·Memᴰ·head refl)) hv (omega arith) some f (valid .0) in
-    let more = adds-all m t A action picks xs (suc i) (afterAutomaton t at) k rest (λ y q. lawful y (List·Memᴰ·tail q)) hv (omega arith) some (after-automaton t others x at f) (valid .1) in
-    rw (add-one i) (adds-more m t i (takenAt t action (getD picks i 0) at) _ (takerBy action i x (getD picks i 0)) (takersFrom action picks (suc i) xs) one more)
+    let more = adds-all m t edges A action picks xs (suc i) (afterAutomaton t at) k rest (λ y q. lawful y (List·Memᴰ·tail q)) hv (omega arith) some (after-automaton t others x at f)
+    (starts-rest t edges i at (length xs) starts) (valid .1) in
+    rw (add-one i, starts-first t edges i at (length xs) starts)
+    (adds-more m t i (takenAt t action (getD picks i 0) (edgesAt t at)) _ (takerBy action i x (getD picks i 0)) (takersFrom action picks (suc i) xs) one more)
 
 -- on any words: the count of the nodes is the number of words
 moves-size : (t : List ℕ) (k place : ℕ) (sum : ℕ) → sum ≤ most → takerNodes t sum place ≡ capped (sum + (length (updateAt t place) + length (moveAt t k place)))
@@ -288,8 +300,8 @@ moves-size t k place sum h = go (eqb place 0) refl
     go : (b : Bool) → eqb place 0 ≡ b → takerNodes t sum place ≡ capped (sum + (length (updateAt t place) + length (moveAt t k place)))
     go true q = rw (q, takerNodes, updateAt, moveAt) (capped-is sum h ∙ ap capped (omega arith))
     go false q =
-        let n = run-length t (reach t (reach t place 3) 1) (getD t (reach t place 3) 0) in
-        rw (q, takerNodes, updateAt, moveAt) (capped-add (sum + 6) (getD t (reach t place 3) 0) ∙ ap capped (omega arith))
+        let n = run-length t (nodesPlace t (updatePlace t place)) (getD t (updatePlace t place) 0) in
+        rw (q, takerNodes, updateAt, moveAt) (capped-add (sum + 6) (getD t (updatePlace t place) 0) ∙ ap capped (omega arith))
 
 nodes-size : (t : List ℕ) (v i : ℕ) (places : List ℕ) (sum : ℕ) → sum ≤ most → takersNodes t sum places ≡ capped (sum + (length (updatesAt t places) + length (movesAt t v i places)))
 unfolding takersNodes updatesAt movesAt
@@ -307,10 +319,10 @@ nodes-size t v i (p ∷ ps) sum h =
 abbrev pub zeros : ℕ → List ℕ
 zeros k = replicate k 0
 
-taken-length : (t : List ℕ) (action : ℕ) (picks : List ℕ) (i n at : ℕ) → length (takenFrom t action picks i n at) ≡ n
+taken-length : (t edges : List ℕ) (action : ℕ) (picks : List ℕ) (i n : ℕ) → length (takenFrom t edges action picks i n) ≡ n
 unfolding takenFrom
-taken-length t action picks i zero at = refl
-taken-length t action picks i (suc n) at = ap suc (taken-length t action picks (i + 1) n (afterAutomaton t at))
+taken-length t edges action picks i zero = refl
+taken-length t edges action picks i (suc n) = ap suc (taken-length t edges action picks (i + 1) n)
 
 pub drop-zeros : (n k : ℕ) → n ≤ k → drop n (zeros k) ≡ zeros (k - n)
 drop-zeros zero k h = let z : k - 0 ≡ k = omega arith in rw z
@@ -333,52 +345,56 @@ module _ (m : Model) (lawful : Lawful m) (t rest : List ℕ) (e : t ≡ sheetWor
   abbrev named : List Taker
   named = takersFrom action picks 0 (m .automata)
 
-  places-are : takers t action picks ≡ takenFrom t action picks 0 (length (m .automata)) (automatonAt t 0) ++ replicate (16 - length (m .automata)) 0
+  abbrev there : List ℕ
+  there = takers t (layoutOf t) action picks
+
+  places-are : there ≡ takenFrom t (layoutOf t .edges) action picks 0 (length (m .automata)) ++ replicate (16 - length (m .automata)) 0
   unfolding takers
   places-are =
       let n = length (m .automata) in
       let few = lawful .few-automata in
-      let count : atMost maxAutomata (automataOf t) ≡ n = ap (atMost maxAutomata) (automata-are m lawful t rest e) ∙ sym (at-most-is n few) in
-      let ps = takenFrom t action picks 0 n (automatonAt t 0) in
-      let size : length ps ≡ n = taken-length t action picks 0 n (automatonAt t 0) in
+      let edges = layoutOf t .edges in
+      let ps = takenFrom t edges action picks 0 n in
+      let size : length ps ≡ n = taken-length t edges action picks 0 n in
       let end : 0 + length ps ≡ n = omega arith in
       let room : 0 + length ps ≤ length (zeros 16) = omega (arith, length-replicate {A = ℕ} 16 0) in
-      ap (λ c. sets (zeros 16) 0 (takenFrom t action picks 0 c (automatonAt t 0))) count ∙ sets-eq ps (zeros 16) 0 room ∙
+      ap (λ c. sets (zeros 16) 0 (takenFrom t edges action picks 0 c)) (all-automata m lawful t rest e) ∙ sets-eq ps (zeros 16) 0 room ∙
       ap (λ (l : List ℕ). ps ++ l) (ap (λ c. drop c (zeros 16)) end ∙ drop-zeros n 16 few)
 
   -- a sheet has words
   some-words : 1 ≤ length t
   some-words = omega (arith, ap length (sheet-parts t rest m e))
 
-  pub takers-add : AddsAll m t 0 (takers t action picks) named
+  pub takers-add : AddsAll m t 0 (takers t (layoutOf t) action picks) named
   takers-add =
       let fv = lawful .few-variables in
       let fn = lawful .few-automata in
-      rw places-are (adds-all m t (m .actions) action picks (m .automata) 0 (automatonAt t 0) (16 - length (m .automata)) _ (lawful .automata) (omega arith) (omega arith) some-words (automata-stand m lawful t rest e) valid)
+      rw places-are (adds-all m t (layoutOf t .edges) (m .actions) action picks (m .automata) 0 (firstAutomaton t) (16 - length (m .automata)) _ (lawful .automata) (omega arith) (omega arith) some-words
+      (automata-stand m lawful t rest e) (layout-starts m lawful t rest e) valid)
 
   -- row 33 for this edge
-  pub edge-deep : updatesDeep t (takers t action picks) ≡ exists (λ y. ltb 23 (depth (y .edge .update))) named
+  pub edge-deep : updatesDeep t (takers t (layoutOf t) action picks) ≡ exists (λ y. ltb 23 (depth (y .edge .update))) named
   edge-deep = takers-add .deep
 
   abbrev parts : List Pred
   parts = map (λ y. y .edge .update) named ++ pointerMoves m named
 
-  nodes-read : takersNodes t 1 (takers t action picks) ≡ capped (nodeCount (all (preds parts)))
+  nodes-read : takersNodes t 1 (takers t (layoutOf t) action picks) ≡ capped (nodeCount (all (preds parts)))
   unfolding nodeCount words wordsAll wordsOf
   nodes-read =
       let a = takers-add in
       let us = map (λ (y : Taker). y .edge .update) named in
       let size : 1 + (length (codes us) + length (codes (pointerMoves m named))) ≡ suc (length (wordsAll (preds parts))) =
       omega (arith, length-append (codes us) (codes (pointerMoves m named)), ap length (codes-append us (pointerMoves m named)), length-map (wordsAll (preds parts)) code) in
-      nodes-size t (length (m .variables)) 0 (takers t action picks) 1 (omega arith) ∙
+      nodes-size t (length (m .variables)) 0 there 1 (omega arith) ∙
       ap₂ (λ (k l : List ℕ). capped (1 + (length k + length l))) (a .updates) (a .moves) ∙ ap capped size
 
   -- row 34 for this edge
-  pub edge-nodes : takersNodes t 1 (takers t action picks) ≡ capped (nodeCount (mergedEdge m action named .update))
+  pub edge-nodes : takersNodes t 1 (takers t (layoutOf t) action picks) ≡ capped (nodeCount (mergedEdge m action named .update))
   unfolding mergedEdge
   edge-nodes = nodes-read
 
-  pub edge-words : nodeCount (mergedEdge m action named .update) ≤ most → edgeWordsAt t action picks ≡ lineWords (edgeLine (mergedEdge m action named))
+  pub edge-words : nodeCount (mergedEdge m action named .update) ≤ most → edgeWordsAt t (layoutOf t) action picks ≡ lineWords (edgeLine (mergedEdge m action named))
   unfolding edgeWordsAt edgeBy mergedEdge lineWords predWords words wordsAll wordsOf
   edge-words few =
       let a = takers-add in
@@ -388,9 +404,9 @@ module _ (m : Model) (lawful : Lawful m) (t rest : List ℕ) (e : t ≡ sheetWor
       let total : 3 * length named ≡ operands (preds parts) =
       omega (arith, preds-count parts, length-append us (pointerMoves m named), length-map named (λ (y : Taker). y .edge .update), pointers-length m named) in
       let small : 3 * length named ≤ most = omega arith in
-      let node : allNode (takersOperands 0 (takers t action picks)) ≡ code (allOf (operands (preds parts))) =
+      let node : allNode (takersOperands 0 there) ≡ code (allOf (operands (preds parts))) =
       ap allNode (a .operands-add 0 (omega arith) ∙ ap capped (omega arith) ∙ sym (capped-is (3 * length named) small) ∙ total) ∙ all-code (operands (preds parts)) (omega arith) in
-      let nodes : takersNodes t 1 (takers t action picks) ≡ nodeCount (all (preds parts)) = nodes-read ∙ sym (capped-is (nodeCount (all (preds parts))) few) in
-      let both : updatesAt t (takers t action picks) ++ movesAt t (variablesOf t) 0 (takers t action picks) ≡ codes parts =
-      ap₂ (λ (k l : List ℕ). k ++ l) (a .updates) (ap (λ v. movesAt t v 0 (takers t action picks)) (variables-are m lawful t rest e) ∙ a .moves) ∙ sym (codes-append us (pointerMoves m named)) in
+      let nodes : takersNodes t 1 (takers t (layoutOf t) action picks) ≡ nodeCount (all (preds parts)) = nodes-read ∙ sym (capped-is (nodeCount (all (preds parts))) few) in
+      let both : updatesAt t there ++ movesAt t (layoutOf t .variables) 0 there ≡ codes parts =
+      ap₂ (λ (k l : List ℕ). k ++ l) (a .updates) (ap (λ v. movesAt t v 0 there) (laid-variables m lawful t rest e) ∙ a .moves) ∙ sym (codes-append us (pointerMoves m named)) in
       rw (nodes, node, both)

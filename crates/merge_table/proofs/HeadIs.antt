@@ -13,13 +13,14 @@ use Rattle.model.specs.Lawful.{Lawful}
 use Rattle.model.specs.Lines.{formatLine, actionsLine, variablesLine, variableLine, automataLine, composeLine, automatonLines}
 use Rattle.model.specs.Table.{biased, lineWords, sheetWords}
 use Rattle.model.specs.Linear.{pointerRange, linear}
-use Rattle.table_places.specs.Outline.{reach, actionsIn, variablesIn, automataIn, afterAutomaton, countAt, automatonAt}
-use Rattle.table_places.proofs.OutlineLaws.{reached, wordsOf, automatonWords, words-append, after-automaton, sheet-parts, actions-in, variables-in, automata-in, automaton-at}
-use Rattle.merge_words.specs.Append.{narrow}
-use Rattle.merge_words.specs.Runs.{run}
-use Rattle.merge_words.specs.NodeWords.{upward, pointerOf}
-use Rattle.merge_words.specs.Head.{variablesOf, automataOf, lastLocationAt, pointerRanges, headWords}
-use Rattle.merge_table.proofs.Standing.{narrow-is, run-is, automata-cons, locations-number}
+use Rattle.table_places.specs.Outline.{locationCount, rangeAt, actionsIn, variablesIn, automataIn, firstAutomaton, passed, automatonAt, afterAutomaton}
+use Rattle.table_places.specs.Layout.{layoutOf}
+use Rattle.table_places.proofs.OutlineLaws.{wordsOf, automatonWords, words-append, location-count, after-automaton, sheet-parts, actions-in, variables-in, range-at, automata-in, automaton-at}
+use Rattle.merge_append.specs.Append.{narrow}
+use Rattle.merge_append.specs.Runs.{run}
+use Rattle.merge_append.specs.NodeWords.{upward, pointerOf}
+use Rattle.merge_words.specs.Head.{formatIn, lastLocationAt, pointerRanges, headWords}
+use Rattle.merge_table.proofs.Standing.{narrow-is, run-is, automata-cons}
 
 -- sums of small numbers
 pub pointer-sum : (v i : ℕ) → v < 4294967296 → i < 4294967296 → pointerOf v i ≡ v + i
@@ -43,31 +44,33 @@ unfolding pointerRanges lastLocationAt flatMap lineWords pointerRange range bias
 pointers-are t [] rest at few e = refl
 pointers-are t (x ∷ xs) rest at few e =
     let f = automata-cons t at x xs rest e in
-    let n : getD t (reach t at 2) 0 ≡ length (x .locations) = locations-number t (automatonWords xs ++ rest) x at f in
+    let n : locationCount t at ≡ length (x .locations) = location-count t (automatonWords xs ++ rest) x at f in
     let s = few x (List·Memᴰ·head refl) in
     let small : length (x .locations) - 1 < 4294967296 = omega arith in
-    let top : upward (getD t (reach t at 2) 0 - 1) ≡ bias + pred (length (x .locations)) =
+    let top : upward (locationCount t at - 1) ≡ bias + pred (length (x .locations)) =
     ap (λ k. upward (k - 1)) n ∙ upward-small (length (x .locations) - 1) small ∙ ap (λ k. bias + k) (sub-one (length (x .locations))) in
     ap₂ (λ (y : ℕ) (l : List ℕ). bias ∷ y ∷ l) top
     (pointers-are t xs rest (afterAutomaton t at) (λ y i. few y (List·Memᴰ·tail i)) (after-automaton t (automatonWords xs ++ rest) x at f))
 
 module _ (m : Model) (lawful : Lawful m) (t rest : List ℕ) (e : t ≡ sheetWords m ++ rest) where
-  pub variables-are : variablesOf t ≡ length (m .variables)
-  unfolding variablesIn
-  variables-are = variables-in t rest m e
-
-  format-is : getD t 0 0 ≡ m .format
+  format-is : formatIn t ≡ m .format
   format-is = ap (λ (l : List ℕ). getD l 0 0) (sheet-parts t rest m e)
 
-  pub actions-are : getD t 1 0 ≡ m .actions
-  unfolding actionsIn
-  actions-are = actions-in t rest m e
+  -- what the layout has
+  pub laid-actions : layoutOf t .actions ≡ m .actions
+  unfolding layoutOf
+  laid-actions = actions-in t rest m e
 
-  pub automata-are : automataOf t ≡ length (m .automata)
-  unfolding automataIn
-  automata-are = automata-in t rest m e
+  pub laid-variables : layoutOf t .variables ≡ length (m .variables)
+  unfolding layoutOf
+  laid-variables = variables-in t rest m e
 
-  pub automata-stand : drop (automatonAt t 0) t ≡ automatonWords (m .automata) ++ (lineWords (composeLine (m .tree)) ++ rest)
+  pub laid-automata : layoutOf t .automata ≡ length (m .automata)
+  unfolding layoutOf
+  laid-automata = automata-in t rest m e
+
+  pub automata-stand : drop (firstAutomaton t) t ≡ automatonWords (m .automata) ++ (lineWords (composeLine (m .tree)) ++ rest)
+  unfolding automatonAt passed
   automata-stand = automaton-at t rest m e 0 (omega arith)
 
   pub few-locations : (x : Automaton) → List·Memᴰ x (m .automata) → length (x .locations) ≤ maxLocations
@@ -82,19 +85,21 @@ module _ (m : Model) (lawful : Lawful m) (t rest : List ℕ) (e : t ≡ sheetWor
       let n = length (m .automata) in
       let vs = wordsOf (map variableLine (m .variables)) in
       let ps = wordsOf (map variableLine (map pointerRange (m .automata))) in
+      let variables-are = variables-in t rest m e in
+      let automata-are = automata-in t rest m e in
       let fv = lawful .few-variables in
       let fn = lawful .few-automata in
-      let sum : pointerOf (variablesOf t) (automataOf t) ≡ length (m .variables ++ map pointerRange (m .automata)) =
+      let sum : pointerOf (variablesIn t) (automataIn t) ≡ length (m .variables ++ map pointerRange (m .automata)) =
       ap₂ pointerOf variables-are automata-are ∙ pointer-sum v n (omega arith) (omega arith) ∙ omega (arith, length-append (m .variables) (map pointerRange (m .automata)), length-map (m .automata) pointerRange) in
-      let twice : pointerOf (variablesOf t) (variablesOf t) ≡ length vs =
+      let twice : pointerOf (variablesIn t) (variablesIn t) ≡ length vs =
       ap₂ pointerOf variables-are variables-are ∙ pointer-sum v v (omega arith) (omega arith) ∙ sym (ranges-length (m .variables)) in
-      let first = reached t 0 3 (m .format ∷ m .actions ∷ v ∷ []) _ (sheet-parts t rest m e) refl in
-      let copied : run t (reach t 0 3) (pointerOf (variablesOf t) (variablesOf t)) ≡ vs = ap (run t (reach t 0 3)) twice ∙ run-is t vs _ (reach t 0 3) first in
-      let pointed : pointerRanges t (automatonAt t 0) (automataOf t) ≡ ps =
-      ap (pointerRanges t (automatonAt t 0)) automata-are ∙ pointers-are t (m .automata) _ (automatonAt t 0) few-locations automata-stand in
+      let first = range-at t rest m e 0 (omega arith) in
+      let copied : run t (rangeAt t 0) (pointerOf (variablesIn t) (variablesIn t)) ≡ vs = ap (run t (rangeAt t 0)) twice ∙ run-is t vs _ (rangeAt t 0) first in
+      let pointed : pointerRanges t (firstAutomaton t) (automataIn t) ≡ ps =
+      ap (pointerRanges t (firstAutomaton t)) automata-are ∙ pointers-are t (m .automata) _ (firstAutomaton t) few-locations automata-stand in
       let joined : wordsOf (map variableLine (m .variables ++ map pointerRange (m .automata)) ++ automataLine 1 ∷ []) ≡ vs ++ (ps ++ 1 ∷ []) =
       words-append (map variableLine (m .variables ++ map pointerRange (m .automata))) (automataLine 1 ∷ []) ∙ last in
-      rw (format-is, actions-are, sum, copied, pointed) (ap (λ (l : List ℕ). m .format ∷ m .actions ∷ length (m .variables ++ map pointerRange (m .automata)) ∷ l) (sym joined))
+      rw (format-is, actions-in t rest m e, sum, copied, pointed) (ap (λ (l : List ℕ). m .format ∷ m .actions ∷ length (m .variables ++ map pointerRange (m .automata)) ∷ l) (sym joined))
     where
       last : wordsOf (map variableLine (m .variables ++ map pointerRange (m .automata))) ++ wordsOf (automataLine 1 ∷ [])
           ≡ wordsOf (map variableLine (m .variables)) ++ (wordsOf (map variableLine (map pointerRange (m .automata))) ++ 1 ∷ [])

@@ -5,10 +5,9 @@ use mathlib.Core.List.{List, _++_, map}
 use mathlib.Core.Option.{Option, none, some}
 use Prim.Native.Nat.{ℕ, suc, _+_, _≤_}
 use native.Mathlib.Omega.{arith}
-use lib.ListN.{length, replicate, length-replicate}
-use lib.Seq.{sets, length-sets}
+use lib.ListN.{length, replicate}
 use lib.Dec.{eqb, ltb}
-use borrow.Author.Tests.{le-leb, eq-eqb, ne-eqb}
+use borrow.Author.Tests.{eq-eqb, ne-eqb}
 use Rattle.model.specs.Bounds.{maxEdges, maxNodes, tableWords}
 use Rattle.model.specs.Model.{Model}
 use Rattle.model.specs.Lawful.{Lawful}
@@ -20,57 +19,53 @@ use Rattle.model.specs.declared.Checked.{Checked}
 use Rattle.model.specs.declared.Checked.the-variants.{Good, Refused}
 use Rattle.table_check.specs.Check.{answered}
 use Rattle.merge_words.specs.declared.Linearization.{Linearization}
-use Rattle.merge_words.specs.Append.{narrow, placed, Appended}
-use Rattle.table_places.specs.AtMost.{atMost}
-use Rattle.merge_words.specs.MergedEdges.{movesOf}
+use Rattle.table_append.specs.Append.{put}
+use Rattle.merge_append.specs.Append.{narrow, placed, Appended}
+use Rattle.table_places.specs.declared.layout.Layout.{Layout}
+use Rattle.table_places.specs.Layout.{layoutOf}
+use Rattle.merge_edges.specs.Moves.{movesIn}
 use Rattle.merge_words.specs.MergedSheet.{mergedSheet}
-use Rattle.merge_words.specs.Sync.{ownSets}
 use Rattle.merge_words.specs.Survey.{surveyWhole}
-use Rattle.merge_words.specs.Linearize.{refusedBy, mergedTo, lastAction, isCrowded, faultBy, sheetTable, linearFor, linearBy}
+use Rattle.merge_words.specs.Linearize.{refusedBy, mergedTo, isCrowded, faultBy, sheetTable, linearFor, linearIn, linearBy}
 use Rattle.merge_table.specs.Linearization.{linearModel, linearizationOf, linearization}
-use Rattle.merge_table.proofs.HeadIs.{actions-are}
+use Rattle.merge_table.proofs.Standing.{ownOf}
 use Rattle.merge_table.proofs.CountIs.{count-row, count-exact, counts-few, variables-row}
 use Rattle.merge_table.proofs.SurveyIs.{survey-deep, survey-row34}
 use Rattle.merge_table.proofs.WholeIs.{Kept, rows-kept, whole-table}
 
 module _ (m : Model) (lawful : Lawful m) (t rest : List ℕ) (e : t ≡ sheetWords m ++ rest) where
-  last-is : lastAction t ≡ m .actions
-  unfolding lastAction atMost
-  last-is =
-      let few = lawful .few-actions in
-      let z : atMost 63 (m .actions) ≡ m .actions = rw (le-leb (m .actions) 63 few, atMost) in
-      ap (atMost 63) (actions-are m lawful t rest e) ∙ z
+  abbrev lay : Layout
+  lay = layoutOf t
 
   abbrev own : List ℕ
-  own = ownSets t
+  own = ownOf t
 
   abbrev counted : ℕ
-  counted = movesOf t own 0 (m .actions + 1) 0
+  counted = movesIn t lay own
 
   abbrev found : Linearization
-  found = linearFor t own counted (m .actions)
+  found = linearFor t lay own counted
 
   -- a row that refuses
-  refuses : (row : ℕ) → faultBy t own counted (m .actions) ≡ suc row → mergeFault m ≡ some (suc row) → found ≡ linearModel m
+  refuses : (row : ℕ) → faultBy t lay own counted ≡ suc row → mergeFault m ≡ some (suc row) → found ≡ linearModel m
   unfolding linearFor linearModel
   refuses row f g =
-      let z : eqb (faultBy t own counted (m .actions)) 0 ≡ false = ne-eqb (faultBy t own counted (m .actions)) 0 (λ q. let n : suc row ≡ 0 = sym f ∙ q in omega arith) in
+      let z : eqb (faultBy t lay own counted) 0 ≡ false = ne-eqb (faultBy t lay own counted) 0 (λ q. let n : suc row ≡ 0 = sym f ∙ q in omega arith) in
       rw (z, linearFor, g, linearModel, f)
 
   -- no row refuses
-  merges : faultBy t own counted (m .actions) ≡ 0 → mergeFault m ≡ none → found ≡ linearModel m
+  merges : faultBy t lay own counted ≡ 0 → mergeFault m ≡ none → found ≡ linearModel m
   unfolding linearFor linearModel sheetTable
   merges f g =
-      let ws = mergedSheet t own counted (m .actions) in
+      let ws = mergedSheet t lay own counted in
       let zeros : List ℕ = replicate tableWords 0 in
-      let long : length (sets zeros 0 (map narrow ws)) ≡ tableWords = length-sets zeros 0 (map narrow ws) ∙ length-replicate {A = ℕ} tableWords 0 in
-      let there : Appended ws 0 zeros (sets zeros 0 (map narrow ws)) (placed 0 (length ws)) = record { next = refl; memory = refl; long = long } in
-      let table : sheetTable t own counted (m .actions) ≡ tableOf (linear m) = whole-table m lawful t rest e g _ _ there in
+      let there : Appended ws 0 zeros (put 0 (map narrow ws) zeros) (placed 0 (length ws)) = record { next = refl; memory = refl } in
+      let table : sheetTable t lay own counted ≡ tableOf (linear m) = whole-table m lawful t rest e g _ _ there in
       let count : counted ≡ mergedCount m = count-exact m lawful t rest e (rows-kept m g .edges) in
-      rw (eq-eqb (faultBy t own counted (m .actions)) 0 f, linearFor, g, linearModel) (ap₂ mergedTo count table)
+      rw (eq-eqb (faultBy t lay own counted) 0 f, linearFor, g, linearModel) (ap₂ mergedTo count table)
 
   -- the tests over words are the rows
-  test31 : isCrowded t ≡ row31 m
+  test31 : isCrowded lay ≡ row31 m
   unfolding isCrowded
   test31 = variables-row m lawful t rest e
 
@@ -79,10 +74,10 @@ module _ (m : Model) (lawful : Lawful m) (t rest : List ℕ) (e : t ≡ sheetWor
 
   module _ (a : row31 m ≡ false) where
     module _ (b : row32 m ≡ false) where
-      test33 : surveyWhole t own (m .actions) .deep ≡ row33 m
+      test33 : surveyWhole t lay own .deep ≡ row33 m
       test33 = survey-deep m lawful t rest e (counts-few m lawful t rest e b)
 
-      test34 : ltb maxNodes (surveyWhole t own (m .actions) .nodes) ≡ row34 m
+      test34 : ltb maxNodes (surveyWhole t lay own .nodes) ≡ row34 m
       test34 = survey-row34 m lawful t rest e (counts-few m lawful t rest e b)
 
       in34 : row33 m ≡ false → (d : Bool) → row34 m ≡ d → found ≡ linearModel m
@@ -100,19 +95,15 @@ module _ (m : Model) (lawful : Lawful m) (t rest : List ℕ) (e : t ≡ sheetWor
     in32 true b = refuses 31 (rw (test32 ∙ b, faultBy)) (rw (a, broken, b, broken))
     in32 false b = in33 b (row33 m) refl
 
-  -- with A as the code reads it
-  found-is : linearFor t own (movesOf t own 0 (lastAction t + 1) 0) (lastAction t) ≡ found
-  found-is = ap (λ (l : ℕ). linearFor t own (movesOf t own 0 (l + 1) 0) l) last-is
-
   pub linear-by-is : linearBy t ≡ linearModel m
-  unfolding linearBy linearModel mergeFault broken
+  unfolding linearBy linearIn linearModel mergeFault broken
   linear-by-is = in31 (row31 m) refl
     where
       in31 : (a : Bool) → row31 m ≡ a → linearBy t ≡ linearModel m
       in31 true a =
           let g : mergeFault m ≡ some 31 = rw (a, broken) in
           rw (test31 ∙ a, linearBy, g, linearModel)
-      in31 false a = rw (test31 ∙ a, linearBy) (found-is ∙ in32 a (row32 m) refl)
+      in31 false a = rw (test31 ∙ a, linearBy) (in32 a (row32 m) refl)
 
 -- `linearize`
 module _ (t : List ℕ) (c : Checked) (e : c ≡ answered (openTable t)) (r : Linearization) where

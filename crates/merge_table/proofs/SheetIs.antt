@@ -16,11 +16,13 @@ use Rattle.model.specs.Table.{setWords, predWords, nodeWords, lineWords, sheetW
 use Rattle.model.specs.Moves.{moves, moveCount}
 use Rattle.model.specs.Linear.{mergedInit, mergedInv, mergedEdge, mergedEdges, linear}
 use Rattle.table_places.proofs.OutlineLaws.{wordsOf, edgeWords, words-append}
-use Rattle.merge_words.specs.NodeWords.{most}
+use Rattle.merge_append.specs.NodeWords.{most}
 use Rattle.merge_words.specs.Head.{headWords}
-use Rattle.merge_words.specs.Clauses.{mergedWords}
-use Rattle.merge_words.specs.Sync.{ownSets, syncBy, syncWords}
-use Rattle.merge_words.specs.MergedEdges.{edgesOf}
+use Rattle.merge_predicates.specs.Clauses.{mergedWords}
+use Rattle.merge_words.specs.Sync.{syncBy}
+use Rattle.merge_edges.specs.Edges.{edgesIn}
+use Rattle.table_places.specs.Layout.{layoutOf}
+use Rattle.merge_table.proofs.Standing.{ownOf}
 use Rattle.merge_words.specs.MergedSheet.{locationWords, automatonWords, mergedSheet}
 use Rattle.merge_table.proofs.HeadIs.{head-words}
 use Rattle.merge_table.proofs.ClausesAre.{init-words, inv-words}
@@ -49,8 +51,8 @@ module _ (m : Model) (lawful : Lawful m) (t rest : List ℕ) (e : t ≡ sheetWor
       (ap (λ (l : List Entry). map variableLine (linear m .variables) ++ (automataLine 1 ∷ (l ++ composeLine (leaf 0) ∷ []))) (append-nil (automatonLines whole)) ∙
       sym (append-assoc (map variableLine (linear m .variables)) (automataLine 1 ∷ []) (automatonLines whole ++ composeLine (leaf 0) ∷ [])))
 
-  automaton-words : automatonWords t (ownSets t) (length (mergedEdges m)) (m .actions) ≡ wordsOf (automatonLines whole)
-  unfolding automatonWords locationWords automatonLines locationLines flatMap lineWords syncWords
+  automaton-words : automatonWords t (layoutOf t) (ownOf t) (length (mergedEdges m)) ≡ wordsOf (automatonLines whole)
+  unfolding automatonWords locationWords automatonLines locationLines flatMap lineWords
   automaton-words =
       let set = sync-words m lawful t rest e in
       rw (init-words m lawful t rest e init-small, inv-words m lawful t rest e inv-small, edges-words m lawful t rest e few small)
@@ -62,7 +64,7 @@ module _ (m : Model) (lawful : Lawful m) (t rest : List ℕ) (e : t ≡ sheetWor
   tail-words = refl
 
   -- the law of the whole
-  pub sheet-words : mergedSheet t (ownSets t) (length (mergedEdges m)) (m .actions) ≡ sheetWords (linear m)
+  pub sheet-words : mergedSheet t (layoutOf t) (ownOf t) (length (mergedEdges m)) ≡ sheetWords (linear m)
   unfolding mergedSheet sheetWords
   sheet-words =
       sym (ap wordsOf in-parts ∙ words-append front (automatonLines whole ++ composeLine (leaf 0) ∷ []) ∙

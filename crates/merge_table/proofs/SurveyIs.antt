@@ -23,15 +23,17 @@ use Rattle.model.specs.Linear.{mergedInit, mergedInv, mergedEdge, mergedEdges, 
 use Rattle.model.proofs.Tests.{exists-append}
 use Rattle.model.proofs.Count.{moves-length}
 use Rattle.merge_words.specs.declared.survey.Survey.{Survey}
-use Rattle.merge_words.specs.NodeWords.{most, capped}
-use Rattle.merge_words.specs.Sync.{ownSets}
-use Rattle.merge_words.specs.MergedEdges.{cellsOf, placesOf}
-use Rattle.merge_words.specs.Survey.{surveyed, withEdge, surveyFrom, surveyUnder, surveyOf, surveyStart, surveyWhole}
-use Rattle.merge_words.proofs.NodeLaws.{capped-is, capped-over}
+use Rattle.merge_append.specs.NodeWords.{most, capped}
+use Rattle.merge_edges.specs.Moves.{cellsOf, placesOf, lastAction}
+use Rattle.table_places.specs.declared.layout.Layout.{Layout}
+use Rattle.table_places.specs.Layout.{layoutOf}
+use Rattle.merge_table.proofs.Standing.{ownOf}
+use Rattle.merge_words.specs.Survey.{surveyed, withEdge, surveyFrom, surveyUnder, surveyOf, surveyIn, surveyStart, surveyWhole}
+use Rattle.merge_append.proofs.NodeLaws.{capped-is, capped-over}
 use Rattle.merge_table.proofs.ClausesAre.{capped-most, capped-add, init-nodes, inv-nodes}
 use Rattle.merge_table.proofs.EdgesAre.{edge-nodes}
 use Rattle.merge_table.proofs.DeepAre.{init-deep, inv-deep, edge-too-deep}
-use Rattle.merge_table.proofs.AllEdgesAre.{total-is, move-named, move-valid}
+use Rattle.merge_table.proofs.AllEdgesAre.{last-is, total-is, move-named, move-valid}
 
 -- two capped numbers, added
 capped-both : (a b : ℕ) → capped (a + capped b) ≡ capped (a + b)
@@ -75,18 +77,21 @@ abbrev updatesOf : List Edge → List Pred
 updatesOf es = map (λ d. d .update) es
 
 module _ (m : Model) (lawful : Lawful m) (t rest : List ℕ) (e : t ≡ sheetWords m ++ rest) where
+  abbrev lay : Layout
+  lay = layoutOf t
+
   module _ (action : ℕ) (few : moveCount m action (m .tree) ≤ maxEdges) where
     abbrev listed : List (List Taker)
     listed = moves m action (m .tree)
 
     abbrev cells : List ℕ
-    cells = cellsOf t (ownSets t) action
+    cells = cellsOf t lay (ownOf t) action
 
     abbrev updates : List (List Taker) → List Pred
     updates l = updatesOf (map (mergedEdge m action) l)
 
     -- move k's edge
-    one-more : (k : ℕ) → k < length listed → (s : Survey) → withEdge t (placesOf t cells action k) s ≡ over s (mergedEdge m action (getD listed k []) .update ∷ [])
+    one-more : (k : ℕ) → k < length listed → (s : Survey) → withEdge t (placesOf t lay cells action k) s ≡ over s (mergedEdge m action (getD listed k []) .update ∷ [])
     unfolding withEdge placesOf exists sum
     one-more k h s =
         let update : List Taker → Pred = λ ts. mergedEdge m action ts .update in
@@ -98,7 +103,7 @@ module _ (m : Model) (lawful : Lawful m) (t rest : List ℕ) (e : t ≡ sheetWor
         ap₂ surveyed (ap (λ b. s .deep || b) (deep ∙ or-none (isTooDeep p)))
         (ap (λ n. capped (s .nodes + n)) nodes ∙ capped-both (s .nodes) (nodeCount p) ∙ ap (λ n. capped (s .nodes + n)) (sym (add-zero (nodeCount p))))
 
-    survey-from : (n k : ℕ) (s : Survey) → k + n ≡ length listed → s .nodes ≤ most → surveyFrom t cells action k n s ≡ over s (updates (drop k listed))
+    survey-from : (n k : ℕ) (s : Survey) → k + n ≡ length listed → s .nodes ≤ most → surveyFrom t lay cells action k n s ≡ over s (updates (drop k listed))
     unfolding surveyFrom
     survey-from zero k s h l =
         let end : length listed ≤ k = omega arith in
@@ -107,19 +112,19 @@ module _ (m : Model) (lawful : Lawful m) (t rest : List ℕ) (e : t ≡ sheetWor
         let b : k < length listed = omega arith in
         let p = mergedEdge m action (getD listed k []) .update in
         let r = over s (p ∷ []) in
-        rw (add-one k) (ap (surveyFrom t cells action (suc k) n) (one-more k b s) ∙ survey-from n (suc k) r (omega arith) (capped-most (s .nodes + nodesOf (p ∷ []))) ∙
+        rw (add-one k) (ap (surveyFrom t lay cells action (suc k) n) (one-more k b s) ∙ survey-from n (suc k) r (omega arith) (capped-most (s .nodes + nodesOf (p ∷ []))) ∙
         over-more s (p ∷ []) (updates (drop (suc k) listed)) ∙ ap (λ (x : List (List Taker)). over s (updates x)) (sym (drop-cons listed k [] b)))
 
-    action-survey : (s : Survey) → s .nodes ≤ most → surveyUnder t (ownSets t) action s ≡ over s (updates listed)
+    action-survey : (s : Survey) → s .nodes ≤ most → surveyUnder t lay (ownOf t) action s ≡ over s (updates listed)
     unfolding surveyUnder
     action-survey s l =
-        ap (λ n. surveyFrom t cells action 0 n s) (total-is m lawful t rest e action few ∙ sym (moves-length m action (m .tree))) ∙ survey-from (length listed) 0 s (omega arith) l
+        ap (λ n. surveyFrom t lay cells action 0 n s) (total-is m lawful t rest e action few ∙ sym (moves-length m action (m .tree))) ∙ survey-from (length listed) 0 s (omega arith) l
 
   module _ (few : (a : ℕ) → a ≤ m .actions → moveCount m a (m .tree) ≤ maxEdges) where
     abbrev edgesFor : List ℕ → List Edge
     edgesFor actions = flatMap (λ b. map (mergedEdge m b) (moves m b (m .tree))) actions
 
-    survey-upto : (n a : ℕ) (s : Survey) → a + n ≡ m .actions + 1 → s .nodes ≤ most → surveyOf t (ownSets t) a n s ≡ over s (updatesOf (edgesFor (countUp a n)))
+    survey-upto : (n a : ℕ) (s : Survey) → a + n ≡ m .actions + 1 → s .nodes ≤ most → surveyOf t lay (ownOf t) a n s ≡ over s (updatesOf (edgesFor (countUp a n)))
     unfolding surveyOf flatMap countUp
     survey-upto zero a s h l = over-none s l
     survey-upto (suc n) a s h l =
@@ -127,25 +132,25 @@ module _ (m : Model) (lawful : Lawful m) (t rest : List ℕ) (e : t ≡ sheetWor
         let others = edgesFor (countUp (suc a) n) in
         let b : a ≤ m .actions = omega arith in
         let r = over s (updatesOf es) in
-        rw (add-one a) (ap (surveyOf t (ownSets t) (suc a) n) (action-survey a (few a b) s l) ∙ survey-upto n (suc a) r (omega arith) (capped-most (s .nodes + nodesOf (updatesOf es))) ∙
+        rw (add-one a) (ap (surveyOf t lay (ownOf t) (suc a) n) (action-survey a (few a b) s l) ∙ survey-upto n (suc a) r (omega arith) (capped-most (s .nodes + nodesOf (updatesOf es))) ∙
         over-more s (updatesOf es) (updatesOf others) ∙ ap (over s) (sym (map-append (λ (d : Edge). d .update) es others)))
 
     -- the merged init and inv, and then all edges
-    whole-survey : surveyWhole t (ownSets t) (m .actions) ≡ over (surveyStart t) (updatesOf (mergedEdges m))
-    unfolding surveyWhole surveyStart mergedEdges
+    whole-survey : surveyWhole t (layoutOf t) (ownOf t) ≡ over (surveyStart t) (updatesOf (mergedEdges m))
+    unfolding surveyWhole surveyIn surveyStart mergedEdges
     whole-survey =
         let z : m .actions + 1 ≡ suc (m .actions) = omega arith in
-        survey-upto (m .actions + 1) 0 (surveyStart t) (omega arith) (capped-most _) ∙ ap (λ n. over (surveyStart t) (updatesOf (edgesFor (countUp 0 n)))) z
+        ap (λ a. surveyOf t lay (ownOf t) 0 (a + 1) (surveyStart t)) (last-is m lawful t rest e) ∙ survey-upto (m .actions + 1) 0 (surveyStart t) (omega arith) (capped-most _) ∙ ap (λ n. over (surveyStart t) (updatesOf (edgesFor (countUp 0 n)))) z
 
     -- row 33
-    pub survey-deep : surveyWhole t (ownSets t) (m .actions) .deep ≡ row33 m
+    pub survey-deep : surveyWhole t (layoutOf t) (ownOf t) .deep ≡ row33 m
     unfolding surveyStart row33 mergedPreds exists
     survey-deep =
         let others = exists isTooDeep (updatesOf (mergedEdges m)) in
         ap (λ (s : Survey). s .deep) whole-survey ∙
         ap₂ (λ (a b : Bool). (a || b) || others) (init-deep m lawful t rest e) (inv-deep m lawful t rest e) ∙ or-assoc (isTooDeep (mergedInit m)) (isTooDeep (mergedInv m)) others
 
-    pub survey-nodes : surveyWhole t (ownSets t) (m .actions) .nodes ≡ capped (sum (map nodeCount (mergedPreds m)))
+    pub survey-nodes : surveyWhole t (layoutOf t) (ownOf t) .nodes ≡ capped (sum (map nodeCount (mergedPreds m)))
     unfolding surveyStart mergedPreds sum
     survey-nodes =
         let a = nodeCount (mergedInit m) in
@@ -157,6 +162,6 @@ module _ (m : Model) (lawful : Lawful m) (t rest : List ℕ) (e : t ≡ sheetWor
         ap (λ n. capped (n + others)) (capped-add a (capped b) ∙ capped-both a b) ∙ capped-add (a + b) others ∙ ap capped size
 
     -- row 34
-    pub survey-row34 : ltb maxNodes (surveyWhole t (ownSets t) (m .actions) .nodes) ≡ row34 m
+    pub survey-row34 : ltb maxNodes (surveyWhole t (layoutOf t) (ownOf t) .nodes) ≡ row34 m
     unfolding row34
     survey-row34 = ap (ltb maxNodes) survey-nodes ∙ capped-test maxNodes (sum (map nodeCount (mergedPreds m))) (omega arith)

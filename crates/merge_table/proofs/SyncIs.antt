@@ -21,13 +21,15 @@ use Rattle.model.proofs.Numbered.{numbered, size-is, leaves-in}
 use Rattle.table_tree.specs.Nodes.{treeWords}
 use Rattle.table_tree.specs.Members.{inSetAt}
 use Rattle.table_tree.proofs.Inside.{list-back, in-set-of}
-use Rattle.table_places.specs.Outline.{reach, nodesPlace, treeAt}
-use Rattle.table_places.proofs.OutlineLaws.{reached, tree-at}
+use Rattle.table_places.specs.Outline.{nodesPlace}
+use Rattle.table_places.specs.Layout.{layoutOf}
+use Rattle.table_places.proofs.Standing.{tree-stands}
 use Rattle.table_places.proofs.LayoutLaws.{tree-place}
 use Rattle.table_places.proofs.AgreeLaws.{own-agrees}
-use Rattle.merge_words.specs.MergedEdges.{rootOf}
-use Rattle.merge_words.specs.Sync.{ownSets, isShared, shifted, bitsFrom, syncBy, syncWords}
-use Rattle.merge_table.proofs.HeadIs.{actions-are}
+use Rattle.merge_edges.specs.Moves.{rootOf}
+use Rattle.merge_words.specs.Sync.{isShared, shifted, bitsFrom, syncBy}
+use Rattle.merge_table.proofs.Standing.{ownOf}
+use Rattle.merge_table.proofs.HeadIs.{laid-actions}
 
 -- the sum of g over the numbers k below n of which f holds, counted from a number on
 unfoldable sumOf : (g : ℕ → ℕ) (f : ℕ → Bool) (from n : ℕ) → ℕ
@@ -217,32 +219,22 @@ set-fits A list few r =
     (omega (arith, sum-below (bit low) 0 32), omega (arith, sum-below (λ k. bit high (k - 32)) 32 32))
 
 module _ (m : Model) (lawful : Lawful m) (t rest : List ℕ) (e : t ≡ sheetWords m ++ rest) where
-  -- the automata's own sets: each says of an action what the model says
-  pub own-agree : (action k : ℕ) → k < length (m .automata) → bit (getD (ownSets t) k 0) action ≡ member action (automaton m k .sync)
-  own-agree action k h = own-agrees m lawful t rest e action k
-
   -- where the tree's nodes stand
-  pub tree-stands : take (length (treeWords (m .tree))) (drop (reach t (treeAt t) 1) t) ≡ treeWords (m .tree)
-  unfolding lineWords
-  tree-stands =
-      let d : drop (reach t (treeAt t) 1) t ≡ treeWords (m .tree) ++ rest = reached t (treeAt t) 1 (treeSize (m .tree) ∷ []) (treeWords (m .tree) ++ rest) (tree-at t rest m e) refl in
-      ap (take (length (treeWords (m .tree)))) d ∙ take-at (treeWords (m .tree)) rest (length (treeWords (m .tree))) refl
+  pub root-stands : take (length (treeWords (m .tree))) (drop (rootOf t (layoutOf t)) t) ≡ treeWords (m .tree)
+  root-stands =
+      let n = length (treeWords (m .tree)) in
+      ap (λ (i : ℕ). take n (drop (nodesPlace t i) t)) (tree-place m lawful t rest e) ∙ ap (take n) (tree-stands t rest m e) ∙ take-at (treeWords (m .tree)) rest n refl
 
-  -- where the layout has them
-  pub root-stands : take (length (treeWords (m .tree))) (drop (rootOf t) t) ≡ treeWords (m .tree)
-  unfolding nodesPlace
-  root-stands = ap (λ (i : ℕ). take (length (treeWords (m .tree))) (drop (reach t i 1) t)) (tree-place m lawful t rest e) ∙ tree-stands
-
-  in-set-is : (action : ℕ) → inSetAt t (ownSets t) action (reach t (treeAt t) 1) ≡ inSet m action (m .tree)
+  in-set-is : (action : ℕ) → inSetAt t (ownOf t) action (rootOf t (layoutOf t)) ≡ inSet m action (m .tree)
   in-set-is action =
-      in-set-of t (ownSets t) m action (m .actions) (lawful .few-actions) (m .tree) (reach t (treeAt t) 1) (lawful .tree .size) tree-stands (lawful .tree .lists)
-      (leaves-in (m .tree) 0 (numbered (m .tree) _ (lawful .tree .in-order)) (λ k p q. own-agree action k (omega (arith, size-is (m .tree) _ (lawful .tree .in-order)))))
+      in-set-of t (ownOf t) m action (m .actions) (lawful .few-actions) (m .tree) (rootOf t (layoutOf t)) (lawful .tree .size) root-stands (lawful .tree .lists)
+      (leaves-in (m .tree) 0 (numbered (m .tree) _ (lawful .tree .in-order)) (λ k p q. own-agrees m lawful t rest e action k))
 
   abbrev inWhole : ℕ → Bool
   inWhole a = inSet m a (m .tree)
 
   abbrev test : ℕ → Bool
-  test = isShared t (ownSets t)
+  test = isShared t (layoutOf t) (ownOf t)
 
   test-none : test 0 ≡ false
   unfolding isShared
@@ -252,14 +244,14 @@ module _ (m : Model) (lawful : Lawful m) (t rest : List ℕ) (e : t ≡ sheetWor
   unfolding isShared
   test-in a h l =
       let z : eqb a 0 ≡ false = ne-eqb a 0 (λ y. absurd (omega arith)) in
-      let u : leb a (getD t 1 0) ≡ true = ap (leb a) (actions-are m lawful t rest e) ∙ le-leb a (m .actions) (omega arith) in
+      let u : leb a (layoutOf t .actions) ≡ true = ap (leb a) (laid-actions m lawful t rest e) ∙ le-leb a (m .actions) (omega arith) in
       rw (z, u) (in-set-is a)
 
   test-past : (a : ℕ) → 1 + m .actions ≤ a → test a ≡ false
   unfolding isShared
   test-past a h =
       let z : eqb a 0 ≡ false = ne-eqb a 0 (λ y. absurd (omega arith)) in
-      let u : leb a (getD t 1 0) ≡ false = ap (leb a) (actions-are m lawful t rest e) ∙ lt-leb a (m .actions) (omega arith) in
+      let u : leb a (layoutOf t .actions) ≡ false = ap (leb a) (laid-actions m lawful t rest e) ∙ lt-leb a (m .actions) (omega arith) in
       rw (z, u)
 
   kept-is : keep test (countUp 0 64) ≡ keep inWhole (countUp 1 (m .actions))
@@ -272,8 +264,8 @@ module _ (m : Model) (lawful : Lawful m) (t rest : List ℕ) (e : t ≡ sheetWor
       ap₂ (λ (k l : List ℕ). k ++ l) (keep-alike test inWhole 1 A test-in) (keep-nothing test (1 + A) (63 - A) test-past) ∙ append-nil (keep inWhole (countUp 1 A))
 
   -- the law: the two words are those of the merged automaton's set
-  pub sync-words : syncWords t ≡ setWords (keep (λ a. inSet m a (m .tree)) (countUp 1 (m .actions)))
-  unfolding syncWords syncBy setWords
+  pub sync-words : syncBy t (layoutOf t) (ownOf t) ≡ setWords (keep (λ a. inSet m a (m .tree)) (countUp 1 (m .actions)))
+  unfolding syncBy setWords
   sync-words =
       ap₂ (λ x y. x ∷ y ∷ []) (whole-bits test 0 ∙ sym (low-word test)) (whole-bits test 32 ∙ sym (high-word test)) ∙
       ap (λ (l : List ℕ). lowBits l ∷ highBits l ∷ []) kept-is

@@ -22,12 +22,13 @@ use Rattle.model.proofs.Count.{count-is}
 use Rattle.model.proofs.Decode.{unbroken}
 use Rattle.model.proofs.LinearLimits.{linear-lawful}
 use Rattle.model.proofs.Sizes.{words-fit}
-use Rattle.merge_words.specs.Append.{Appended}
-use Rattle.merge_words.specs.NodeWords.{most}
-use Rattle.merge_words.specs.MergedEdges.{movesOf}
+use Rattle.merge_append.specs.Append.{Appended}
+use Rattle.merge_append.specs.NodeWords.{most}
+use Rattle.merge_edges.specs.Moves.{movesIn}
+use Rattle.table_places.specs.Layout.{layoutOf}
 use Rattle.merge_words.specs.MergedSheet.{mergedSheet}
-use Rattle.merge_words.specs.Sync.{ownSets}
-use Rattle.merge_words.proofs.AppendLaws.{appended-is}
+use Rattle.merge_table.proofs.Standing.{ownOf}
+use Rattle.merge_append.proofs.AppendLaws.{appended-is}
 use Rattle.merge_table.proofs.EdgesAre.{drop-zeros}
 use Rattle.merge_table.proofs.CountIs.{count-exact, counts-few}
 use Rattle.merge_table.proofs.SheetIs.{sheet-words}
@@ -99,14 +100,14 @@ module _ (m : Model) (rows : Kept m) where
 
 module _ (m : Model) (lawful : Lawful m) (t rest : List ℕ) (e : t ≡ sheetWords m ++ rest) (unrefused : mergeFault m ≡ none) where
   -- the words
-  pub whole-words : mergedSheet t (ownSets t) (movesOf t (ownSets t) 0 (m .actions + 1) 0) (m .actions) ≡ sheetWords (linear m)
+  pub whole-words : mergedSheet t (layoutOf t) (ownOf t) (movesIn t (layoutOf t) (ownOf t)) ≡ sheetWords (linear m)
   whole-words =
       let rows = rows-kept m unrefused in
-      ap (λ c. mergedSheet t (ownSets t) c (m .actions)) (count-exact m lawful t rest e (rows .edges) ∙ sym (count-is m)) ∙
+      ap (mergedSheet t (layoutOf t) (ownOf t)) (count-exact m lawful t rest e (rows .edges) ∙ sym (count-is m)) ∙
       sheet-words m lawful t rest e (counts-few m lawful t rest e (rows .edges)) (init-small m rows) (inv-small m rows) (edge-small m rows)
 
   -- the table
-  pub whole-table : (new : List ℕ) (r : ℕ) → Appended (mergedSheet t (ownSets t) (movesOf t (ownSets t) 0 (m .actions + 1) 0) (m .actions)) 0 (replicate tableWords 0) new r
+  pub whole-table : (new : List ℕ) (r : ℕ) → Appended (mergedSheet t (layoutOf t) (ownOf t) (movesIn t (layoutOf t) (ownOf t))) 0 (replicate tableWords 0) new r
       → new ≡ tableOf (linear m)
   unfolding tableOf
   whole-table new r a =
@@ -114,5 +115,5 @@ module _ (m : Model) (lawful : Lawful m) (t rest : List ℕ) (e : t ≡ sheetWor
       let law = linear-lawful m lawful unrefused in
       let room = words-fit (linear m) law in
       let there : Appended ws 0 (replicate tableWords 0) new r = subst (λ (l : List ℕ). Appended l 0 (replicate tableWords 0) new r) whole-words a in
-      let is = appended-is ws 0 (replicate tableWords 0) new r there (fits (linear m) law) (length-replicate {A = ℕ} tableWords 0) (omega arith) .1 in
+      let is = appended-is ws 0 (replicate tableWords 0) new r there (fits (linear m) law) (length-replicate {A = ℕ} tableWords 0) (omega arith) in
       is ∙ ap (λ (l : List ℕ). ws ++ l) (ap (λ n. drop n (replicate tableWords 0)) (zero-add (length ws)) ∙ drop-zeros (length ws) tableWords room)

@@ -25,7 +25,7 @@ use Rattle.model.proofs.Bits.{rises-cons}
 use Rattle.model.proofs.Decode.{unbroken, in-range, unsaid, none-lacks}
 use Rattle.table_tree.specs.Nodes.{treeWords}
 use Rattle.table_tree.proofs.Standing.{words-par, words-syn, words-leaf}
-use Rattle.merge_words.specs.Append.{narrow}
+use Rattle.merge_append.specs.Append.{narrow}
 use Rattle.merge_table.proofs.Standing.{narrow-is}
 use Rattle.merge_table.proofs.SyncIs.{set-fits}
 

@@ -6,22 +6,22 @@ use native.Mathlib.Omega.{arith}
 use native.Mathlib.Numerals.{sub-one}
 use lib.ListN.{length, getD}
 use Rattle.model.specs.Bounds.{bias}
-use Rattle.table_places.specs.Outline.{reach, afterAutomaton, countAt, automatonAt}
-use Rattle.merge_words.specs.Append.{Appended}
-use Rattle.merge_words.specs.Runs.{run}
-use Rattle.merge_words.specs.NodeWords.{upward, pointerOf}
-use Rattle.merge_words.specs.Head.{variablesOf, automataOf, lastLocationAt, pointerRanges, headWords}
-use Rattle.merge_words.proofs.AppendLaws.{then, Underway, begun, on-by, ended}
+use Rattle.table_places.specs.Outline.{afterAutomaton, locationCount, rangeAt, actionsIn, variablesIn, automataIn, firstAutomaton}
+use Rattle.merge_append.specs.Append.{Appended}
+use Rattle.merge_append.specs.Runs.{run}
+use Rattle.merge_append.specs.NodeWords.{upward, pointerOf}
+use Rattle.merge_words.specs.Head.{formatIn, lastLocationAt, pointerRanges, headWords}
+use Rattle.merge_append.proofs.AppendLaws.{then, Underway, begun, on-by, ended}
 
 -- `last_location`
-module _ (t : List ℕ) (at p n : ℕ) (e : p ≡ reach t at 2) (f : n ≡ getD t p 0) where
+module _ (t : List ℕ) (at n : ℕ) (e : n ≡ locationCount t at) where
   pub last-none : n ≡ 0 → 0 ≡ lastLocationAt t at
   unfolding lastLocationAt
-  last-none z = let g : getD t (reach t at 2) 0 ≡ 0 = ap (λ k. getD t k 0) (sym e) ∙ sym f ∙ z in rw g
+  last-none z = let g : locationCount t at ≡ 0 = sym e ∙ z in rw g
 
   pub last-is : n - 1 ≡ lastLocationAt t at
   unfolding lastLocationAt
-  last-is = rw (f, e)
+  last-is = rw e
 
 pub ruleset last-laws = (last-none, last-is)
 
@@ -47,17 +47,14 @@ module _ (t whole old now : List ℕ) (at place left next : ℕ) (u : Underway w
 pub ruleset pointers-laws = (begun, pointers-turn, pointers-end)
 
 -- `numbers`
-pub three-words : (t : List ℕ) (f g h at a b r : ℕ) (old m1 m2 new : List ℕ) → f ≡ getD t 0 0 → g ≡ getD t 1 0
-    → Appended (f ∷ []) at old m1 a → Appended (g ∷ []) a m1 m2 b → Appended (h ∷ []) b m2 new r → Appended (getD t 0 0 ∷ getD t 1 0 ∷ h ∷ []) at old new r
+pub three-words : (t : List ℕ) (f g h at a b r : ℕ) (old m1 m2 new : List ℕ) → f ≡ formatIn t → g ≡ actionsIn t
+    → Appended (f ∷ []) at old m1 a → Appended (g ∷ []) a m1 m2 b → Appended (h ∷ []) b m2 new r → Appended (formatIn t ∷ actionsIn t ∷ h ∷ []) at old new r
 three-words t f g h at a b r old m1 m2 new ef eg p q s = rw (← ef, ← eg) (then p (then q s))
 
 -- `head`
-module _ (t : List ℕ) (v cp n : ℕ) (ev : v ≡ getD t 2 0) (ec : cp ≡ countAt t) (en : n ≡ getD t cp 0) where
-  module _ (s3 vn vv first : ℕ) (es : s3 ≡ reach t 0 3) (evn : vn ≡ pointerOf v n) (evv : vv ≡ pointerOf v v) (ef : first ≡ automatonAt t 0) where
-    pub head-is : (at a b c r : ℕ) (o m1 m2 m3 new : List ℕ)
-        → Appended (getD t 0 0 ∷ getD t 1 0 ∷ vn ∷ []) at o m1 a → Appended (run t s3 vv) a m1 m2 b
-        → Appended (pointerRanges t first n) b m2 m3 c → Appended (1 ∷ []) c m3 new r → Appended (headWords t) at o new r
-    unfolding headWords
-    head-is at a b c r o m1 m2 m3 new p1 p2 p3 p4 =
-        let count : n ≡ automataOf t = en ∙ ap (λ k. getD t k 0) ec in
-        rw (← es, ← count, ← ev, ← evn, ← evv, ← ef) (then p1 (then p2 (then p3 p4)))
+module _ (t : List ℕ) (v n s vn vv first : ℕ) (ev : v ≡ variablesIn t) (en : n ≡ automataIn t) (es : s ≡ rangeAt t 0) (evn : vn ≡ pointerOf v n) (evv : vv ≡ pointerOf v v) (ef : first ≡ firstAutomaton t) where
+  pub head-is : (at a b c r : ℕ) (o m1 m2 m3 new : List ℕ)
+      → Appended (formatIn t ∷ actionsIn t ∷ vn ∷ []) at o m1 a → Appended (run t s vv) a m1 m2 b
+      → Appended (pointerRanges t first n) b m2 m3 c → Appended (1 ∷ []) c m3 new r → Appended (headWords t) at o new r
+  unfolding headWords
+  head-is at a b c r o m1 m2 m3 new p1 p2 p3 p4 = rw (← es, ← en, ← ev, ← evn, ← evv, ← ef) (then p1 (then p2 (then p3 p4)))

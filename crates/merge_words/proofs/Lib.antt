@@ -1,12 +1,5 @@
-pub mod AppendLaws
-pub mod NodeLaws
 pub mod HeadLaws
-pub mod ClauseLaws
-pub mod Ahead
-pub mod EdgeLaws
 pub mod SyncLaws
-pub mod DepthLaws
-pub mod AllEdgesLaws
 pub mod SurveyLaws
 pub mod SheetLaws
 pub mod LinearizeLaws

@@ -1,13 +1,5 @@
-pub mod Append
-pub mod Runs
-pub mod NodeWords
 pub mod Head
-pub mod Clauses
-pub mod MergedEdge
 pub mod Sync
-pub mod Depths
-pub mod MergedEdges
-pub mod Starts
 pub mod Survey
 pub mod MergedSheet
 pub mod Linearize

@@ -1,20 +1,20 @@
--- The linearization as the code finds it over the words of a table. On the table of a model it is Definition 4's: the law linear-by-is of
--- crate `merge_table`.
+-- The linearization as the code finds it over the words of a table. On the table of a model it is Definition 4's: the
+-- law linear-by-is of crate `merge_table`.
 use mathlib.Core.Bool.{Bool, true, false}
 use mathlib.Core.List.{List, map}
-use Prim.Native.Nat.{ℕ, _+_}
-use lib.ListN.{getD, replicate}
-use lib.Seq.{sets}
+use Prim.Native.Nat.{ℕ}
+use lib.ListN.{replicate}
 use lib.Dec.{eqb, ltb}
 use Rattle.model.specs.Bounds.{maxVariables, maxEdges, maxNodes, tableWords}
+use Rattle.table_append.specs.Append.{put}
+use Rattle.table_places.specs.declared.layout.Layout.{Layout}
+use Rattle.table_places.specs.Layout.{layoutOf}
+use Rattle.table_places.specs.Own.{ownSets}
+use Rattle.merge_append.specs.Append.{narrow}
+use Rattle.merge_append.specs.NodeWords.{pointerOf}
+use Rattle.merge_edges.specs.Moves.{movesIn}
 use Rattle.merge_words.specs.declared.Linearization.{Linearization}
-use Rattle.merge_words.specs.Append.{narrow}
-use Rattle.merge_words.specs.NodeWords.{pointerOf}
-use Rattle.merge_words.specs.Head.{variablesOf, automataOf}
-use Rattle.table_places.specs.AtMost.{atMost}
-use Rattle.merge_words.specs.MergedEdges.{movesOf}
 use Rattle.merge_words.specs.MergedSheet.{mergedSheet}
-use Rattle.merge_words.specs.Sync.{ownSets}
 use Rattle.merge_words.specs.Survey.{surveyWhole}
 
 -- a refusal has no edges and an empty table
@@ -24,38 +24,34 @@ refusedBy row = record { row = row; edges = 0; table = replicate tableWords 0 }
 unfoldable pub mergedTo : (edges : ℕ) (table : List ℕ) → Linearization
 mergedTo edges table = record { row = 0; edges = edges; table = table }
 
--- A, as far as a sheet can have actions.
-unfoldable pub lastAction : (t : List ℕ) → ℕ
-lastAction t = atMost 63 (getD t 1 0)
-
 -- row 31
-unfoldable pub isCrowded : (t : List ℕ) → Bool
-isCrowded t = ltb maxVariables (pointerOf (variablesOf t) (automataOf t))
+unfoldable pub isCrowded : (x : Layout) → Bool
+isCrowded x = ltb maxVariables (pointerOf (x .variables) (x .automata))
 
-module _ (t own : List ℕ) (edges last : ℕ) where
+module _ (t : List ℕ) (x : Layout) (own : List ℕ) (edges : ℕ) where
   -- the first of rows 32 to 34 that refuses, or 0
   unfoldable pub faultBy : ℕ
   faultBy =
       elim (ltb maxEdges edges) [
         | true ↦ 32
         | false ↦
-            elim (surveyWhole t own last .deep) [
+            elim (surveyWhole t x own .deep) [
               | true ↦ 33
-              | false ↦ elim (ltb maxNodes (surveyWhole t own last .nodes)) [ true ↦ 34 | false ↦ 0 ]
+              | false ↦ elim (ltb maxNodes (surveyWhole t x own .nodes)) [ true ↦ 34 | false ↦ 0 ]
             ]
       ]
 
   -- the merged sheet in an empty table
   unfoldable pub sheetTable : List ℕ
-  sheetTable = sets (replicate tableWords 0) 0 (map narrow (mergedSheet t own edges last))
+  sheetTable = put 0 (map narrow (mergedSheet t x own edges)) (replicate tableWords 0)
 
   unfoldable pub linearFor : Linearization
   linearFor = elim (eqb faultBy 0) [ true ↦ mergedTo edges sheetTable | false ↦ refusedBy faultBy ]
 
+-- with the automata's own sets and the count of merged edges
+unfoldable pub linearIn : (t : List ℕ) (x : Layout) → Linearization
+linearIn t x = let own = ownSets t (x .sets) in linearFor t x own (movesIn t x own)
+
 -- row 31 is asked before the edges are counted
 unfoldable pub linearBy : (t : List ℕ) → Linearization
-linearBy t =
-    elim (isCrowded t) [
-      | true ↦ refusedBy 31
-      | false ↦ linearFor t (ownSets t) (movesOf t (ownSets t) 0 (lastAction t + 1) 0) (lastAction t)
-    ]
+linearBy t = elim (isCrowded (layoutOf t)) [ true ↦ refusedBy 31 | false ↦ linearIn t (layoutOf t) ]

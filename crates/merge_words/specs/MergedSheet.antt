@@ -1,20 +1,21 @@
 -- The words of the whole merged sheet.
 use mathlib.Core.Bool.{true, false}
 use mathlib.Core.List.{List, [], _∷_, _++_}
-use Prim.Native.Nat.{ℕ, _+_}
+use Prim.Native.Nat.{ℕ}
+use Rattle.table_places.specs.declared.layout.Layout.{Layout}
+use Rattle.merge_predicates.specs.Clauses.{mergedWords}
+use Rattle.merge_edges.specs.Edges.{edgesIn}
 use Rattle.merge_words.specs.Head.{headWords}
-use Rattle.merge_words.specs.Clauses.{mergedWords}
 use Rattle.merge_words.specs.Sync.{syncBy}
-use Rattle.merge_words.specs.MergedEdges.{edgesOf}
 
 -- one location, with its init and its inv
 unfoldable pub locationWords : (t : List ℕ) → List ℕ
 locationWords t = 1 ∷ (mergedWords t false ++ mergedWords t true)
 
--- the set, the location, so many edges, and the edges under the actions from 0 to `last`
-unfoldable pub automatonWords : (t own : List ℕ) (count last : ℕ) → List ℕ
-automatonWords t own count last = syncBy t own ++ (locationWords t ++ (count ∷ edgesOf t own 0 (last + 1)))
+-- the set, the location, so many edges, and the edges
+unfoldable pub automatonWords : (t : List ℕ) (x : Layout) (own : List ℕ) (count : ℕ) → List ℕ
+automatonWords t x own count = syncBy t x own ++ (locationWords t ++ (count ∷ edgesIn t x own))
 
 -- the head, the automaton, and a tree of one leaf
-unfoldable pub mergedSheet : (t own : List ℕ) (count last : ℕ) → List ℕ
-mergedSheet t own count last = headWords t ++ (automatonWords t own count last ++ (1 ∷ 2 ∷ []))
+unfoldable pub mergedSheet : (t : List ℕ) (x : Layout) (own : List ℕ) (count : ℕ) → List ℕ
+mergedSheet t x own count = headWords t ++ (automatonWords t x own count ++ (1 ∷ 2 ∷ []))

@@ -1,14 +1,15 @@
--- What rows 33 and 34 ask of the merged predicates: is one too deep, and how many nodes they have. On a sheet's words they are
--- the rows: the laws survey-deep and survey-row34.
+-- What rows 33 and 34 ask of the merged predicates: is one too deep, and how many nodes they have. On a sheet's words
+-- they are the rows: the laws survey-deep and survey-row34.
 use mathlib.Core.Bool.{Bool, false, true, _||_}
 use mathlib.Core.List.{List}
 use Prim.Native.Nat.{ℕ, zero, suc, _+_}
+use Rattle.table_places.specs.declared.layout.Layout.{Layout}
+use Rattle.merge_append.specs.NodeWords.{capped}
+use Rattle.merge_predicates.specs.Clauses.{mergedNodes}
+use Rattle.merge_predicates.specs.Depths.{mergedDeep}
+use Rattle.merge_edges.specs.Edge.{takersNodes, updatesDeep}
+use Rattle.merge_edges.specs.Moves.{cellsOf, moveTotal, placesOf, lastAction}
 use Rattle.merge_words.specs.declared.survey.Survey.{Survey}
-use Rattle.merge_words.specs.NodeWords.{capped}
-use Rattle.merge_words.specs.Clauses.{mergedNodes}
-use Rattle.merge_words.specs.Depths.{mergedDeep, updatesDeep}
-use Rattle.merge_words.specs.MergedEdge.{takersNodes}
-use Rattle.merge_words.specs.MergedEdges.{cellsOf, moveTotal, placesOf}
 
 abbrev pub surveyed : (deep : Bool) (nodes : ℕ) → Survey
 surveyed d n = record { deep = d; nodes = n }
@@ -17,22 +18,27 @@ surveyed d n = record { deep = d; nodes = n }
 unfoldable pub withEdge : (t places : List ℕ) → Survey → Survey
 withEdge t places s = surveyed (s .deep || updatesDeep t places) (capped (s .nodes + takersNodes t 1 places))
 
--- the edges of n moves from move k on
-unfoldable pub surveyFrom : (t cells : List ℕ) (action k n : ℕ) → Survey → Survey
-surveyFrom t cells action k zero s = s
-surveyFrom t cells action k (suc n) s = surveyFrom t cells action (k + 1) n (withEdge t (placesOf t cells action k) s)
+module _ (t : List ℕ) (x : Layout) where
+  -- the edges of n moves from move k on
+  unfoldable pub surveyFrom : (cells : List ℕ) (action k n : ℕ) → Survey → Survey
+  surveyFrom cells action k zero s = s
+  surveyFrom cells action k (suc n) s = surveyFrom cells action (k + 1) n (withEdge t (placesOf t x cells action k) s)
 
--- the edges of an action; of n actions, from one on
-unfoldable pub surveyUnder : (t own : List ℕ) (action : ℕ) → Survey → Survey
-surveyUnder t own action s = surveyFrom t (cellsOf t own action) action 0 (moveTotal t own action) s
+  -- the edges of an action; of n actions, from one on; of all
+  unfoldable pub surveyUnder : (own : List ℕ) (action : ℕ) → Survey → Survey
+  surveyUnder own action s = surveyFrom (cellsOf t x own action) action 0 (moveTotal t x own action) s
 
-unfoldable pub surveyOf : (t own : List ℕ) (action n : ℕ) → Survey → Survey
-surveyOf t own action zero s = s
-surveyOf t own action (suc n) s = surveyOf t own (action + 1) n (surveyUnder t own action s)
+  unfoldable pub surveyOf : (own : List ℕ) (action n : ℕ) → Survey → Survey
+  surveyOf own action zero s = s
+  surveyOf own action (suc n) s = surveyOf own (action + 1) n (surveyUnder own action s)
 
--- the merged init and inv; then all edges, under the actions from 0 to `last`
+  unfoldable pub surveyIn : (own : List ℕ) → Survey → Survey
+  surveyIn own s = surveyOf own 0 (lastAction x + 1) s
+
+-- the merged init and inv; then all edges
 unfoldable pub surveyStart : (t : List ℕ) → Survey
-surveyStart t = surveyed (mergedDeep t false || mergedDeep t true) (capped (mergedNodes t false + mergedNodes t true))
+surveyStart t =
+    surveyed (mergedDeep t false || mergedDeep t true) (capped (mergedNodes t false + mergedNodes t true))
 
-unfoldable pub surveyWhole : (t own : List ℕ) (last : ℕ) → Survey
-surveyWhole t own last = surveyOf t own 0 (last + 1) (surveyStart t)
+unfoldable pub surveyWhole : (t : List ℕ) (x : Layout) (own : List ℕ) → Survey
+surveyWhole t x own = surveyIn t x own (surveyStart t)

@@ -1,19 +1,17 @@
-// The merged sheet's words before its automaton.
-use crate::put::{self};
-use crate::words::{self};
+// The merged sheet's words before its automaton, and after it.
 use model::Model;
 ghost use mathlib.Core.Path.{_≡_};
 ghost use mathlib.Core.List.{[], _∷_};
-ghost use lib.ListN.{length, getD};
-ghost use Rattle.model.specs.Bounds.{tableWords, bias};
-ghost use Rattle.merge_words.specs.Append.{Appended};
-ghost use Rattle.merge_words.specs.Head.{lastLocationAt, pointerRanges, headWords};
+ghost use Rattle.model.specs.Bounds.{bias};
+ghost use Rattle.table_places.specs.Outline.{actionsIn};
+ghost use Rattle.merge_append.specs.Append.{Appended};
+ghost use Rattle.merge_words.specs.Head.{formatIn, lastLocationAt, pointerRanges, headWords};
 
 // The last location of the automaton at a place.
 fn last_location(t: &[u32], at: usize) -> usize
     ensures { λ r. ⌜ r ≡ lastLocationAt (now (t .entry)) at ⌝ }
 {
-    let locations = table_places::word(t, table_places::step(t, at, 2));
+    let locations = table_places::location_count(t, at);
     if locations == 0 {
         return 0;
     }
@@ -22,11 +20,10 @@ fn last_location(t: &[u32], at: usize) -> usize
 
 // A pointer's range: from 0 to the last location.
 fn range(high: usize, out: &mut [u32; Model::WORDS], at: usize) -> usize
-    requires { ⌜ length (now out) ≡ tableWords ⌝ }
     ensures { λ r. ⌜ Appended (bias ∷ high ∷ []) at (now (out .entry)) (now (out .exit)) r ⌝ }
 {
-    let next = put::put(32768, out, at);
-    put::put(high, out, next)
+    let next = merge_append::put(32768, out, at);
+    merge_append::put(high, out, next)
 }
 
 // The ranges of `count` pointers, the first one's automaton standing at `first`.
@@ -37,14 +34,14 @@ fn pointers(
     out: &mut [u32; Model::WORDS],
     at: usize,
 ) -> usize
-    requires { ⌜ length (now out) ≡ tableWords ⌝ }
     ensures { λ r. ⌜ Appended (pointerRanges (now (t .entry)) first count) at (now (out .entry)) (now (out .exit)) r ⌝ }
 {
     let mut left = count;
     let mut place = first;
     let mut next = at;
     while left != 0 {
-        next = range(words::upward(last_location(t, place)), out, next);
+        let high = merge_append::upward(last_location(t, place));
+        next = range(high, out, next);
         place = table_places::after_automaton(t, place);
         left -= 1;
     }
@@ -53,38 +50,33 @@ fn pointers(
 
 // The format, the actions, and the number of variables.
 fn numbers(t: &[u32], variables: usize, out: &mut [u32; Model::WORDS], at: usize) -> usize
-    requires { ⌜ length (now out) ≡ tableWords ⌝ }
-    ensures { λ r. ⌜ Appended (getD (now (t .entry)) 0 0 ∷ getD (now (t .entry)) 1 0 ∷ variables ∷ []) at (now (out .entry)) (now (out .exit)) r ⌝ }
+    ensures { λ r. ⌜ Appended (formatIn (now (t .entry)) ∷ actionsIn (now (t .entry)) ∷ variables ∷ [])
+        at (now (out .entry)) (now (out .exit)) r ⌝ }
 {
-    let a = put::put(table_places::word(t, 0), out, at);
-    let b = put::put(table_places::word(t, 1), out, a);
-    put::put(variables, out, b)
+    let a = merge_append::put(table_places::word(t, 0), out, at);
+    let b = merge_append::put(table_places::actions(t), out, a);
+    merge_append::put(variables, out, b)
 }
 
 // Format, actions, V + N, the ranges, and one automaton.
 pub fn head(t: &[u32], out: &mut [u32; Model::WORDS], at: usize) -> usize
-    requires { ⌜ length (now out) ≡ tableWords ⌝ }
     ensures { λ r. ⌜ Appended (headWords (now (t .entry))) at (now (out .entry)) (now (out .exit)) r ⌝ }
 {
-    let variables = table_places::word(t, 2);
-    let automata = table_places::word(t, table_places::count_at(t));
-    let a = numbers(t, words::pointer(variables, automata), out, at);
-    let b = put::copy(
-        t,
-        table_places::step(t, 0, 3),
-        words::pointer(variables, variables),
-        out,
-        a,
-    );
-    let c = pointers(t, table_places::automaton_at(t, 0), automata, out, b);
-    put::put(1, out, c)
+    let variables = table_places::variables(t);
+    let automata = table_places::automata(t);
+    let a = numbers(t, merge_append::pointer(variables, automata), out, at);
+    let ranges = table_places::range_at(t, 0);
+    let words = merge_append::pointer(variables, variables);
+    let b = merge_append::copy(t, ranges, words, out, a);
+    let first = table_places::first_automaton(t);
+    let c = pointers(t, first, automata, out, b);
+    merge_append::put(1, out, c)
 }
 
 // The merged sheet's last words: a tree of one leaf.
 pub fn tail(out: &mut [u32; Model::WORDS], at: usize) -> usize
-    requires { ⌜ length (now out) ≡ tableWords ⌝ }
     ensures { λ r. ⌜ Appended (1 ∷ 2 ∷ []) at (now (out .entry)) (now (out .exit)) r ⌝ }
 {
-    let next = put::put(1, out, at);
-    put::put(2, out, next)
+    let next = merge_append::put(1, out, at);
+    merge_append::put(2, out, next)
 }

@@ -1,23 +1,16 @@
-// The merged sheet of Definition 4 of source document 003, from the words of a table to a table: each part of it is appended to the words
-// before it. Every function is total: on words that are no sheet's it appends what its definition says.
-mod clauses;
-mod depth;
-mod edges;
+// The merged sheet of Definition 4 of source document 003, from the words of a table to a table: each part of it is
+// appended to the words before it. Every function is total: on words that are no sheet's it appends what its definition
+// says.
 mod head;
-mod merged_edge;
-mod put;
 mod rows;
 mod sheet;
 mod survey;
 mod sync;
-mod words;
 
 use model::Model;
+use table_places::Layout;
 ghost use mathlib.Core.Path.{_≡_};
-ghost use Prim.Native.Nat.{_+_, _≤_};
-ghost use Rattle.merge_words.specs.MergedEdges.{movesOf};
-ghost use Rattle.merge_words.specs.Sync.{ownSets};
-ghost use Rattle.merge_words.specs.Linearize.{refusedBy, mergedTo, lastAction, sheetTable, linearFor, linearBy};
+ghost use Rattle.merge_words.specs.Linearize.{refusedBy, mergedTo, sheetTable, linearFor, linearIn, linearBy};
 
 // Row 0, the merged sheet's table and its count of edges; or the row that refuses, no edges and an empty table.
 pub struct Linearization {
@@ -36,13 +29,12 @@ pub fn refused(row: u32) -> Linearization
     }
 }
 
-// The merged sheet, with so many edges under the actions from 0 to `last`.
-fn merged(t: &[u32], own: &[u64; 16], edges: usize, last: u32) -> Linearization
-    requires { ⌜ last ≤ 4294967294 ⌝ }
-    ensures { λ r. ⌜ r ≡ mergedTo edges (sheetTable (now (t .entry)) (now (own .entry)) edges last) ⌝ }
+// The merged sheet, with so many edges.
+fn merged(t: &[u32], x: Layout, own: &[u64; 16], edges: usize) -> Linearization
+    ensures { λ r. ⌜ r ≡ mergedTo edges (sheetTable (now (t .entry)) x (now (own .entry)) edges) ⌝ }
 {
     let mut table = [0u32; Model::WORDS];
-    let _end = sheet::sheet(t, own, edges, last, &mut table, 0);
+    let _end = sheet::sheet(t, x, own, edges, &mut table, 0);
     Linearization {
         row: 0,
         edges,
@@ -50,36 +42,34 @@ fn merged(t: &[u32], own: &[u64; 16], edges: usize, last: u32) -> Linearization
     }
 }
 
-// The same unless a row from 31 to 34 refuses.
-fn admitted(t: &[u32], own: &[u64; 16], edges: usize, last: u32) -> Linearization
-    requires { ⌜ last ≤ 4294967294 ⌝ }
-    ensures { λ r. ⌜ r ≡ linearFor (now (t .entry)) (now (own .entry)) edges last ⌝ }
+// The same unless a row from 32 to 34 refuses.
+fn admitted(t: &[u32], x: Layout, own: &[u64; 16], edges: usize) -> Linearization
+    ensures { λ r. ⌜ r ≡ linearFor (now (t .entry)) x (now (own .entry)) edges ⌝ }
 {
-    let row = rows::fault(t, own, edges, last);
+    let row = rows::fault(t, x, own, edges);
     if row == 0 {
-        merged(t, own, edges, last)
+        merged(t, x, own, edges)
     } else {
         refused(row)
     }
 }
 
 // The merged edges counted, and then the rest.
-fn counted(t: &[u32]) -> Linearization
-    ensures { λ r. ⌜ r ≡ linearFor (now (t .entry)) (ownSets (now (t .entry))) (movesOf (now (t .entry)) (ownSets (now (t .entry))) 0 (lastAction (now (t .entry)) + 1) 0) (lastAction (now (t .entry))) ⌝ }
+fn counted(t: &[u32], x: Layout) -> Linearization
+    ensures { λ r. ⌜ r ≡ linearIn (now (t .entry)) x ⌝ }
 {
-    let x = table_places::layout_of(t);
     let own = table_places::own_sets(t, x);
-    let last = rows::last_action(t);
-    let edges = edges::all_moves(t, &own, last);
-    admitted(t, &own, edges, last)
+    let edges = merge_edges::all_moves(t, x, &own);
+    admitted(t, x, &own, edges)
 }
 
 // The linearization over the words of a table, which is not checked.
 pub fn linearize(t: &[u32]) -> Linearization
     ensures { λ r. ⌜ r ≡ linearBy (now (t .entry)) ⌝ }
 {
-    if rows::crowded(t) {
+    let x = table_places::layout_of(t);
+    if rows::crowded(x) {
         return refused(31);
     }
-    counted(t)
+    counted(t, x)
 }

@@ -1,46 +1,25 @@
 // Rows 31 to 34: is there a merged sheet?
 use crate::survey::{self};
-use crate::words::{self};
 use model::Model;
+use table_places::Layout;
 ghost use mathlib.Core.Path.{_≡_};
-ghost use Prim.Native.Nat.{_≤_};
-ghost use Rattle.table_places.specs.AtMost.{atMost};
-ghost use Rattle.merge_words.specs.Linearize.{lastAction, isCrowded, faultBy};
-
-fn at_most(actions: u32) -> u32
-    ensures { λ r. ⌜ (r ≡ atMost 63 actions) × (r ≤ 63) ⌝ }
-{
-    if actions <= Model::ACTIONS {
-        actions
-    } else {
-        Model::ACTIONS
-    }
-}
-
-// A, as far as a sheet can have actions.
-pub fn last_action(t: &[u32]) -> u32
-    ensures { λ r. ⌜ (r ≡ lastAction (now (t .entry))) × (r ≤ 63) ⌝ }
-{
-    at_most(table_places::word32(t, 1))
-}
+ghost use Rattle.merge_words.specs.Linearize.{isCrowded, faultBy};
 
 // Row 31: has the merged sheet too many variables?
-pub fn crowded(t: &[u32]) -> bool
-    ensures { λ r. ⌜ r ≡ isCrowded (now (t .entry)) ⌝ }
+pub fn crowded(x: Layout) -> bool
+    ensures { λ r. ⌜ r ≡ isCrowded x ⌝ }
 {
-    let automata = table_places::word(t, table_places::count_at(t));
-    Model::VARIABLES < words::pointer(table_places::word(t, 2), automata)
+    Model::VARIABLES < merge_append::pointer(x.variables, x.automata)
 }
 
-// The first of rows 32 to 34 that refuses, or 0; `edges` is the count of merged edges under the actions from 0 to `last`.
-pub fn fault(t: &[u32], own: &[u64; 16], edges: usize, last: u32) -> u32
-    requires { ⌜ last ≤ 4294967294 ⌝ }
-    ensures { λ r. ⌜ r ≡ faultBy (now (t .entry)) (now (own .entry)) edges last ⌝ }
+// The first of rows 32 to 34 that refuses, or 0; `edges` is the count of merged edges.
+pub fn fault(t: &[u32], x: Layout, own: &[u64; 16], edges: usize) -> u32
+    ensures { λ r. ⌜ r ≡ faultBy (now (t .entry)) x (now (own .entry)) edges ⌝ }
 {
     if Model::EDGES < edges {
         return 32;
     }
-    let seen = survey::whole(t, own, last);
+    let seen = survey::whole(t, x, own);
     if seen.deep {
         return 33;
     }

@@ -1,15 +1,8 @@
 // What rows 33 and 34 ask of the merged predicates: is one too deep, and how many nodes they have.
-use crate::clauses::{self};
-use crate::depth::{self};
-use crate::edges::{self};
-use crate::merged_edge::{self};
-use crate::words::{self};
 use table_places::Layout;
 ghost use mathlib.Core.Path.{_≡_};
-ghost use Prim.Native.Nat.{_+_, _≤_};
-ghost use Rattle.table_places.specs.Layout.{layoutOf};
-ghost use Rattle.merge_words.specs.MergedEdges.{placesOf};
-ghost use Rattle.merge_words.specs.Survey.{withEdge, surveyFrom, surveyUnder, surveyOf, surveyStart, surveyWhole};
+ghost use Rattle.merge_edges.specs.Moves.{placesOf};
+ghost use Rattle.merge_words.specs.Survey.{withEdge, surveyFrom, surveyUnder, surveyIn, surveyStart, surveyWhole};
 
 pub struct Survey {
     pub deep: bool,
@@ -18,15 +11,14 @@ pub struct Survey {
 
 // Move k of the planned action, taken in.
 fn with_edge(t: &[u32], x: Layout, action: usize, cells: &[u32; 192], k: u32, s: Survey) -> Survey
-    requires { ⌜ x ≡ layoutOf (now t) ⌝ }
-    ensures { λ r. ⌜ r ≡ withEdge (now (t .entry)) (placesOf (now (t .entry)) (now (cells .entry)) action k) s ⌝ }
+    ensures { λ r. ⌜ r ≡ withEdge (now (t .entry)) (placesOf (now (t .entry)) x (now (cells .entry)) action k) s ⌝ }
 {
-    let places = edges::places_of(t, x, action, cells, k);
-    let deep = depth::updates_deep(t, &places);
-    let nodes = merged_edge::takers_nodes(t, &places);
+    let places = merge_edges::places_of(t, x, action, cells, k);
+    let deep = merge_edges::updates_deep(t, places);
+    let nodes = merge_edges::takers_nodes(t, places);
     Survey {
         deep: s.deep | deep,
-        nodes: words::add(s.nodes, nodes),
+        nodes: merge_append::add(s.nodes, nodes),
     }
 }
 
@@ -39,8 +31,7 @@ fn with_edges(
     count: u32,
     s: Survey,
 ) -> Survey
-    requires { ⌜ x ≡ layoutOf (now t) ⌝ }
-    ensures { λ r. ⌜ r ≡ surveyFrom (now (t .entry)) (now (cells .entry)) action 0 count s ⌝ }
+    ensures { λ r. ⌜ r ≡ surveyFrom (now (t .entry)) x (now (cells .entry)) action 0 count s ⌝ }
 {
     let mut k = 0;
     let mut sofar = s;
@@ -53,20 +44,18 @@ fn with_edges(
 
 // The edges of an action.
 fn action_survey(t: &[u32], x: Layout, own: &[u64; 16], action: u32, s: Survey) -> Survey
-    requires { ⌜ x ≡ layoutOf (now t) ⌝ }
-    ensures { λ r. ⌜ r ≡ surveyUnder (now (t .entry)) (now (own .entry)) action s ⌝ }
+    ensures { λ r. ⌜ r ≡ surveyUnder (now (t .entry)) x (now (own .entry)) action s ⌝ }
 {
-    let mut cells = [0u32; 192];
-    let count = edges::plan(t, x, own, action, &mut cells);
-    with_edges(t, x, arithmetic::index(action), &cells, count, s)
+    let p = merge_edges::plan(t, x, own, action);
+    let cells = p.cells;
+    with_edges(t, x, arithmetic::index(action), &cells, p.count, s)
 }
 
-// The edges of the actions from 0 to `last`.
-pub fn all_survey(t: &[u32], own: &[u64; 16], last: u32, s: Survey) -> Survey
-    requires { ⌜ last ≤ 4294967294 ⌝ }
-    ensures { λ r. ⌜ r ≡ surveyOf (now (t .entry)) (now (own .entry)) 0 (last + 1) s ⌝ }
+// The edges of all actions.
+fn all_survey(t: &[u32], x: Layout, own: &[u64; 16], s: Survey) -> Survey
+    ensures { λ r. ⌜ r ≡ surveyIn (now (t .entry)) x (now (own .entry)) s ⌝ }
 {
-    let x = table_places::layout_of(t);
+    let last = merge_edges::last_action(x);
     let mut action = 0;
     let mut sofar = s;
     while action <= last {
@@ -80,20 +69,19 @@ pub fn all_survey(t: &[u32], own: &[u64; 16], last: u32, s: Survey) -> Survey
 fn start(t: &[u32]) -> Survey
     ensures { λ r. ⌜ r ≡ surveyStart (now (t .entry)) ⌝ }
 {
-    let init_deep = depth::merged_deep(t, false);
-    let inv_deep = depth::merged_deep(t, true);
-    let init = clauses::merged_nodes(t, false);
-    let inv = clauses::merged_nodes(t, true);
+    let init_deep = merge_predicates::merged_deep(t, false);
+    let inv_deep = merge_predicates::merged_deep(t, true);
+    let init = merge_predicates::merged_nodes(t, false);
+    let inv = merge_predicates::merged_nodes(t, true);
     Survey {
         deep: init_deep | inv_deep,
-        nodes: words::add(init, inv),
+        nodes: merge_append::add(init, inv),
     }
 }
 
-// All merged predicates, with the edges of the actions from 0 to `last`.
-pub fn whole(t: &[u32], own: &[u64; 16], last: u32) -> Survey
-    requires { ⌜ last ≤ 4294967294 ⌝ }
-    ensures { λ r. ⌜ r ≡ surveyWhole (now (t .entry)) (now (own .entry)) last ⌝ }
+// All merged predicates.
+pub fn whole(t: &[u32], x: Layout, own: &[u64; 16]) -> Survey
+    ensures { λ r. ⌜ r ≡ surveyWhole (now (t .entry)) x (now (own .entry)) ⌝ }
 {
-    all_survey(t, own, last, start(t))
+    all_survey(t, x, own, start(t))
 }

@@ -51,7 +51,7 @@ put-same at ws words = go (leb at tableWords) refl
         ap (λ (p : ℕ). put p ws words) z
     go false e = let l = leb-false at tableWords e in put-full at 0 ws words (omega arith) ∙ put-past ws at words (omega arith)
 
-put-yes : (at w : ℕ) (ws words : List ℕ) → ltb at tableWords ≡ true → put at (w ∷ ws) words ≡ put (at + 1) ws (set words at w)
+pub put-yes : (at w : ℕ) (ws words : List ℕ) → ltb at tableWords ≡ true → put at (w ∷ ws) words ≡ put (at + 1) ws (set words at w)
 unfolding put
 put-yes at w ws words e = rw (e, put)
 

@@ -1,2 +1,3 @@
 pub mod AppendLaws
 pub mod Joined
+pub mod Stored

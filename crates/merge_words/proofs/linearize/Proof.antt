@@ -4,6 +4,9 @@ use borrow.Author.Needs.{needs}
 use Rattle.merge_words.proofs.linearize.Statement.{statement}
 use Rattle.merge_words.proofs.linearize.Tie as tie
 
+layout-of-requires : tie.Need-layout-of-requires
+layout-of-requires c κs = search needs
+
 crowded-requires : tie.Need-crowded-requires
 crowded-requires c κs = search needs
 
@@ -21,4 +24,4 @@ returns-2 c = search (needs, linearize-laws)
 
 pub linearize-spec : {M : Type 1} → statement M
 linearize-spec =
-    tie.close (tie.spec crowded-requires refused-requires returns counted-requires returns-2)
+    tie.close (tie.spec layout-of-requires crowded-requires refused-requires returns counted-requires returns-2)

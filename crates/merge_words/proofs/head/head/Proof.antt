@@ -4,14 +4,11 @@ use borrow.Author.Needs.{needs}
 use Rattle.merge_words.proofs.head.head.Statement.{statement}
 use Rattle.merge_words.proofs.head.head.Tie as tie
 
-word-requires : tie.Need-word-requires
-word-requires c κs = search needs
+variables-requires : tie.Need-variables-requires
+variables-requires c κs = search needs
 
-count-at-requires : tie.Need-count-at-requires
-count-at-requires c κs = search needs
-
-word-requires-2 : tie.Need-word-requires-2
-word-requires-2 c κs = search needs
+automata-requires : tie.Need-automata-requires
+automata-requires c κs = search needs
 
 pointer-requires : tie.Need-pointer-requires
 pointer-requires c κs = search needs
@@ -19,8 +16,8 @@ pointer-requires c κs = search needs
 numbers-requires : tie.Need-numbers-requires
 numbers-requires c κs = search needs
 
-step-requires : tie.Need-step-requires
-step-requires c κs = search needs
+range-at-requires : tie.Need-range-at-requires
+range-at-requires c κs = search needs
 
 pointer-requires-2 : tie.Need-pointer-requires-2
 pointer-requires-2 c κs = search needs
@@ -28,8 +25,8 @@ pointer-requires-2 c κs = search needs
 copy-requires : tie.Need-copy-requires
 copy-requires c κs = search needs
 
-automaton-at-requires : tie.Need-automaton-at-requires
-automaton-at-requires c κs = search needs
+first-automaton-requires : tie.Need-first-automaton-requires
+first-automaton-requires c κs = search needs
 
 pointers-requires : tie.Need-pointers-requires
 pointers-requires c κs = search needs
@@ -44,15 +41,14 @@ pub head-spec : {M : Type 1} → statement M
 head-spec =
     tie.close
     (tie.spec
-    word-requires
-    count-at-requires
-    word-requires-2
+    variables-requires
+    automata-requires
     pointer-requires
     numbers-requires
-    step-requires
+    range-at-requires
     pointer-requires-2
     copy-requires
-    automaton-at-requires
+    first-automaton-requires
     pointers-requires
     put-requires
     returns)

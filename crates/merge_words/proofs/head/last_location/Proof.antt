@@ -4,11 +4,8 @@ use borrow.Author.Needs.{needs}
 use Rattle.merge_words.proofs.head.last_location.Statement.{statement}
 use Rattle.merge_words.proofs.head.last_location.Tie as tie
 
-step-requires : tie.Need-step-requires
-step-requires c κs = search needs
-
-word-requires : tie.Need-word-requires
-word-requires c κs = search needs
+location-count-requires : tie.Need-location-count-requires
+location-count-requires c κs = search needs
 
 returns : tie.Need-returns
 returns c = search (needs, last-laws)
@@ -20,4 +17,4 @@ returns-2 : tie.Need-returns-2
 returns-2 c = search (needs, last-laws)
 
 pub last-location-spec : {M : Type 1} → statement M
-last-location-spec = tie.close (tie.spec step-requires word-requires returns sub-result returns-2)
+last-location-spec = tie.close (tie.spec location-count-requires returns sub-result returns-2)

@@ -1,6 +1,6 @@
 -- `merge_words::head::pointers` meets its contract: what is done and what is left make up the whole. The measure is the automata left.
 use Rattle.merge_words.proofs.HeadLaws.{pointers-laws}
-use Rattle.merge_words.proofs.AppendLaws.{Underway}
+use Rattle.merge_append.proofs.AppendLaws.{Underway}
 use Rattle.merge_words.specs.Head.{pointerRanges}
 use borrow.Author.Needs.{needs}
 use Rattle.merge_words.proofs.head.pointers.Statement.{statement}

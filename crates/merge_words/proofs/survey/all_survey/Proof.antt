@@ -2,20 +2,19 @@
 use Rattle.merge_words.proofs.SurveyLaws.{all-survey-laws}
 use mathlib.Core.Path.{_≡_}
 use Prim.Native.Nat.{_+_, _-_, _≤_}
-use Rattle.merge_words.specs.Survey.{surveyOf}
-use Rattle.table_places.specs.Layout.{layoutOf}
+use Rattle.merge_words.specs.Survey.{surveyOf, surveyIn}
 use borrow.Author.Needs.{needs}
 use Rattle.merge_words.proofs.survey.all_survey.Statement.{statement}
 use Rattle.merge_words.proofs.survey.all_survey.Tie as tie
 
 abbrev Inv-loop : tie.InvT-loop
-Inv-loop t own last x action₀ sofar₀ action sofar = (x ≡ layoutOf t) × (action ≤ last + 1) × (surveyOf t own action (last + 1 - action) sofar ≡ surveyOf t own 0 (last + 1) sofar₀)
+Inv-loop t x own last action₀ sofar₀ action sofar = (last ≤ 63) × (action ≤ last + 1) × (surveyOf t x own action (last + 1 - action) sofar ≡ surveyIn t x own sofar₀)
 
 abbrev μ-loop : tie.MeasureT-loop
-μ-loop t own last x action₀ sofar₀ action sofar = last + 1 - action
+μ-loop t x own last action₀ sofar₀ action sofar = last + 1 - action
 
-layout-of-requires : tie.Need-layout-of-requires Inv-loop μ-loop
-layout-of-requires c κs = search needs
+last-action-requires : tie.Need-last-action-requires Inv-loop μ-loop
+last-action-requires c κs = search needs
 
 loop-holds : tie.Need-loop-holds Inv-loop μ-loop
 loop-holds c = search (needs, all-survey-laws)
@@ -41,7 +40,7 @@ all-survey-spec =
     (tie.spec
     Inv-loop
     μ-loop
-    layout-of-requires
+    last-action-requires
     loop-holds
     action-survey-requires
     add-action

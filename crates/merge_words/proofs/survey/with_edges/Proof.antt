@@ -8,7 +8,7 @@ use Rattle.merge_words.proofs.survey.with_edges.Statement.{statement}
 use Rattle.merge_words.proofs.survey.with_edges.Tie as tie
 
 abbrev Inv-loop : tie.InvT-loop
-Inv-loop t x action cells count k₀ sofar₀ k sofar = (k ≤ count) × (surveyFrom t cells action k (count - k) sofar ≡ surveyFrom t cells action 0 count sofar₀)
+Inv-loop t x action cells count k₀ sofar₀ k sofar = (k ≤ count) × (surveyFrom t x cells action k (count - k) sofar ≡ surveyFrom t x cells action 0 count sofar₀)
 
 abbrev μ-loop : tie.MeasureT-loop
 μ-loop t x action cells count k₀ sofar₀ k sofar = count - k

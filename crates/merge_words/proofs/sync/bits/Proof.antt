@@ -8,10 +8,10 @@ use Rattle.merge_words.proofs.sync.bits.Statement.{statement}
 use Rattle.merge_words.proofs.sync.bits.Tie as tie
 
 abbrev Inv-loop : tie.InvT-loop
-Inv-loop t own from left₀ word₀ left word = (left ≤ 32) × (bitsFrom (isShared t own) from left word ≡ bitsFrom (isShared t own) from 32 0)
+Inv-loop t x own from left₀ word₀ left word = (left ≤ 32) × (bitsFrom (isShared t x own) from left word ≡ bitsFrom (isShared t x own) from 32 0)
 
 abbrev μ-loop : tie.MeasureT-loop
-μ-loop t own from left₀ word₀ left word = left
+μ-loop t x own from left₀ word₀ left word = left
 
 loop-holds : tie.Need-loop-holds Inv-loop μ-loop
 loop-holds c = search (needs, bits-laws)

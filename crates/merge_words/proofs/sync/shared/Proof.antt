@@ -4,21 +4,18 @@ use borrow.Author.Needs.{needs}
 use Rattle.merge_words.proofs.sync.shared.Statement.{statement}
 use Rattle.merge_words.proofs.sync.shared.Tie as tie
 
-tree-at-requires : tie.Need-tree-at-requires
-tree-at-requires c κs = search needs
-
-step-requires : tie.Need-step-requires
-step-requires c κs = search needs
+nodes-at-requires : tie.Need-nodes-at-requires
+nodes-at-requires c κs = search needs
 
 in-set-requires : tie.Need-in-set-requires
 in-set-requires c κs = search needs
 
-word32-requires : tie.Need-word32-requires
-word32-requires c κs = search needs
+index-requires : tie.Need-index-requires
+index-requires c κs = search needs
 
 returns : tie.Need-returns
 returns c = search (needs, shared-is)
 
 pub shared-spec : {M : Type 1} → statement M
 shared-spec =
-    tie.close (tie.spec tree-at-requires step-requires in-set-requires word32-requires returns)
+    tie.close (tie.spec nodes-at-requires in-set-requires index-requires returns)

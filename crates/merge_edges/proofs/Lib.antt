@@ -1,0 +1,4 @@
+pub mod TakingLaws
+pub mod EdgeLaws
+pub mod MovesLaws
+pub mod EdgesLaws

@@ -1,0 +1,4 @@
+pub mod Taking
+pub mod Edge
+pub mod Moves
+pub mod Edges
