@@ -1,5 +1,6 @@
 // Can some automata take the action so that the step is theirs? And is the action marked?
 use judge_rows::State;
+use judge_search::Step;
 use table_places::Layout;
 ghost use mathlib.Core.Path.{_≡_};
 ghost use Rattle.judge_call.specs.Taken.{takenIn, takenAt, markAt};
@@ -33,16 +34,13 @@ fn found(
     );
     let still = judge_candidates::still(old, new);
     let changed = judge_candidates::changed(before, after);
-    judge_search::found(
-        words,
-        table_places::nodes_at(words, x.tree),
-        own,
+    let step = Step {
         action,
-        &masks,
-        &first,
         still,
         changed,
-    )
+    };
+    let tree = table_places::nodes_at(words, x.tree);
+    judge_search::found(words, tree, own, &masks, &first, step)
 }
 
 // `own` is the automata's own sets.

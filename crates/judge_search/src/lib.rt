@@ -2,31 +2,23 @@
 // is told in specs/Found.antt.
 mod duties;
 
-use crate::duties::Step;
+pub use duties::Step;
 ghost use mathlib.Core.Path.{_≡_};
 ghost use Rattle.judge_search.specs.Found.{foundIn};
 
 // Can the tree's automata take the action so that every changed variable is mentioned? The tree's nodes stand from `at`
-// on; `sets` has the automata's own synchronising sets; automaton k's candidates are `masks[first[k] .. first[k + 1]]`,
-// and bit k of `still` says that it keeps its location.
+// on; `sets` has the automata's own synchronising sets; automaton k's candidates are `masks[first[k] .. first[k + 1]]`.
 pub fn found(
     words: &[u32],
     at: usize,
     sets: &[u64],
-    action: u32,
     masks: &[u64],
     first: &[usize],
-    still: u32,
-    changed: u64,
+    step: Step,
 ) -> bool
-    ensures { λ r. ⌜ r ≡ foundIn (now (words .entry)) at (now (sets .entry)) action (now (masks .entry))
-        (now (first .entry)) still changed ⌝ }
+    ensures { λ r. ⌜ r ≡ foundIn (now (words .entry)) at (now (sets .entry)) (step .action) (now (masks .entry))
+        (now (first .entry)) (step .still) (step .changed) ⌝ }
 {
-    let step = Step {
-        action,
-        still,
-        changed,
-    };
     let nodes = model::Tree::NODES;
     duties::seek(words, sets, masks, first, step, at, nodes, 3, 0)
 }
