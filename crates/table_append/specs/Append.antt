@@ -1,5 +1,5 @@
--- A table that is being filled: its words so far, in a buffer of a table's length. Words that find no room are left out; of a sheet
--- within the limits all find room (words-fit), so nothing here needs a bound.
+-- A table that is being filled: its words so far, in a buffer of a table's length. Words that find no room are left
+-- out; of a sheet within the limits all find room (words-fit), so nothing here needs a bound.
 use Prim.Native.Nat.{ℕ, _+_}
 use mathlib.Core.Bool.{true, false}
 use mathlib.Core.List.{List, [], _∷_}

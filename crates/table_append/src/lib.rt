@@ -26,7 +26,8 @@ pub fn append_two(words: &mut [u32; Model::WORDS], at: usize, first: u32, second
 
 // The first n words of `from`, or all that it has.
 pub fn append(words: &mut [u32; Model::WORDS], at: usize, from: &[u32], n: usize) -> usize
-    ensures { λ r. ⌜ (r ≡ nextPlace at (length (take n (now (from .entry))))) × (now (words .exit) ≡ put at (take n (now (from .entry))) (now (words .entry))) ⌝ }
+    ensures { λ r. ⌜ (r ≡ nextPlace at (length (take n (now (from .entry)))))
+        × (now (words .exit) ≡ put at (take n (now (from .entry))) (now (words .entry))) ⌝ }
 {
     if Model::WORDS <= at {
         return Model::WORDS;
