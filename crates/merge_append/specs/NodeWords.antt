@@ -1,5 +1,5 @@
--- The words of the nodes that the merged predicates have of their own, and sums that stay within a word. A number that is no
--- sheet's is cut to 32 bits.
+-- The words of the nodes that the merged predicates have of their own, and sums that stay within a word. A number that
+-- is no sheet's is cut to 32 bits.
 use mathlib.Core.Bool.{true, false}
 use Prim.Native.Nat.{ℕ, _+_}
 use lib.Dec.{leb}

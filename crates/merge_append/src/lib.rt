@@ -1,4 +1,5 @@
-// Words at the end of the merged sheet's table: words of the model's table, and the nodes that merged predicates have of their own.
+// Words at the end of the merged sheet's table: words of the model's table, and the nodes that merged predicates have
+// of their own.
 mod append;
 mod words;
 

@@ -3,7 +3,8 @@ use crate::append::{self};
 use node_words::Node;
 ghost use mathlib.Core.Path.{_≡_};
 ghost use Prim.Native.Nat.{_+_};
-ghost use Rattle.merge_append.specs.NodeWords.{upward, impNode, eqNode, allNode, numberNode, oldNode, newNode, pointerOf, capped};
+ghost use Rattle.merge_append.specs.NodeWords.{upward, impNode, eqNode, allNode, numberNode, oldNode, newNode};
+ghost use Rattle.merge_append.specs.NodeWords.{pointerOf, capped};
 ghost use Rattle.node_words.specs.Nodes.{wordFor};
 
 // A number from 0 up, with the bias.

@@ -1,4 +1,5 @@
--- The moves of an action: how many there are, and which edges each has. A layout says where the automata's edges and the tree stand.
+-- The moves of an action: how many there are, and which edges each has. A layout says where the automata's edges and
+-- the tree stand.
 use mathlib.Core.Bool.{Bool, true, false}
 use mathlib.Core.List.{List, [], _∷_}
 use Prim.Native.Nat.{ℕ, zero, suc, _+_}

@@ -18,7 +18,7 @@ isUnder t action at = eqb (edgeAction t at) action
 unfoldable pub still : (here : Bool) (j : ℕ) → ℕ
 still here j = elim (here && not (eqb j 0)) [ true ↦ j - 1 | false ↦ j ]
 
--- where edge j under an action stands, among n edges of which the first stands at a place; the end, if there are no more
+-- where edge j under an action stands, among n edges of which the first stands at a place; the end, if there is none
 unfoldable pub edgeUnder : (t : List ℕ) (action j n at : ℕ) → ℕ
 edgeUnder t action j zero at = length t
 edgeUnder t action j (suc n) at =

@@ -18,7 +18,8 @@ fn edge(
     out: &mut [u32; Model::WORDS],
     at: usize,
 ) -> usize
-    ensures { λ r. ⌜ Appended (edgeWordsAt (now (t .entry)) x action (picksOf (now (t .entry)) x (now (cells .entry)) k))
+    ensures { λ r. ⌜ Appended
+        (edgeWordsAt (now (t .entry)) x action (picksOf (now (t .entry)) x (now (cells .entry)) k))
         at (now (out .entry)) (now (out .exit)) r ⌝ }
 {
     let places = moves::places_of(t, x, action, cells, k);

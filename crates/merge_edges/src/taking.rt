@@ -1,4 +1,5 @@
-// Which edges a merged edge has, from what each automaton takes: none by 0, and edge j among its edges under the action by 1 + j.
+// Which edges a merged edge has, from what each automaton takes: none by 0, and edge j among its edges under the
+// action by 1 + j.
 use table_places::Layout;
 ghost use mathlib.Core.Path.{_≡_};
 ghost use Rattle.merge_edges.specs.Taking.{isUnder, still, edgeUnder, takenAt, takers};
@@ -17,7 +18,8 @@ fn still(here: bool, skip: usize) -> usize
     if here & (skip != 0) { skip - 1 } else { skip }
 }
 
-// Where edge j under the action stands, among `count` edges of which the first stands at `first`; the end, if there is none.
+// Where edge j under the action stands, among `count` edges of which the first stands at `first`; the end, if there is
+// none.
 fn find(t: &[u32], action: usize, j: usize, count: usize, first: usize) -> usize
     ensures { λ r. ⌜ r ≡ edgeUnder (now (t .entry)) action j count first ⌝ }
 {

@@ -5,7 +5,7 @@ use mathlib.Core.List.{List}
 use Prim.Native.Nat.{ℕ, zero, suc, _-_, _≤_, _<_}
 use native.Mathlib.Numerals.{sub-one}
 use native.Mathlib.Omega.{arith}
-use lib.ListN.{length, getD, set, List·getD-eq-default}
+use lib.ListN.{length, getD, set}
 use borrow.Author.Tests.{lt-ltb, le-ltb}
 use Rattle.model.specs.Basic.{member}
 use Rattle.model.specs.Moves.{sidesCount}
@@ -17,9 +17,6 @@ use Rattle.table_tree.proofs.Falling.{walk-is}
 use Rattle.merge_moves.specs.declared.planning.Planned.{Planned}
 use Rattle.merge_moves.specs.Capping.{capped, cellOf}
 use Rattle.merge_moves.specs.Plan.{planned, parPlan, synPlan, leafPlan, planBy, planStep, planWithin, planAt, stored, fillBy, fillStep, fillWithin, fillAt}
-
-pub under-past : (under : List ℕ) (k : ℕ) → length under ≤ k → 0 ≡ getD under k 0
-under-past under k h = sym (List·getD-eq-default under 0 h)
 
 -- `parPlan`, `synPlan` and `leafPlan`
 pub par-plan-is : (c d : Planned) (x : ℕ) → x ≡ capped (sidesCount (c .inside) (d .inside) (capped (c .count)) (capped (d .count))) → planned (c .inside || d .inside) x (d .next) (d .left) ≡ parPlan c d

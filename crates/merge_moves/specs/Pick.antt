@@ -56,7 +56,8 @@ cellAt cells root at = elim (ltb (at - root) maxCells) [ true ↦ getD cells (at
 
 unfoldable pub pickBy : (P : Picker) (words cells : List ℕ) (root k : ℕ) → Found → (left : ℕ) → List ℕ → Picked
 pickBy P words cells root k (Par next) left edges =
-    pickSides P next (endOf words next) (divided (cellAt cells root next) (cellAt cells root (endOf words next)) k) left edges
+    pickSides P next (endOf words next)
+    (divided (cellAt cells root next) (cellAt cells root (endOf words next)) k) left edges
 pickBy P words cells root k (Syn a b next) left edges = P left next k edges
 pickBy P words cells root k (Leaf i next) left edges = picked (named i k edges) left
 pickBy P words cells root k Stray left edges = picked edges left

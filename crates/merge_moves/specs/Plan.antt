@@ -1,5 +1,5 @@
--- The plan of an action, from the words of a tree. On a lawful tree's words it has each subtree's membership and its count of moves,
--- capped: the laws plan-is and fill-is.
+-- The plan of an action, from the words of a tree. On a lawful tree's words it has each subtree's membership and its
+-- count of moves, capped: the laws plan-is and fill-is.
 use mathlib.Core.Path.{_≡_}
 use mathlib.Core.Bool.{Bool, true, false, _||_}
 use mathlib.Core.List.{List}
@@ -59,10 +59,15 @@ module _ (words sets under : List ℕ) (action : ℕ) where
 
 -- a node has its cell filled, at its word's place counted from the root's
 unfoldable pub stored : (root at : ℕ) → Planned → List ℕ → List ℕ
-stored root at p cells = elim (ltb (at - root) maxCells) [ true ↦ set cells (at - root) (cellOf (p .inside) (p .count)) | false ↦ cells ]
+stored root at p cells =
+    elim (ltb (at - root) maxCells) [
+      | true ↦ set cells (at - root) (cellOf (p .inside) (p .count))
+      | false ↦ cells
+    ]
 
 -- the cells after those below a node are filled, where P plans the subtree at a place, and F fills its cells
-unfoldable pub fillBy : (P : (left at : ℕ) → Planned) (F : (left at : ℕ) → List ℕ → List ℕ) (left : ℕ) → Found → List ℕ → List ℕ
+unfoldable pub fillBy : (P : (left at : ℕ) → Planned) (F : (left at : ℕ) → List ℕ → List ℕ) (left : ℕ)
+    → Found → List ℕ → List ℕ
 fillBy P F left (Par next) cells = let c = P left next in F (c .left) (c .next) (F left next cells)
 fillBy P F left (Syn a b next) cells = F left next cells
 fillBy P F left (Leaf k next) cells = cells
@@ -73,7 +78,8 @@ module _ (words sets under : List ℕ) (action root : ℕ) where
   unfoldable pub fillStep : (F : (left at : ℕ) → List ℕ → List ℕ) → (left at : ℕ) → List ℕ → List ℕ
   fillStep F zero at cells = cells
   fillStep F (suc n) at cells =
-      stored root at (planAt words sets under action (suc n) at) (fillBy (planAt words sets under action) F n (nodeAt words at) cells)
+      stored root at (planAt words sets under action (suc n) at)
+      (fillBy (planAt words sets under action) F n (nodeAt words at) cells)
 
   unfoldable pub fillWithin : (deep left at : ℕ) → List ℕ → List ℕ
   fillWithin zero left at cells = cells
@@ -83,6 +89,7 @@ module _ (words sets under : List ℕ) (action root : ℕ) where
   fillAt left at cells = fillWithin left left at cells
 
 -- the answer, and the cells after it
-pub record PlansTree (words sets under : List ℕ) (action root left at : ℕ) (before after : List ℕ) (p : Planned) : Type 0 where
+pub record PlansTree (words sets under : List ℕ) (action root left at : ℕ) (before after : List ℕ) (p : Planned)
+    : Type 0 where
   pub answer : p ≡ planAt words sets under action left at
   pub cells : after ≡ fillAt words sets under action root left at before

@@ -10,7 +10,8 @@ pub fn capped(x: u32) -> u32
     if x <= 512 { x } else { 513 }
 }
 
-// How many moves a `par` has, from whether the action is in its sides' sets and their counts. Capped factors have a product that fits.
+// How many moves a `par` has, from whether the action is in its sides' sets and their counts. Capped factors have a
+// product that fits.
 pub fn sides_count(b: bool, e: bool, left: u32, right: u32) -> u32
     ensures { λ r. ⌜ r ≡ capped (sidesCount b e (capped left) (capped right)) ⌝ }
 {

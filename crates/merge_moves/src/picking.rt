@@ -80,7 +80,8 @@ fn pick_at(
     k: u32,
     edges: &mut [u32; 16],
 ) -> usize
-    ensures { λ r. ⌜ picked (now (edges .exit)) r ≡ pickedAt (now (words .entry)) (now (cells .entry)) root left at k (now (edges .entry)) ⌝ }
+    ensures { λ r. ⌜ picked (now (edges .exit)) r
+        ≡ pickedAt (now (words .entry)) (now (cells .entry)) root left at k (now (edges .entry)) ⌝ }
 {
     if left == 0 {
         return left;
@@ -110,7 +111,8 @@ fn pick_at(
     }
 }
 
-// For each automaton 1 + the number, among its edges under the action, of the edge that it takes in move k; 0 if it takes none.
+// For each automaton 1 + the number, among its edges under the action, of the edge that it takes in move k; 0 if it
+// takes none.
 pub fn pick(words: &[u32], at: usize, cells: &[u32; 192], k: u32) -> [u32; 16]
     ensures { λ r. ⌜ r ≡ pickAt (now (words .entry)) (now (cells .entry)) at maxTreeNodes at k (replicate 16 0) ⌝ }
 {

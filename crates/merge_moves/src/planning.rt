@@ -108,7 +108,8 @@ fn plan_at(
     action: u32,
     cells: &mut [u32; 192],
 ) -> Planned
-    ensures { λ r. ⌜ PlansTree (now (words .entry)) (now (sets .entry)) (now (under .entry)) action root left at (now (cells .entry)) (now (cells .exit)) r ⌝ }
+    ensures { λ r. ⌜ PlansTree (now (words .entry)) (now (sets .entry)) (now (under .entry)) action root left at
+        (now (cells .entry)) (now (cells .exit)) r ⌝ }
 {
     if left == 0 {
         return no_plan(at, left);
@@ -146,7 +147,8 @@ pub fn plan(
     action: u32,
     cells: &mut [u32; 192],
 ) -> Planned
-    ensures { λ r. ⌜ PlansTree (now (words .entry)) (now (sets .entry)) (now (under .entry)) action at maxTreeNodes at (now (cells .entry)) (now (cells .exit)) r ⌝ }
+    ensures { λ r. ⌜ PlansTree (now (words .entry)) (now (sets .entry)) (now (under .entry)) action at maxTreeNodes at
+        (now (cells .entry)) (now (cells .exit)) r ⌝ }
 {
     plan_at(
         words,

@@ -1,4 +1,5 @@
--- How deep the nodes nest that stand from a place on. On the words of a predicate it is the predicate's depth: the law depth-of.
+-- How deep the nodes nest that stand from a place on. On the words of a predicate it is the predicate's depth: the law
+-- depth-of.
 use mathlib.Core.Bool.{Bool, true, false, _||_}
 use mathlib.Core.List.{List}
 use Prim.Native.Nat.{ℕ, zero, suc, _+_, max}

@@ -16,10 +16,11 @@ use Rattle.model.specs.Limits.{rises}
 use Rattle.model.specs.Model.{Model, automaton, inSet}
 use Rattle.model.specs.Lawful.{Lawful}
 use Rattle.model.specs.Table.{lowBits, highBits, setWords, bit, setOf, lineWords, sheetWords}
-use Rattle.model.proofs.Lists.{keep-append, keep-first, keep-skip, keep-same}
+use Rattle.model.proofs.Lists.{keep-append, keep-first, keep-skip}
 use Rattle.model.proofs.Numbered.{numbered, size-is, leaves-in}
 use Rattle.table_tree.specs.Nodes.{treeWords}
 use Rattle.table_tree.specs.Members.{inSetAt}
+use Rattle.table_tree.proofs.SetLaws.{keep-alike, count-more, low-joined, high-joined}
 use Rattle.table_tree.proofs.Inside.{list-back, in-set-of}
 use Rattle.table_places.specs.Outline.{nodesPlace}
 use Rattle.table_places.specs.Layout.{layoutOf}
@@ -105,16 +106,6 @@ count-split s (suc a) b =
     let g : s + suc a ≡ suc s + a = omega arith in
     rw (e, g) (ap (λ (l : List ℕ). s ∷ l) (count-split (suc s) a b))
 
-count-last : (s n : ℕ) → countUp s (suc n) ≡ countUp s n ++ (s + n) ∷ []
-unfolding countUp
-count-last s n = let e : suc n ≡ n + 1 = omega arith in ap (countUp s) e ∙ count-split s n 1
-
-keep-alike : (f g : ℕ → Bool) (n c : ℕ) → ((k : ℕ) → n ≤ k → k < n + c → f k ≡ g k) → keep f (countUp n c) ≡ keep g (countUp n c)
-unfolding countUp keep
-keep-alike f g n zero h = refl
-keep-alike f g n (suc c) h =
-    keep-same f g n (countUp (suc n) c) (h n (omega arith) (omega arith)) (keep-alike f g (suc n) c (λ k a b. h k (omega arith) (omega arith)))
-
 keep-nothing : (f : ℕ → Bool) (n c : ℕ) → ((k : ℕ) → n ≤ k → f k ≡ false) → keep f (countUp n c) ≡ []
 unfolding countUp keep
 keep-nothing f n zero h = refl
@@ -126,7 +117,7 @@ kept-sum : (B : List ℕ → ℕ) → B [] ≡ 0 → ((k l : List ℕ) → B (k 
 unfolding sumOf countUp keep
 kept-sum B nil app g f s zero single = nil
 kept-sum B nil app g f s (suc n) single =
-    ap (λ (l : List ℕ). B (keep f l)) (count-last s n) ∙ ap B (keep-append f (countUp s n) ((s + n) ∷ [])) ∙ app (keep f (countUp s n)) (keep f ((s + n) ∷ [])) ∙
+    ap (λ (l : List ℕ). B (keep f l)) (count-more s n) ∙ ap B (keep-append f (countUp s n) ((s + n) ∷ [])) ∙ app (keep f (countUp s n)) (keep f ((s + n) ∷ [])) ∙
     go (f (s + n)) refl (kept-sum B nil app g f s n (λ k h. single k (omega arith))) (single n (omega arith))
   where
     go : (b : Bool) → f (s + n) ≡ b → B (keep f (countUp s n)) ≡ sumOf g f s n → B ((s + n) ∷ []) ≡ g n
@@ -137,26 +128,6 @@ kept-sum B nil app g f s (suc n) single =
     go false q ih one =
         let e : B (keep f ((s + n) ∷ [])) ≡ 0 = ap B (keep-skip f (s + n) [] q) ∙ nil in
         rw q (omega arith)
-
-low-append : (k l : List ℕ) → lowBits (k ++ l) ≡ lowBits k + lowBits l
-unfolding lowBits
-low-append [] l = sym (zero-add (lowBits l))
-low-append (x ∷ k) l = go (leb x 31) (low-append k l)
-  where
-    go : (b : Bool) → lowBits (k ++ l) ≡ lowBits k + lowBits l
-        → elim b as (λ c. ℕ) [ true ↦ 2 ^ x + lowBits (k ++ l) | false ↦ lowBits (k ++ l) ] ≡ elim b as (λ c. ℕ) [ true ↦ 2 ^ x + lowBits k | false ↦ lowBits k ] + lowBits l
-    go true h = omega arith
-    go false h = h
-
-high-append : (k l : List ℕ) → highBits (k ++ l) ≡ highBits k + highBits l
-unfolding highBits
-high-append [] l = sym (zero-add (highBits l))
-high-append (x ∷ k) l = go (leb x 31) (high-append k l)
-  where
-    go : (b : Bool) → highBits (k ++ l) ≡ highBits k + highBits l
-        → elim b as (λ c. ℕ) [ true ↦ highBits (k ++ l) | false ↦ 2 ^ (x - 32) + highBits (k ++ l) ] ≡ elim b as (λ c. ℕ) [ true ↦ highBits k | false ↦ 2 ^ (x - 32) + highBits k ] + highBits l
-    go true h = h
-    go false h = omega arith
 
 low-one : (x : ℕ) → x ≤ 31 → lowBits (x ∷ []) ≡ 2 ^ x
 unfolding lowBits
@@ -189,16 +160,16 @@ halves f = ap (keep f) (count-split 0 32 32) ∙ keep-append f (countUp 0 32) (c
 low-word : (f : ℕ → Bool) → lowBits (keep f (countUp 0 64)) ≡ sumOf power f 0 32
 low-word f =
     let a : lowBits (keep f (countUp 0 32)) ≡ sumOf power f 0 32 =
-    kept-sum lowBits nothing-low low-append power f 0 32 (λ k h. low-one (0 + k) (omega arith) ∙ ap power (zero-add k)) in
-    let b : lowBits (keep f (countUp 32 32)) ≡ 0 = kept-sum lowBits nothing-low low-append (λ k. 0) f 32 32 (λ k h. low-none (32 + k) (omega arith)) ∙ sum-none f 32 32 in
-    ap lowBits (halves f) ∙ low-append (keep f (countUp 0 32)) (keep f (countUp 32 32)) ∙ omega arith
+    kept-sum lowBits nothing-low low-joined power f 0 32 (λ k h. low-one (0 + k) (omega arith) ∙ ap power (zero-add k)) in
+    let b : lowBits (keep f (countUp 32 32)) ≡ 0 = kept-sum lowBits nothing-low low-joined (λ k. 0) f 32 32 (λ k h. low-none (32 + k) (omega arith)) ∙ sum-none f 32 32 in
+    ap lowBits (halves f) ∙ low-joined (keep f (countUp 0 32)) (keep f (countUp 32 32)) ∙ omega arith
 
 high-word : (f : ℕ → Bool) → highBits (keep f (countUp 0 64)) ≡ sumOf power f 32 32
 high-word f =
-    let a : highBits (keep f (countUp 0 32)) ≡ 0 = kept-sum highBits nothing-high high-append (λ k. 0) f 0 32 (λ k h. high-none (0 + k) (omega arith)) ∙ sum-none f 0 32 in
+    let a : highBits (keep f (countUp 0 32)) ≡ 0 = kept-sum highBits nothing-high high-joined (λ k. 0) f 0 32 (λ k h. high-none (0 + k) (omega arith)) ∙ sum-none f 0 32 in
     let b : highBits (keep f (countUp 32 32)) ≡ sumOf power f 32 32 =
-    kept-sum highBits nothing-high high-append power f 32 32 (λ k h. let z : 32 + k - 32 ≡ k = omega arith in high-one (32 + k) (omega arith) ∙ ap power z) in
-    ap highBits (halves f) ∙ high-append (keep f (countUp 0 32)) (keep f (countUp 32 32)) ∙ omega arith
+    kept-sum highBits nothing-high high-joined power f 32 32 (λ k h. let z : 32 + k - 32 ≡ k = omega arith in high-one (32 + k) (omega arith) ∙ ap power z) in
+    ap highBits (halves f) ∙ high-joined (keep f (countUp 0 32)) (keep f (countUp 32 32)) ∙ omega arith
 
 -- the words of a rising list have 32 bits
 pub set-fits : (A : ℕ) (list : List ℕ) → A ≤ 63 → rises A 0 list ≡ true → (lowBits list < 4294967296) × (highBits list < 4294967296)
@@ -209,13 +180,13 @@ set-fits A list few r =
     let p = keep (bit low) (countUp 0 32) in
     let q = keep (λ k. bit high (k - 32)) (countUp 32 32) in
     let back : p ++ q ≡ list = list-back A list few r in
-    let a : lowBits p ≡ sumOf power (bit low) 0 32 = kept-sum lowBits nothing-low low-append power (bit low) 0 32 (λ k h. low-one (0 + k) (omega arith) ∙ ap power (zero-add k)) in
-    let b : lowBits q ≡ 0 = kept-sum lowBits nothing-low low-append (λ k. 0) (λ k. bit high (k - 32)) 32 32 (λ k h. low-none (32 + k) (omega arith)) ∙ sum-none (λ k. bit high (k - 32)) 32 32 in
-    let c : highBits p ≡ 0 = kept-sum highBits nothing-high high-append (λ k. 0) (bit low) 0 32 (λ k h. high-none (0 + k) (omega arith)) ∙ sum-none (bit low) 0 32 in
+    let a : lowBits p ≡ sumOf power (bit low) 0 32 = kept-sum lowBits nothing-low low-joined power (bit low) 0 32 (λ k h. low-one (0 + k) (omega arith) ∙ ap power (zero-add k)) in
+    let b : lowBits q ≡ 0 = kept-sum lowBits nothing-low low-joined (λ k. 0) (λ k. bit high (k - 32)) 32 32 (λ k h. low-none (32 + k) (omega arith)) ∙ sum-none (λ k. bit high (k - 32)) 32 32 in
+    let c : highBits p ≡ 0 = kept-sum highBits nothing-high high-joined (λ k. 0) (bit low) 0 32 (λ k h. high-none (0 + k) (omega arith)) ∙ sum-none (bit low) 0 32 in
     let d : highBits q ≡ sumOf power (λ k. bit high (k - 32)) 32 32 =
-    kept-sum highBits nothing-high high-append power (λ k. bit high (k - 32)) 32 32 (λ k h. let z : 32 + k - 32 ≡ k = omega arith in high-one (32 + k) (omega arith) ∙ ap power z) in
-    let l : lowBits list ≡ sumOf power (bit low) 0 32 = ap lowBits (sym back) ∙ low-append p q ∙ omega arith in
-    let h : highBits list ≡ sumOf power (λ k. bit high (k - 32)) 32 32 = ap highBits (sym back) ∙ high-append p q ∙ omega arith in
+    kept-sum highBits nothing-high high-joined power (λ k. bit high (k - 32)) 32 32 (λ k h. let z : 32 + k - 32 ≡ k = omega arith in high-one (32 + k) (omega arith) ∙ ap power z) in
+    let l : lowBits list ≡ sumOf power (bit low) 0 32 = ap lowBits (sym back) ∙ low-joined p q ∙ omega arith in
+    let h : highBits list ≡ sumOf power (λ k. bit high (k - 32)) 32 32 = ap highBits (sym back) ∙ high-joined p q ∙ omega arith in
     (omega (arith, sum-below (bit low) 0 32), omega (arith, sum-below (λ k. bit high (k - 32)) 32 32))
 
 module _ (m : Model) (lawful : Lawful m) (t rest : List ℕ) (e : t ≡ sheetWords m ++ rest) where

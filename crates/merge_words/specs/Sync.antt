@@ -1,4 +1,4 @@
--- The synchronising set of the whole, as two words. A layout says how many actions there are, and where the tree stands.
+-- The synchronising set of the whole, as two words. A layout says how many actions there are and where the tree stands.
 use mathlib.Core.Bool.{Bool, true, false, not, _&&_}
 use mathlib.Core.List.{List, [], _∷_}
 use Prim.Native.Nat.{ℕ, zero, suc, _+_, _*_, _%_}

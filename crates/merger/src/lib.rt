@@ -33,8 +33,8 @@ fn reported(answer: WriteAnswer, edges: usize) -> MergeAnswer
 // Writes the text of the merged automaton. Rows 18, 19 and 31 to 35; a refusal has written nothing.
 pub fn merge(table: &[u32], out: &mut [u8]) -> MergeAnswer
     ensures { λ r. ⌜ r ≡ mergeOf (mergeAnswer (now (table .entry)) (length (now (out .entry)))) ⌝ }
-    ensures { λ _. ⌜ now (out .exit) ≡ mergeAfter (mergeAnswer (now (table .entry)) (length (now (out .entry))))
-        (now (out .entry)) ⌝ }
+    ensures { λ _. ⌜ now (out .exit)
+        ≡ mergeAfter (mergeAnswer (now (table .entry)) (length (now (out .entry)))) (now (out .entry)) ⌝ }
 {
     let merged = merge_table::linearize(table);
     if merged.row != 0 {

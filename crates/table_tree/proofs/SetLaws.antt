@@ -101,12 +101,12 @@ below-power s k (suc c) h e =
     below-power s k c (not-top s (k + c) (rw (add-suc k c) at h) (e (k + c) (omega arith) (omega arith))) (λ j a b. e j a (omega arith))
 
 -- a word's weight is that of its bits
-count-more : (n c : ℕ) → countUp n (suc c) ≡ countUp n c ++ (n + c) ∷ []
+pub count-more : (n c : ℕ) → countUp n (suc c) ≡ countUp n c ++ (n + c) ∷ []
 unfolding countUp
 count-more n zero = rw (add-zero n)
 count-more n (suc c) = ap (λ l. n ∷ l) (rw (add-suc n c, ← suc-add n c) (count-more (suc n) c))
 
-low-joined : (k l : List ℕ) → lowBits (k ++ l) ≡ lowBits k + lowBits l
+pub low-joined : (k l : List ℕ) → lowBits (k ++ l) ≡ lowBits k + lowBits l
 unfolding lowBits
 low-joined [] l = sym (zero-add (lowBits l))
 low-joined (x ∷ k) l = go (leb x 31) (low-joined k l)
@@ -116,7 +116,7 @@ low-joined (x ∷ k) l = go (leb x 31) (low-joined k l)
     go true e = omega arith
     go false e = e
 
-high-joined : (k l : List ℕ) → highBits (k ++ l) ≡ highBits k + highBits l
+pub high-joined : (k l : List ℕ) → highBits (k ++ l) ≡ highBits k + highBits l
 unfolding highBits
 high-joined [] l = sym (zero-add (highBits l))
 high-joined (x ∷ k) l = go (leb x 31) (high-joined k l)
