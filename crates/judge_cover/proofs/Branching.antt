@@ -11,8 +11,7 @@ use lib.Dec.{eqb, ltb}
 use borrow.Author.Tests.{eqb-true, ltb-true}
 use Rattle.model.specs.Basic.{exists, countUp}
 use Rattle.model.specs.Table.{bit}
-use Rattle.model.proofs.Tests.{and-intro, and-left, and-right, or-cases, not-true, exists-intro, exists-elim}
-use Rattle.table_tree.proofs.SetLaws.{both-ways}
+use Rattle.model.proofs.Tests.{and-intro, and-left, and-right, or-cases, not-true, exists-intro, exists-elim, both-ways}
 use Rattle.judge_cover.specs.Cover.{coverable, within, leftBy, dominated, skippedAt, worth}
 use Rattle.judge_cover.proofs.BitLaws.{bit-and, no-bits, and-swap}
 use Rattle.judge_cover.proofs.Counting.{count-around, Found, find, found}

@@ -16,7 +16,7 @@ use borrow.Author.Tests.{eqb-true, eqb-false, eq-eqb, lt-ltb, le-ltb, ltb-true, 
 use Rattle.model.specs.Basic.{every, exists, keep, countUp, sum}
 use Rattle.model.specs.Bounds.{maxAutomata}
 use Rattle.model.specs.Table.{bit}
-use Rattle.table_tree.proofs.SetLaws.{both-ways}
+use Rattle.model.proofs.Tests.{both-ways}
 use Rattle.judge_cover.specs.Cover.{within, leftBy, dominated, skippedAt, worth, namedIn, useful, past, allFilled}
 use Rattle.judge_cover.specs.Steps.{advanced, Without, CoversAtMost, PartOf}
 use Rattle.judge_cover.proofs.BitLaws.{bit-and, bit-next, bit-first, and-assoc, and-swap}

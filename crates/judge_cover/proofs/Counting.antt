@@ -7,18 +7,7 @@ use Prim.Native.Nat.{ℕ, zero, suc, _+_, _-_, _≤_, _<_}
 use native.Mathlib.Omega.{arith}
 use Rattle.model.specs.Basic.{exists, countUp}
 use Rattle.model.proofs.Tests.{or-left, or-right, or-cases}
-
--- numbers that are counted up, in two parts
-pub count-join : (n a b : ℕ) → countUp n (a + b) ≡ countUp n a ++ countUp (n + a) b
-unfolding countUp
-count-join n zero b =
-    let e : 0 + b ≡ b = omega arith in
-    let z : n + 0 ≡ n = omega arith in
-    rw (e, z)
-count-join n (suc a) b =
-    let e : suc a + b ≡ suc (a + b) = omega arith in
-    let z : n + suc a ≡ suc n + a = omega arith in
-    rw (e, z) (ap (λ l. n ∷ l) (count-join (suc n) a b))
+use Rattle.model.proofs.Lists.{count-split}
 
 -- around one of them
 pub count-around : (a n k : ℕ) → a ≤ k → k < a + n → countUp a n ≡ countUp a (k - a) ++ k ∷ countUp (suc k) (a + n - suc k)
@@ -26,7 +15,7 @@ unfolding countUp
 count-around a n k low high =
     let e : n ≡ (k - a) + suc (a + n - suc k) = omega arith in
     let z : a + (k - a) ≡ k = omega arith in
-    ap (countUp a) e ∙ count-join a (k - a) (suc (a + n - suc k)) ∙ ap (λ j. countUp a (k - a) ++ countUp j (suc (a + n - suc k))) z
+    ap (countUp a) e ∙ count-split a (k - a) (suc (a + n - suc k)) ∙ ap (λ j. countUp a (k - a) ++ countUp j (suc (a + n - suc k))) z
 
 pub exists-count : (f g : ℕ → Bool) (n c : ℕ) → ((k : ℕ) → n ≤ k → k < n + c → f k ≡ g k) → exists f (countUp n c) ≡ exists g (countUp n c)
 unfolding exists countUp
@@ -43,7 +32,7 @@ pub count-last : (n : ℕ) → countUp 0 (n + 1) ≡ countUp 0 n ++ n ∷ []
 unfolding countUp
 count-last n =
     let z : 0 + n ≡ n = omega arith in
-    count-join 0 n 1 ∙ ap (λ k. countUp 0 n ++ k ∷ []) z
+    count-split 0 n 1 ∙ ap (λ k. countUp 0 n ++ k ∷ []) z
 
 -- one of them of which a test holds
 pub record Found (f : ℕ → Bool) (a n : ℕ) : Type 0 where

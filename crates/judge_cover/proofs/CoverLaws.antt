@@ -12,9 +12,8 @@ use lib.Dec.{eqb, leb}
 use borrow.Author.Tests.{eqb-true, eq-eqb, le-leb}
 use Rattle.model.specs.Basic.{every, exists, keep, sum}
 use Rattle.model.specs.Table.{bit}
-use Rattle.model.proofs.Tests.{and-intro, and-left, and-right, or-same, exists-intro, exists-elim, exists-ext}
-use Rattle.model.proofs.Lists.{keep-out}
-use Rattle.table_tree.proofs.SetLaws.{both-ways}
+use Rattle.model.proofs.Tests.{and-intro, and-left, and-right, or-same, exists-intro, exists-elim, exists-ext, both-ways}
+use Rattle.model.proofs.Lists.{keep-out, sum-append}
 use Rattle.judge_cover.specs.Cover.{coverable, within, useful}
 use Rattle.judge_cover.proofs.BitLaws.{bit-and, no-bits, and-assoc, and-swap, parts-cover-less}
 
@@ -136,11 +135,6 @@ bound (g ∷ gs) (b ∷ bs) u (one a rest) h =
 bounded-append : (u : ℕ) {gs hs : List (List ℕ)} {bs cs : List ℕ} → Bounded u gs bs → Bounded u hs cs → Bounded u (gs ++ hs) (bs ++ cs)
 bounded-append u none y = y
 bounded-append u (one a x) y = one a (bounded-append u x y)
-
-pub sum-append : (bs cs : List ℕ) → sum (bs ++ cs) ≡ sum bs + sum cs
-unfolding sum
-sum-append [] cs = omega arith
-sum-append (b ∷ bs) cs = omega (arith, sum-append bs cs)
 
 -- the useful edges of each group
 unfoldable pub sift : (u total : ℕ) → List (List ℕ) → List ℕ → List (List ℕ)

@@ -11,14 +11,13 @@ use lib.Seq.{getD-set-same, getD-set-other}
 use Rattle.model.specs.Basic.{keep, countUp, sum}
 use Rattle.model.specs.Bounds.{maxAutomata}
 use Rattle.model.specs.Table.{bit}
-use Rattle.model.proofs.Lists.{keep-append, keep-first, keep-skip}
+use Rattle.model.proofs.Lists.{keep-append, keep-first, keep-skip, sum-append}
 use Rattle.model.proofs.Tests.{not-false}
 use Rattle.judge_cover.specs.declared.sift.Room.{Room}
 use Rattle.judge_cover.specs.declared.sift.Room.the-variants.{At, Full}
 use Rattle.judge_cover.specs.Cover.{group, groups, groupsOf, useful, siftedGroup, siftedGroups}
 use Rattle.judge_cover.specs.Steps.{advanced, CoversAtMost, BoundsOf, SiftedTo, SiftedAs}
 use Rattle.judge_cover.proofs.Counting.{map-count, count-last, count-join}
-use Rattle.judge_cover.proofs.CoverLaws.{sum-append}
 use Rattle.judge_cover.proofs.CodeLaws.{other}
 
 -- a group's first edge, and its last

@@ -21,16 +21,10 @@ use Rattle.table_places.specs.Layout.{layoutOf, automataOf}
 use Rattle.table_places.proofs.OutlineLaws.{actions-in, variables-in, automata-in, location-count, range-low, range-high}
 use Rattle.table_places.proofs.Standing.{automaton-stands, range-stands}
 use Rattle.table_places.proofs.LayoutLaws.{all-automata, set-place}
+use Rattle.model.proofs.Tests.{not-leb}
 use Rattle.judge_rows.specs.Each.{eachFrom}
 use Rattle.judge_rows.specs.RowTests.{lengthsFit, locationKnown, locationsKnown, rangeHas, valuesKnown, actionKnown}
 use Rattle.judge_rows.proofs.WalkLaws.{each-walked}
-
-not-leb : (a b : ℕ) → not (leb a b) ≡ ltb b a
-not-leb a b = go (leb a b) refl
-  where
-    go : (c : Bool) → leb a b ≡ c → not c ≡ ltb b a
-    go true e = sym (le-ltb b a (leb-true a b e))
-    go false e = sym (lt-ltb b a (leb-false a b e))
 
 -- the range that a read past the end gives
 zero-alone : LawfulRange (range (pos 0) (pos 0))

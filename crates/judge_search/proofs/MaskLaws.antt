@@ -11,9 +11,9 @@ use lib.Pow.{pow-pos, pow-add, high}
 use borrow.Author.Tests.{eqb-true, eqb-false, eq-eqb, ltb-true, ltb-false}
 use Rattle.model.specs.Basic.{every, keep, member, countUp}
 use Rattle.model.specs.Table.{bit}
-use Rattle.model.proofs.Tests.{and-right, not-false}
+use Rattle.model.proofs.Tests.{and-right, not-false, both-ways}
 use Rattle.model.proofs.Lists.{keep-first, keep-skip, member-keep, member-count}
-use Rattle.table_tree.proofs.SetLaws.{both-ways, keep-alike, every-kept, kept-all, bit-above}
+use Rattle.table_tree.proofs.SetLaws.{keep-alike, every-kept, kept-all, bit-above}
 use Rattle.judge_search.specs.Search.{isCovered}
 use Rattle.judge_search.specs.Masks.{mask}
 use Rattle.judge_cover.proofs.BitLaws.{bit-and, same-bits, no-bits, bit-under, bit-top}

@@ -4,13 +4,10 @@ use native.Mathlib.Omega.{arith}
 use mathlib.Core.Path.{_≡_}
 use mathlib.Core.List.{List}
 use lib.ListN.{length, take, drop, length-take, length-drop}
+use Rattle.model.proofs.Lists.{first-long}
 
 -- what was put into the rest of a buffer is within it
 pub rest-room : (b : List ℕ) (n k : ℕ) → n ≤ length b → k ≤ length (take (length b - n) (drop n b)) → n + k ≤ length b
 rest-room b n k h l = let g : k ≤ length b - n = omega (arith, length-take (length b - n) (drop n b), length-drop n b, l) in omega arith
 
--- so many of its first bytes
-pub first-bytes : (b : List ℕ) (n : ℕ) → n ≤ length b → n ≡ length (take n b)
-first-bytes b n h = omega (arith, length-take n b)
-
-pub ruleset room = (rest-room, first-bytes)
+pub ruleset room = (rest-room, first-long)

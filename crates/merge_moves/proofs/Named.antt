@@ -7,13 +7,13 @@ use lib.ListN.{getD}
 use Rattle.model.specs.Composition.{Tree, par, syn, leaf, leaves}
 use Rattle.model.specs.Model.{Model}
 use Rattle.model.proofs.Numbered.{size, Numbered}
-use Rattle.table_tree.proofs.Standing.{flat-joined}
+use Rattle.model.proofs.Lists.{flat-append}
 use Rattle.merge_moves.specs.Takers.{takerOf, takersIn}
 
 module _ (m : Model) (action : ℕ) where
   pub takers-joined : (picked : List ℕ) (c d : Tree) → takersIn m action picked (leaves (par c d)) ≡ takersIn m action picked (leaves c) ++ takersIn m action picked (leaves d)
   unfolding takersIn leaves
-  takers-joined picked c d = flat-joined (λ i. takerOf m action i (getD picked i 0)) (leaves c) (leaves d)
+  takers-joined picked c d = flat-append (λ i. takerOf m action i (getD picked i 0)) (leaves c) (leaves d)
 
   pub takers-leaf : (picked : List ℕ) (k : ℕ) → takersIn m action picked (leaves (leaf k)) ≡ takerOf m action k (getD picked k 0)
   unfolding takersIn leaves flatMap

@@ -27,6 +27,7 @@ use Rattle.merge_append.specs.NodeWords.{most, capped}
 use Rattle.merge_edges.specs.Moves.{cellsOf, placesOf, lastAction}
 use Rattle.table_places.specs.declared.layout.Layout.{Layout}
 use Rattle.table_places.specs.Layout.{layoutOf}
+use Rattle.model.proofs.Lists.{sum-append}
 use Rattle.merge_table.proofs.Standing.{ownOf}
 use Rattle.merge_words.specs.Survey.{surveyed, withEdge, surveyFrom, surveyUnder, surveyOf, surveyIn, surveyStart, surveyWhole}
 use Rattle.merge_append.proofs.NodeLaws.{capped-is, capped-over}
@@ -46,11 +47,6 @@ capped-test k n h = go (leb n most) refl
     go : (b : Bool) → leb n most ≡ b → ltb k (capped n) ≡ ltb k n
     go true q = ap (ltb k) (sym (capped-is n (leb-true n most q)))
     go false q = let l = leb-false n most q in ap (ltb k) (sym (capped-over n l)) ∙ lt-ltb k most h ∙ sym (lt-ltb k n (omega arith))
-
-sum-append : (xs ys : List ℕ) → sum (xs ++ ys) ≡ sum xs + sum ys
-unfolding sum
-sum-append [] ys = omega arith
-sum-append (x ∷ xs) ys = let h = sum-append xs ys in omega arith
 
 or-none : (b : Bool) → b ≡ (b || false)
 or-none true = refl

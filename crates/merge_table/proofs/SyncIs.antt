@@ -16,11 +16,11 @@ use Rattle.model.specs.Limits.{rises}
 use Rattle.model.specs.Model.{Model, automaton, inSet}
 use Rattle.model.specs.Lawful.{Lawful}
 use Rattle.model.specs.Table.{lowBits, highBits, setWords, bit, setOf, lineWords, sheetWords}
-use Rattle.model.proofs.Lists.{keep-append, keep-first, keep-skip}
+use Rattle.model.proofs.Lists.{keep-append, keep-first, keep-skip, count-last, count-split}
 use Rattle.model.proofs.Numbered.{numbered, size-is, leaves-in}
 use Rattle.table_tree.specs.Nodes.{treeWords}
 use Rattle.table_tree.specs.Members.{inSetAt}
-use Rattle.table_tree.proofs.SetLaws.{keep-alike, count-more, low-joined, high-joined}
+use Rattle.table_tree.proofs.SetLaws.{keep-alike, low-joined, high-joined}
 use Rattle.table_tree.proofs.Inside.{list-back, in-set-of}
 use Rattle.table_places.specs.Outline.{nodesPlace}
 use Rattle.table_places.specs.Layout.{layoutOf}
@@ -98,14 +98,6 @@ whole-bits : (f : ℕ → Bool) (from : ℕ) → bitsFrom f from 32 0 ≡ sumOf 
 whole-bits f from = bits-are f from 32 0 (omega arith) (omega arith) ∙ ap (λ x. x + sumOf power f from 32) (zero-mul (2 ^ 32)) ∙ zero-add (sumOf power f from 32)
 
 -- the numbers counted up, in two parts
-count-split : (s a b : ℕ) → countUp s (a + b) ≡ countUp s a ++ countUp (s + a) b
-unfolding countUp
-count-split s zero b = rw (zero-add b, add-zero s)
-count-split s (suc a) b =
-    let e : suc a + b ≡ suc (a + b) = omega arith in
-    let g : s + suc a ≡ suc s + a = omega arith in
-    rw (e, g) (ap (λ (l : List ℕ). s ∷ l) (count-split (suc s) a b))
-
 keep-nothing : (f : ℕ → Bool) (n c : ℕ) → ((k : ℕ) → n ≤ k → f k ≡ false) → keep f (countUp n c) ≡ []
 unfolding countUp keep
 keep-nothing f n zero h = refl
@@ -117,7 +109,7 @@ kept-sum : (B : List ℕ → ℕ) → B [] ≡ 0 → ((k l : List ℕ) → B (k 
 unfolding sumOf countUp keep
 kept-sum B nil app g f s zero single = nil
 kept-sum B nil app g f s (suc n) single =
-    ap (λ (l : List ℕ). B (keep f l)) (count-more s n) ∙ ap B (keep-append f (countUp s n) ((s + n) ∷ [])) ∙ app (keep f (countUp s n)) (keep f ((s + n) ∷ [])) ∙
+    ap (λ (l : List ℕ). B (keep f l)) (count-last s n) ∙ ap B (keep-append f (countUp s n) ((s + n) ∷ [])) ∙ app (keep f (countUp s n)) (keep f ((s + n) ∷ [])) ∙
     go (f (s + n)) refl (kept-sum B nil app g f s n (λ k h. single k (omega arith))) (single n (omega arith))
   where
     go : (b : Bool) → f (s + n) ≡ b → B (keep f (countUp s n)) ≡ sumOf g f s n → B ((s + n) ∷ []) ≡ g n

@@ -22,13 +22,9 @@ each-at F [] h k = h
 each-at F (x ∷ l) h zero = h .0
 each-at F (x ∷ l) h (suc k) = each-at F l (h .1) k
 
--- what holds of the words of all kinds from n on, or below n
+-- what holds of the words of all kinds from n on
 module _ (F : Word → Type 0) (w n : ℕ) where
   pub kind-from : Each F (drop n (kinds (argumentOf w))) → n ≤ kindOf w → F (wordOf w)
   kind-from h l =
       let e : kindOf w ≡ n + (kindOf w - n) = omega arith in
       rw (word-of w _ e, ← getD-drop n (kinds (argumentOf w)) (kindOf w - n) stray) (each-at F (drop n (kinds (argumentOf w))) h (kindOf w - n))
-
-  pub kind-below : Each F (take n (kinds (argumentOf w))) → kindOf w < n → F (wordOf w)
-  kind-below h l =
-      rw (word-of w _ refl, ← getD-take n (kinds (argumentOf w)) (kindOf w) stray l) (each-at F (take n (kinds (argumentOf w))) h (kindOf w))

@@ -13,7 +13,7 @@ use Rattle.model.specs.Bounds.{maxEdges, maxNodes}
 use Rattle.model.specs.Predicate.{namesOutside, namesNew}
 use Rattle.model.specs.Limits.{rises}
 use Rattle.model.specs.Table.{wordOf, setOf}
-use Rattle.model.proofs.Tests.{and-intro}
+use Rattle.model.proofs.Tests.{and-intro, and-no-right}
 use Rattle.line_order.specs.declared.Key.{Key}
 use Rattle.line_order.specs.declared.Key.the-variants.{Format, Actions, Variables, Variable, Automata, Sync, Locations, Init, Inv, Edges, Edge, Compose, End}
 use Rattle.line_order.specs.declared.Counts.{Counts}
@@ -39,10 +39,6 @@ when-false b l h = rw h
 no-left : (a b : Bool) → a ≡ false → (a && b) ≡ false
 no-left a b h = rw h
 
-no-right : (a b : Bool) → b ≡ false → (a && b) ≡ false
-no-right true b h = h
-no-right false b h = refl
-
 -- `number`
 module _ (t : List ℕ) (at least most : ℕ) where
   pub number-end : length t ≤ at → Bad ≡ numberAt t at least most
@@ -52,11 +48,11 @@ module _ (t : List ℕ) (at least most : ℕ) where
   module _ (n : ℕ) (e : n ≡ getD t at 0) where
     pub number-low : n < least → Bad ≡ numberAt t at least most
     unfolding numberAt
-    number-low l = when-false _ _ (no-right (ltb at (length t)) (leb least (getD t at 0) && leb (getD t at 0) most) (no-left (leb least (getD t at 0)) (leb (getD t at 0) most) (lt-leb least (getD t at 0) (omega arith))))
+    number-low l = when-false _ _ (and-no-right (ltb at (length t)) (leb least (getD t at 0) && leb (getD t at 0) most) (no-left (leb least (getD t at 0)) (leb (getD t at 0) most) (lt-leb least (getD t at 0) (omega arith))))
 
     pub number-high : most < n → Bad ≡ numberAt t at least most
     unfolding numberAt
-    number-high l = when-false _ _ (no-right (ltb at (length t)) (leb least (getD t at 0) && leb (getD t at 0) most) (no-right (leb least (getD t at 0)) (leb (getD t at 0) most) (lt-leb (getD t at 0) most (omega arith))))
+    number-high l = when-false _ _ (and-no-right (ltb at (length t)) (leb least (getD t at 0) && leb (getD t at 0) most) (and-no-right (leb least (getD t at 0)) (leb (getD t at 0) most) (lt-leb (getD t at 0) most (omega arith))))
 
     pub number-good : at < length t → least ≤ n → n ≤ most → Sound n 0 (at + 1) ≡ numberAt t at least most
     unfolding numberAt
@@ -82,11 +78,11 @@ module _ (t : List ℕ) (at : ℕ) where
 
   pub variable-high : 65535 < high → Bad ≡ variableAt t at
   unfolding variableAt
-  variable-high l = when-false _ _ (no-right (ltb (at + 1) (length t)) (leb high 65535 && leb low high) (no-left (leb high 65535) (leb low high) (lt-leb high 65535 l)))
+  variable-high l = when-false _ _ (and-no-right (ltb (at + 1) (length t)) (leb high 65535 && leb low high) (no-left (leb high 65535) (leb low high) (lt-leb high 65535 l)))
 
   pub variable-order : high < low → Bad ≡ variableAt t at
   unfolding variableAt
-  variable-order l = when-false _ _ (no-right (ltb (at + 1) (length t)) (leb high 65535 && leb low high) (no-right (leb high 65535) (leb low high) (lt-leb low high l)))
+  variable-order l = when-false _ _ (and-no-right (ltb (at + 1) (length t)) (leb high 65535 && leb low high) (and-no-right (leb high 65535) (leb low high) (lt-leb low high l)))
 
   pub variable-good : at + 1 < length t → high ≤ 65535 → low ≤ high → Sound 0 0 (at + 2) ≡ variableAt t at
   unfolding variableAt
@@ -115,7 +111,7 @@ module _ (t : List ℕ) (at a : ℕ) where
 
     pub sync-bad : p ≡ false → Bad ≡ syncAt t at a
     unfolding syncAt
-    sync-bad e = when-false _ _ (no-right (ltb (at + 1) (length t)) (rises (capped a) 0 (setOf (getD t at 0) (getD t (at + 1) 0))) (same-cap ∙ e))
+    sync-bad e = when-false _ _ (and-no-right (ltb (at + 1) (length t)) (rises (capped a) 0 (setOf (getD t at 0) (getD t (at + 1) 0))) (same-cap ∙ e))
 
 pub ruleset sync-laws = (sync-end, sync-short, sync-good, sync-bad)
 
@@ -143,7 +139,7 @@ pub ruleset ranges-laws = (ranges-short, ranges-few, ranges-all)
 module _ (w : Walked) (start n : ℕ) where
   pub walked-back : w .next < start → false ≡ walkedTo w (start + n)
   unfolding walkedTo
-  walked-back l = sym (no-right (w .sound) _ (no-right (not (w .deep)) _ (no-right (not (w .leaves)) (eqb (w .next) (start + n)) (ne-eqb (w .next) (start + n) (λ e. omega arith)))))
+  walked-back l = sym (and-no-right (w .sound) _ (and-no-right (not (w .deep)) _ (and-no-right (not (w .leaves)) (eqb (w .next) (start + n)) (ne-eqb (w .next) (start + n) (λ e. omega arith)))))
 
   -- from a sum to a difference
   same-place : (x : ℕ) → start ≤ x → eqb (x - start) n ≡ eqb x (start + n)
@@ -181,7 +177,7 @@ module _ (t : List ℕ) (c : Counts) (start n : ℕ) where
     module _ (q : Bool) (hq : q ≡ outside) where
       pub nodes-outside : q ≡ true → false ≡ nodesSound t c start n
       unfolding nodesSound
-      nodes-outside h = sym (no-right coded (not outside && (walked && few)) (no-left (not outside) (walked && few) (ap not (sym hq ∙ h))))
+      nodes-outside h = sym (and-no-right coded (not outside && (walked && few)) (no-left (not outside) (walked && few) (ap not (sym hq ∙ h))))
 
       module _ (rs : List ℕ) (hr : rs ≡ rangesIn t (c .variables)) (w : Walked) (hw : w ≡ walkAt t rs start) (o : Bool) (ho : o ≡ walkedTo w (start + n)) where
         same-walk : walked ≡ o
@@ -190,7 +186,7 @@ module _ (t : List ℕ) (c : Counts) (start n : ℕ) where
 
         pub nodes-astray : not o ≡ true → false ≡ nodesSound t c start n
         unfolding nodesSound
-        nodes-astray h = sym (no-right coded (not outside && (walked && few)) (no-right (not outside) (walked && few) (no-left walked few (same-walk ∙ not-true o h))))
+        nodes-astray h = sym (and-no-right coded (not outside && (walked && few)) (and-no-right (not outside) (walked && few) (no-left walked few (same-walk ∙ not-true o h))))
 
         pub nodes-few : not p ≡ false → q ≡ false → not o ≡ false → (r : Bool) → r ≡ few → r ≡ nodesSound t c start n
         unfolding nodesSound
@@ -217,7 +213,7 @@ module _ (t : List ℕ) (at : ℕ) (c : Counts) where
   module _ (n : ℕ) (e : n ≡ getD t at 0) where
     pub predicate-short : length t - (at + 1) < n → Bad ≡ predicateAt t at c
     unfolding predicateAt
-    predicate-short l = when-false _ _ (no-right (ltb at (length t)) rest (no-left (leb (getD t at 0) (length t - (at + 1))) (nodesSound t c (at + 1) (getD t at 0)) (lt-leb (getD t at 0) (length t - (at + 1)) (omega arith))))
+    predicate-short l = when-false _ _ (and-no-right (ltb at (length t)) rest (no-left (leb (getD t at 0) (length t - (at + 1))) (nodesSound t c (at + 1) (getD t at 0)) (lt-leb (getD t at 0) (length t - (at + 1)) (omega arith))))
 
     module _ (r : Bool) (hr : r ≡ nodesSound t c (at + 1) n) where
       same-nodes : nodesSound t c (at + 1) (getD t at 0) ≡ r
@@ -225,7 +221,7 @@ module _ (t : List ℕ) (at : ℕ) (c : Counts) where
 
       pub predicate-bad : r ≡ false → Bad ≡ predicateAt t at c
       unfolding predicateAt
-      predicate-bad h = when-false _ _ (no-right (ltb at (length t)) rest (no-right (leb (getD t at 0) (length t - (at + 1))) (nodesSound t c (at + 1) (getD t at 0)) (same-nodes ∙ h)))
+      predicate-bad h = when-false _ _ (and-no-right (ltb at (length t)) rest (and-no-right (leb (getD t at 0) (length t - (at + 1))) (nodesSound t c (at + 1) (getD t at 0)) (same-nodes ∙ h)))
 
       pub predicate-good : at < length t → n ≤ length t - (at + 1) → r ≡ true → Sound 0 n (at + 1 + n) ≡ predicateAt t at c
       unfolding predicateAt
@@ -274,7 +270,7 @@ module _ (t : List ℕ) (at : ℕ) (c : Counts) where
 
     pub edges-bad : q ≡ false → Bad ≡ edgesAt t at c
     unfolding edgesAt
-    edges-bad g = when-false _ _ (no-right (ltb at (length t)) (leb (c .edges + getD t at 0) maxEdges) (same-edges ∙ g))
+    edges-bad g = when-false _ _ (and-no-right (ltb at (length t)) (leb (c .edges + getD t at 0) maxEdges) (same-edges ∙ g))
 
 pub ruleset edges-laws = (edges-end, edges-good, edges-bad)
 
@@ -303,7 +299,7 @@ module _ (t : List ℕ) (at : ℕ) (c : Counts) where
 
     pub edge-unsound : not q ≡ true → Bad ≡ edgeAt t at c
     unfolding edgeAt
-    edge-unsound h = when-false _ _ (no-right (ltb (at + 2) (length t)) both (same-ends ∙ not-true q h))
+    edge-unsound h = when-false _ _ (and-no-right (ltb (at + 2) (length t)) both (same-ends ∙ not-true q h))
 
     pub edge-good : 2 < length t - at → not q ≡ false → (r : Line) → r ≡ predicateAt t (at + 3) c → r ≡ edgeAt t at c
     unfolding edgeAt

@@ -37,10 +37,6 @@ module _ (t : List ℕ) (at n : ℕ) where
 
 pub ruleset step-laws = (step-past, step-short, step-on)
 
--- `word`
-pub word-past : (t : List ℕ) (at : ℕ) → length t ≤ at → 0 ≡ getD t at 0
-word-past t at h = sym (List·getD-eq-default t 0 h)
-
 -- the parts of a sheet
 module _ (t : List ℕ) (r : ℕ) where
   pub actions-is : r ≡ getD t 1 0 → r ≡ actionsIn t

@@ -16,6 +16,7 @@ use Rattle.model.specs.Table.{lowBits, highBits, bit, setOf}
 use Rattle.model.proofs.Tests.{and-intro, and-left, and-right}
 use Rattle.model.proofs.Bits.{rises-cons, set-back}
 use Rattle.model.proofs.Numbered.{Leaves}
+use Rattle.model.proofs.LimitLines.{rises-ranged}
 use Rattle.table_tree.specs.declared.nodes.Found.the-variants.{Par, Syn, Leaf}
 use Rattle.table_tree.specs.declared.members.Membership.{Membership}
 use Rattle.table_tree.specs.Nodes.{treeWords}
@@ -23,17 +24,8 @@ use Rattle.table_tree.specs.Members.{membership, memberAt, inSetAt}
 use Rattle.table_tree.proofs.MemberLaws.{member-par, member-syn, member-leaf}
 use Rattle.table_tree.proofs.Standing.{begins, par-stands, syn-stands, leaf-stands, size-par, size-syn, size-leaf, length-par, length-syn, words-leaf}
 
--- a list that rises up to A holds nothing above 63, so it is read back from its words
-within : (A last : ℕ) (list : List ℕ) → A ≤ maxActions → rises A last list ≡ true → every (λ k. leb k maxActions) list ≡ true
-unfolding every
-within A last [] few r = refl
-within A last (k ∷ ks) few r =
-    let q = rw (rises-cons A last k ks) at r in
-    let l = leb-true k A (and-right (ltb last k) (leb k A) (and-left (ltb last k && leb k A) (rises A k ks) q)) in
-    and-intro (le-leb k 63 (omega arith)) (within A k ks few (and-right (ltb last k && leb k A) (rises A k ks) q))
-
 pub list-back : (A : ℕ) (list : List ℕ) → A ≤ maxActions → rises A 0 list ≡ true → setOf (lowBits list) (highBits list) ≡ list
-list-back A list few r = set-back A list r (within A 0 list few r)
+list-back A list few r = set-back A list r (rises-ranged A 0 list few r)
 
 module _ (w sets : List ℕ) (m : Model) (action A : ℕ) (few : A ≤ maxActions) where
   -- automaton k's own set, as a word, says of the action what the model says

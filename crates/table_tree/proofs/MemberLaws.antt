@@ -104,7 +104,4 @@ module _ (words sets : List ℕ) (action : ℕ) where
     unfolding memberBy
     member-stray h r hr = rw (member-by, h) hr
 
-pub own-past : (sets : List ℕ) (k : ℕ) → length sets ≤ k → 0 ≡ getD sets k 0
-own-past sets k h = sym (List·getD-eq-default sets 0 h)
-
 pub ruleset member-at-laws = (member-none, member-par, member-syn, member-leaf, member-stray)

@@ -12,16 +12,10 @@ use borrow.Author.Tests.{leb-true, leb-false, le-leb, lt-leb, lt-ltb, eqb-true, 
 use Rattle.model.specs.Basic.{every, keep, member, countUp}
 use Rattle.model.specs.Limits.{rises}
 use Rattle.model.specs.Table.{lowBits, highBits, setWords, bit, setOf}
-use Rattle.model.proofs.Tests.{and-intro, and-left, and-right}
-use Rattle.model.proofs.Lists.{keep-append, keep-first, keep-skip, keep-same, member-keep, member-count}
+use Rattle.model.proofs.Tests.{and-intro, and-left, and-right, both-ways}
+use Rattle.model.proofs.Lists.{keep-append, keep-first, keep-skip, keep-same, member-keep, member-count, count-last}
 use Rattle.model.proofs.Bits.{rises-cons}
 use Rattle.table_tree.specs.Sets.{oneWord, filled}
-
--- two answers are equal where each is true if the other is
-pub both-ways : (a b : Bool) → (a ≡ true → b ≡ true) → (b ≡ true → a ≡ true) → a ≡ b
-both-ways true b f g = sym (f refl)
-both-ways false true f g = g refl
-both-ways false false f g = refl
 
 -- what is kept of the numbers from n on, by the tests of those numbers alone
 pub keep-alike : (f g : ℕ → Bool) (n c : ℕ) → ((k : ℕ) → n ≤ k → k < n + c → f k ≡ g k) → keep f (countUp n c) ≡ keep g (countUp n c)
@@ -101,11 +95,6 @@ below-power s k (suc c) h e =
     below-power s k c (not-top s (k + c) (rw (add-suc k c) at h) (e (k + c) (omega arith) (omega arith))) (λ j a b. e j a (omega arith))
 
 -- a word's weight is that of its bits
-pub count-more : (n c : ℕ) → countUp n (suc c) ≡ countUp n c ++ (n + c) ∷ []
-unfolding countUp
-count-more n zero = rw (add-zero n)
-count-more n (suc c) = ap (λ l. n ∷ l) (rw (add-suc n c, ← suc-add n c) (count-more (suc n) c))
-
 pub low-joined : (k l : List ℕ) → lowBits (k ++ l) ≡ lowBits k + lowBits l
 unfolding lowBits
 low-joined [] l = sym (zero-add (lowBits l))
@@ -147,7 +136,7 @@ module _ (h : List ℕ → ℕ) (joins : (k l : List ℕ) → h (k ++ l) ≡ h k
   weight (suc c) l =
       let e : 1 + c ≡ suc c = omega arith in
       let m : v % 2 ^ suc c ≡ v / 2 ^ c % 2 * 2 ^ c + v % 2 ^ c = rw (← e) (mod-pow-add v 1 c) in
-      rw (count-more n c, keep-append f (countUp n c) ((n + c) ∷ []), joins, weight c (omega arith), digit c l, m, mul-add)
+      rw (count-last n c, keep-append f (countUp n c) ((n + c) ∷ []), joins, weight c (omega arith), digit c l, m, mul-add)
       (omega arith)
 
 -- what one number weighs

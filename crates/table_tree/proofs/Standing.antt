@@ -7,20 +7,15 @@ use lib.ListN.{length, drop, take, length-append, take-append-drop}
 use Rattle.model.specs.Bounds.{maxTreeNodes}
 use Rattle.model.specs.Composition.{Tree, par, syn, leaf, nodes, treeSize}
 use Rattle.model.specs.Table.{lowBits, highBits, setWords, nodeWords}
+use Rattle.model.proofs.Lists.{flat-append}
 use Rattle.table_tree.specs.declared.nodes.Found.{Found}
 use Rattle.table_tree.specs.declared.nodes.Found.the-variants.{Par, Syn, Leaf}
 use Rattle.table_tree.specs.Nodes.{treeWords, nodeIn, nodeAt, after, owing, skipFrom}
 use Rattle.table_tree.proofs.NodeLaws.{later, skip-done, skip-step}
 
--- the words, and how many there are
-pub flat-joined : {A B : Type 0} (f : A → List B) (k l : List A) → flatMap f (k ++ l) ≡ flatMap f k ++ flatMap f l
-unfolding flatMap
-flat-joined f [] l = refl
-flat-joined f (x ∷ k) l = rw (flat-joined f k l) (sym (append-assoc (f x) (flatMap f k) (flatMap f l)))
-
 pub words-par : (c d : Tree) → treeWords (par c d) ≡ 0 ∷ treeWords c ++ treeWords d
 unfolding flatMap nodes nodeWords
-words-par c d = ap (λ l. 0 ∷ l) (flat-joined nodeWords (nodes c) (nodes d))
+words-par c d = ap (λ l. 0 ∷ l) (flat-append nodeWords (nodes c) (nodes d))
 
 pub words-syn : (list : List ℕ) (c : Tree) → treeWords (syn list c) ≡ 1 ∷ lowBits list ∷ highBits list ∷ treeWords c
 unfolding flatMap nodes nodeWords setWords

@@ -1,4 +1,4 @@
-use Rattle.table_tree.proofs.MemberLaws.{own-past}
+use Rattle.model.proofs.Lists.{word-past}
 use borrow.Author.Needs.{needs}
 use Rattle.judge_cover.proofs.sift.gain_at.Statement.{statement}
 use Rattle.judge_cover.proofs.sift.gain_at.Tie as tie
@@ -19,7 +19,7 @@ returns c = search needs
 
 -- src/sift.rt:45:1
 returns-2 : tie.Need-returns-2
-returns-2 c = search (needs, own-past)
+returns-2 c = search (needs, word-past)
 
 pub gain-at-spec : {M : Type 1} → statement M
 gain-at-spec = tie.close (tie.spec mul-result shared-slice-read-result returns returns-2)

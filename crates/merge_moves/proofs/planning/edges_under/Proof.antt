@@ -1,5 +1,5 @@
 -- `merge_moves::planning::edges_under` meets its contract: past the end by a law of table_tree.
-use Rattle.table_tree.proofs.MemberLaws.{own-past}
+use Rattle.model.proofs.Lists.{word-past}
 use borrow.Author.Needs.{needs}
 use Rattle.merge_moves.proofs.planning.edges_under.Statement.{statement}
 use Rattle.merge_moves.proofs.planning.edges_under.Tie as tie
@@ -14,7 +14,7 @@ returns : tie.Need-returns
 returns c = search needs
 
 returns-2 : tie.Need-returns-2
-returns-2 c = search (needs, own-past)
+returns-2 c = search (needs, word-past)
 
 pub edges-under-spec : {M : Type 1} → statement M
 edges-under-spec = tie.close (tie.spec mul-result shared-slice-read-result returns returns-2)

@@ -1,5 +1,5 @@
 -- `table_tree::members::own` meets its contract.
-use Rattle.table_tree.proofs.MemberLaws.{own-past}
+use Rattle.model.proofs.Lists.{word-past}
 use borrow.Author.Needs.{needs}
 use Rattle.table_tree.proofs.members.own.Statement.{statement}
 use Rattle.table_tree.proofs.members.own.Tie as tie
@@ -14,7 +14,7 @@ returns : tie.Need-returns
 returns c = search needs
 
 returns-2 : tie.Need-returns-2
-returns-2 c = search (needs, own-past)
+returns-2 c = search (needs, word-past)
 
 pub own-spec : {M : Type 1} → statement M
 own-spec = tie.close (tie.spec mul-result shared-slice-read-result returns returns-2)

@@ -1,5 +1,5 @@
 -- `try_oven::sheets::word` meets its contract: past the end the definitions read 0 too.
-use Rattle.table_places.proofs.CodeLaws.{word-past}
+use Rattle.model.proofs.Lists.{word-past}
 use borrow.Author.Needs.{needs}
 use Rattle.try_oven.proofs.sheets.word.Statement.{statement}
 use Rattle.try_oven.proofs.sheets.word.Tie as tie
