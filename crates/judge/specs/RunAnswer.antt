@@ -19,6 +19,7 @@ use Rattle.judge_call.specs.Answers.{answerNumber}
 use Rattle.judge_turn.specs.Turns.{environmentMark}
 use Rattle.judge_lists.specs.Lists.{inFront}
 
+-- one proposal; and all of them, with N locations and V values each
 unfoldable pub proposalOf : (action : ℕ) → List ℕ → List ℤ → Proposal
 proposalOf action locations values =
     elim (eqb action environmentMark) [
