@@ -24,7 +24,7 @@ use Rattle.model.proofs.Tests.{exists-append}
 use Rattle.model.proofs.Count.{moves-length}
 use Rattle.merge_words.specs.declared.survey.Survey.{Survey}
 use Rattle.merge_append.specs.NodeWords.{most, capped}
-use Rattle.merge_edges.specs.Moves.{cellsOf, placesOf, lastAction}
+use Rattle.merge_edges.specs.Moves.{cellsOf, placesOf}
 use Rattle.table_places.specs.declared.layout.Layout.{Layout}
 use Rattle.table_places.specs.Layout.{layoutOf}
 use Rattle.merge_table.proofs.Standing.{ownOf}
@@ -136,11 +136,11 @@ module _ (m : Model) (lawful : Lawful m) (t rest : List ℕ) (e : t ≡ sheetWor
         over-more s (updatesOf es) (updatesOf others) ∙ ap (over s) (sym (map-append (λ (d : Edge). d .update) es others)))
 
     -- the merged init and inv, and then all edges
-    whole-survey : surveyWhole t (layoutOf t) (ownOf t) ≡ over (surveyStart t) (updatesOf (mergedEdges m))
+    whole-survey : surveyWhole t (layoutOf t) (ownOf t) ≡ over (surveyStart t lay) (updatesOf (mergedEdges m))
     unfolding surveyWhole surveyIn surveyStart mergedEdges
     whole-survey =
         let z : m .actions + 1 ≡ suc (m .actions) = omega arith in
-        ap (λ a. surveyOf t lay (ownOf t) 0 (a + 1) (surveyStart t)) (last-is m lawful t rest e) ∙ survey-upto (m .actions + 1) 0 (surveyStart t) (omega arith) (capped-most _) ∙ ap (λ n. over (surveyStart t) (updatesOf (edgesFor (countUp 0 n)))) z
+        ap (λ a. surveyOf t lay (ownOf t) 0 (a + 1) (surveyStart t lay)) (last-is m lawful t rest e) ∙ survey-upto (m .actions + 1) 0 (surveyStart t lay) (omega arith) (capped-most _) ∙ ap (λ n. over (surveyStart t lay) (updatesOf (edgesFor (countUp 0 n)))) z
 
     -- row 33
     pub survey-deep : surveyWhole t (layoutOf t) (ownOf t) .deep ≡ row33 m
