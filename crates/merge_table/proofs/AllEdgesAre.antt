@@ -41,7 +41,7 @@ use Rattle.merge_edges.proofs.MovesLaws.{more-here, more-not, last-all}
 use Rattle.merge_table.proofs.Standing.{narrow-is, automata-cons, Along, along-first, along-rest, ownOf}
 use Rattle.merge_table.proofs.HeadIs.{automata-stand, laid-actions, laid-edges}
 use Rattle.merge_table.proofs.ClausesAre.{capped-most, capped-add}
-use Rattle.merge_table.proofs.EdgesAre.{noEdge, zeros, drop-zeros, under-yes, under-no, first-under, first-past, takerBy, takersFrom, Valid, edge-words}
+use Rattle.merge_table.proofs.EdgesAre.{listed-at, noEdge, zeros, drop-zeros, under-yes, under-no, first-under, first-past, takerBy, takersFrom, Valid, edge-words}
 use Rattle.merge_table.proofs.SyncIs.{root-stands}
 
 -- A, as the layout has it
@@ -149,21 +149,24 @@ module _ (m : Model) (lawful : Lawful m) (t rest : List ℕ) (e : t ≡ sheetWor
   total-is action few =
       ap (λ (p : Planned). p .count) (plan-is t (ownOf t) (countsOf t lay action) m action (rootOf t lay) lawful (root-stands m lawful t rest e) (told action)) ∙ sym (cap-small (moveCount m action (m .tree)) few)
 
+  -- of the automata from automaton i on, the first and those after it
+  module _ (i : ℕ) (x : Automaton) (xs : List Automaton) (q : drop i (m .automata) ≡ x ∷ xs) where
+    left-first : automaton m i ≡ x
+    left-first =
+        let z : i + 0 ≡ i = omega arith in
+        ap (λ k. getD (m .automata) k nobody) (sym z) ∙ sym (getD-drop i (m .automata) 0 nobody) ∙ ap (λ (l : List Automaton). getD l 0 nobody) q
+
+    left-rest : drop (suc i) (m .automata) ≡ xs
+    left-rest = let z : suc i ≡ i + 1 = omega arith in ap (λ c. drop c (m .automata)) z ∙ sym (drop-drop 1 i (m .automata)) ∙ ap (drop 1) q
+
   -- the takers that picks name, said in two ways
   same-takers : (action : ℕ) (picks : List ℕ) (xs : List Automaton) (i : ℕ) → drop i (m .automata) ≡ xs → takersIn m action picks (countUp i (length xs)) ≡ takersFrom action picks i xs
   unfolding takersIn takersFrom countUp flatMap
   same-takers action picks [] i q = refl
   same-takers action picks (x ∷ xs) i q =
-      let here : automaton m i ≡ x = first-of i x xs q in
-      let one : takerOf m action i (getD picks i 0) ≡ takerBy action i x (getD picks i 0) = taker-same (getD picks i 0) i x here in
-      let later : drop (suc i) (m .automata) ≡ xs = let z : suc i ≡ i + 1 = omega arith in ap (λ c. drop c (m .automata)) z ∙ sym (drop-drop 1 i (m .automata)) ∙ ap (drop 1) q in
-      ap₂ (λ (k l : List Taker). k ++ l) one (same-takers action picks xs (suc i) later)
+      let one : takerOf m action i (getD picks i 0) ≡ takerBy action i x (getD picks i 0) = taker-same (getD picks i 0) i x (left-first i x xs q) in
+      ap₂ (λ (k l : List Taker). k ++ l) one (same-takers action picks xs (suc i) (left-rest i x xs q))
     where
-      first-of : (j : ℕ) (y : Automaton) (ys : List Automaton) → drop j (m .automata) ≡ y ∷ ys → automaton m j ≡ y
-      first-of j y ys r =
-          let z : j + 0 ≡ j = omega arith in
-          ap (λ k. getD (m .automata) k nobody) (sym z) ∙ sym (getD-drop j (m .automata) 0 nobody) ∙ ap (λ (l : List Automaton). getD l 0 nobody) r
-
       taker-same : (pick j : ℕ) (y : Automaton) → automaton m j ≡ y → takerOf m action j pick ≡ takerBy action j y pick
       taker-same zero j y r = unfold takerOf takerBy in refl
       taker-same (suc k) j y r = unfold takerOf takerBy in ap (λ (w : Automaton). alone j (getD (under action (w .edges)) k noEdge)) r
@@ -174,10 +177,7 @@ module _ (m : Model) (lawful : Lawful m) (t rest : List ℕ) (e : t ≡ sheetWor
   unfolding Valid
   valid-picks action picks there [] i n q = tt
   valid-picks action picks there (x ∷ xs) i n q =
-      let later : drop (suc i) (m .automata) ≡ xs = let z : suc i ≡ i + 1 = omega arith in ap (λ c. drop c (m .automata)) z ∙ sym (drop-drop 1 i (m .automata)) ∙ ap (drop 1) q in
-      let z : i + 0 ≡ i = omega arith in
-      let here : automaton m i ≡ x = ap (λ k. getD (m .automata) k nobody) (sym z) ∙ sym (getD-drop i (m .automata) 0 nobody) ∙ ap (λ (l : List Automaton). getD l 0 nobody) q in
-      (bound (getD picks i 0) refl here, valid-picks action picks there xs (suc i) (omega arith) later)
+      (bound (getD picks i 0) refl (left-first i x xs q), valid-picks action picks there xs (suc i) (omega arith) (left-rest i x xs q))
     where
       bound : (p : ℕ) → getD picks i 0 ≡ p → automaton m i ≡ x → p ≤ length (under action (x .edges))
       bound zero r h = omega arith
@@ -219,14 +219,9 @@ module _ (m : Model) (lawful : Lawful m) (t rest : List ℕ) (e : t ≡ sheetWor
     one-edge : (k : ℕ) → k < length listed → edgeWordsAt t lay action (picksOf t lay cells k) ≡ lineWords (edgeLine (mergedEdge m action (getD listed k [])))
     one-edge k h =
         let named = move-named action few k h in
-        let fits : nodeCount (mergedEdge m action (takersFrom action (picksOf t lay cells k) 0 (m .automata)) .update) ≤ most = rw named (small (getD listed k []) (listed-at listed k h)) in
+        let fits : nodeCount (mergedEdge m action (takersFrom action (picksOf t lay cells k) 0 (m .automata)) .update) ≤ most = rw named (small (getD listed k []) (listed-at [] listed k h)) in
         edge-words m lawful t rest e action (picksOf t lay cells k) (move-valid action few k h) fits ∙
         ap (λ (ts : List Taker). lineWords (edgeLine (mergedEdge m action ts))) named
-      where
-        listed-at : (l : List (List Taker)) (j : ℕ) → j < length l → List·Memᴰ (getD l j []) l
-        listed-at [] j q = absurd (omega arith)
-        listed-at (y ∷ l) zero q = List·Memᴰ·head refl
-        listed-at (y ∷ l) (suc j) q = List·Memᴰ·tail (listed-at l j (omega arith))
 
     edges-from : (n k : ℕ) → k + n ≡ length listed → edgesFrom t lay cells action k n ≡ edgeWords (map (mergedEdge m action) (drop k listed))
     unfolding edgesFrom flatMap

@@ -1,6 +1,6 @@
 -- The tests of depth are row 33's: of the merged init and inv, and of a merged edge's update.
 use mathlib.Core.Path.{_≡_, refl, sym, ap, ap₂, _∙_}
-use mathlib.Core.Bool.{Bool, true, false, _||_}
+use mathlib.Core.Bool.{Bool, true, false, _||_, or-false}
 use mathlib.Core.List.{List, [], _∷_, _++_, map, List·Memᴰ, List·Memᴰ·head, List·Memᴰ·tail}
 use Prim.Native.Nat.{ℕ, suc, max, _≤_, _<_}
 use native.Mathlib.Omega.{arith}
@@ -146,8 +146,4 @@ module _ (m : Model) (lawful : Lawful m) (t rest : List ℕ) (e : t ≡ sheetWor
       let us = map (λ (y : Taker). y .edge .update) ts in
       edge-deep m lawful t rest e action picks valid ∙
       sym (all-deep (us ++ pointerMoves m ts) ∙ exists-append (λ p. ltb 23 (depth p)) us (pointerMoves m ts) ∙
-      ap₂ (λ (a b : Bool). a || b) (updates-deep ts) (moves-shallow m ts) ∙ or-none (exists (λ (y : Taker). ltb 23 (depth (y .edge .update))) ts))
-    where
-      or-none : (b : Bool) → (b || false) ≡ b
-      or-none true = refl
-      or-none false = refl
+      ap₂ (λ (a b : Bool). a || b) (updates-deep ts) (moves-shallow m ts) ∙ or-false (exists (λ (y : Taker). ltb 23 (depth (y .edge .update))) ts))

@@ -1,6 +1,6 @@
 -- A merged edge's words are those of the merged model's edge with the takers that the picks name.
 use mathlib.Core.Path.{_≡_, refl, sym, ap, ap₂, _∙_}
-use mathlib.Core.Bool.{Bool, true, false, _&&_, _||_}
+use mathlib.Core.Bool.{Bool, true, false, _&&_, _||_, or-false}
 use mathlib.Core.List.{List, [], _∷_, _++_, append-assoc, append-nil, map, map-append, flatMap, List·Memᴰ, List·Memᴰ·head, List·Memᴰ·tail}
 use Prim.Native.Nat.{ℕ, zero, suc, _+_, _-_, _*_, _≤_, _<_}
 use native.Mathlib.Omega.{arith}
@@ -193,15 +193,17 @@ module _ (m : Model) (t : List ℕ) (i place : ℕ) (e : Edge) (rest : List ℕ)
         updates = rw (isnt, updateAt) (u ∙ sym one);
         moves = rw (isnt, moveAt, k, from-stands t rest e place at, to-stands t rest e place at, old-code (pointer m i) kh, new-code (pointer m i) kh, number-code (e .from) hf, number-code (e .to) ht);
         operands-add = λ sum h. rw (isnt, takerOperands) (ap capped (omega arith));
-        deep = rw (isnt, updateDeep) (deeper-stands t (e .update) 23 (updatePlace t place) rest hd update-place ∙ or-none (ltb 23 (depth (e .update))));
+        deep = rw (isnt, updateDeep) (deeper-stands t (e .update) 23 (updatePlace t place) rest hd update-place ∙ sym (or-false (ltb 23 (depth (e .update)))));
       }
     where
       small : length (m .variables) < 32768 → i < 32768 → pointer m i < 65536
       small a b = unfold pointer in omega arith
 
-      or-none : (b : Bool) → b ≡ (b || false)
-      or-none true = refl
-      or-none false = refl
+-- what stands in a list is of it
+pub listed-at : {A : Type 0} (d : A) (l : List A) (k : ℕ) → k < length l → List·Memᴰ (getD l k d) l
+listed-at d [] k h = absurd (omega arith)
+listed-at d (y ∷ l) zero h = List·Memᴰ·head refl
+listed-at d (y ∷ l) (suc k) h = List·Memᴰ·tail (listed-at d l k (omega arith))
 
 -- the edges that stand at a lawful automaton's place
 taker-adds : (m : Model) (t : List ℕ) (A action i pick at : ℕ) (x : Automaton) (rest : List ℕ) → LawfulAutomaton (m .variables) A x → length (m .variables) < 32768 → i < 32768
@@ -217,15 +219,10 @@ taker-adds m t A action i (suc j) at x rest lawful hv hi some e few =
     let s = under-stands t action (x .edges) j first rest (omega arith) (first-edge t rest x at e) in
     let above = under-above t action j (length (x .edges)) first some (unfold firstEdge in reach-above t (edgesAt t at) 1 some (omega arith)) in
     let d = getD (under action (x .edges)) j noEdge in
-    let l = lawful .edges d (keep-out (λ y. eqb (y .action) action) (x .edges) (member-at (under action (x .edges)) j (omega arith)) .0) in
+    let l = lawful .edges d (keep-out (λ y. eqb (y .action) action) (x .edges) (listed-at noEdge (under action (x .edges)) j (omega arith)) .0) in
     let few-locations = lawful .few-locations in
     let it : takenAt t action (suc j) (edgesAt t at) ≡ place = rw (z, one, n, takenAt) in
     rw it (adds-one m t i place d (s .0) (s .1) above hv hi (omega (arith, l .from)) (omega (arith, l .to)) (readable (d .update) (l .update)))
-  where
-    member-at : (l : List Edge) (k : ℕ) → k < length l → List·Memᴰ (getD l k noEdge) l
-    member-at [] k h = absurd (omega arith)
-    member-at (y ∷ l) zero h = List·Memᴰ·head refl
-    member-at (y ∷ l) (suc k) h = List·Memᴰ·tail (member-at l k (omega arith))
 
 -- What the places of all automata add.
 pub record AddsAll (m : Model) (t : List ℕ) (i : ℕ) (places : List ℕ) (ts : List Taker) : Type 0 where

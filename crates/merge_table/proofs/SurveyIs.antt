@@ -1,6 +1,6 @@
 -- The survey of the merged predicates says what rows 33 and 34 ask.
 use mathlib.Core.Path.{_≡_, refl, sym, ap, ap₂, _∙_}
-use mathlib.Core.Bool.{Bool, true, false, _||_, or-assoc}
+use mathlib.Core.Bool.{Bool, true, false, _||_, or-assoc, or-false}
 use mathlib.Core.List.{List, [], _∷_, _++_, map, map-append, flatMap}
 use Prim.Native.Nat.{ℕ, zero, suc, _+_, _≤_, _<_}
 use native.Mathlib.Omega.{arith}
@@ -52,10 +52,6 @@ unfolding sum
 sum-append [] ys = omega arith
 sum-append (x ∷ xs) ys = let h = sum-append xs ys in omega arith
 
-or-none : (b : Bool) → b ≡ (b || false)
-or-none true = refl
-or-none false = refl
-
 abbrev nodesOf : List Pred → ℕ
 nodesOf ps = sum (map nodeCount ps)
 
@@ -65,7 +61,7 @@ over s ps = surveyed (s .deep || exists isTooDeep ps) (capped (s .nodes + nodesO
 
 over-none : (s : Survey) → s .nodes ≤ most → s ≡ over s []
 unfolding exists sum
-over-none s h = let z : s .nodes ≡ s .nodes + 0 = omega arith in ap₂ surveyed (or-none (s .deep)) (capped-is (s .nodes) h ∙ ap capped z)
+over-none s h = let z : s .nodes ≡ s .nodes + 0 = omega arith in ap₂ surveyed (sym (or-false (s .deep))) (capped-is (s .nodes) h ∙ ap capped z)
 
 over-more : (s : Survey) (ps qs : List Pred) → over (over s ps) qs ≡ over s (ps ++ qs)
 over-more s ps qs =
@@ -100,7 +96,7 @@ module _ (m : Model) (lawful : Lawful m) (t rest : List ℕ) (e : t ≡ sheetWor
         let p = update (getD listed k []) in
         let deep = edge-too-deep m lawful t rest e action _ valid ∙ ap (λ ts. isTooDeep (update ts)) named in
         let nodes = edge-nodes m lawful t rest e action _ valid ∙ ap (λ ts. capped (nodeCount (update ts))) named in
-        ap₂ surveyed (ap (λ b. s .deep || b) (deep ∙ or-none (isTooDeep p)))
+        ap₂ surveyed (ap (λ b. s .deep || b) (deep ∙ sym (or-false (isTooDeep p))))
         (ap (λ n. capped (s .nodes + n)) nodes ∙ capped-both (s .nodes) (nodeCount p) ∙ ap (λ n. capped (s .nodes + n)) (sym (add-zero (nodeCount p))))
 
     survey-from : (n k : ℕ) (s : Survey) → k + n ≡ length listed → s .nodes ≤ most → surveyFrom t lay cells action k n s ≡ over s (updates (drop k listed))
