@@ -1,11 +1,8 @@
 -- Each way out of the code of src/words.rt, and the words of small numbers.
-use mathlib.Core.Path.{_≡_, refl, ap}
-use mathlib.Core.Bool.{Bool, true, false}
-use Prim.Native.Nat.{ℕ, _+_, _-_, _*_, _%_, _≤_, _<_}
+use mathlib.Core.Path.{_≡_, refl}
+use Prim.Native.Nat.{ℕ, _+_, _-_, _%_, _≤_, _<_}
 use native.Mathlib.Omega.{arith}
-use native.Mathlib.Nat.{mod-eq-of-lt}
-use lib.Dec.{leb}
-use borrow.Author.Tests.{leb-true, leb-false, le-leb, lt-leb}
+use borrow.Author.Tests.{le-leb, lt-leb}
 use Rattle.node_words.specs.declared.Node.the-variants.{All, Imp, Eq, Number, Old, New}
 use Rattle.node_words.specs.Nodes.{meant, fitted, wordFor}
 use Rattle.merge_append.specs.Append.{narrow}

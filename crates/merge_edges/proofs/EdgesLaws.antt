@@ -1,13 +1,12 @@
 -- Each way out of the code of src/edges.rt.
-use mathlib.Core.Path.{_≡_, refl, sym, ap, _∙_}
-use mathlib.Core.List.{List, [], _++_}
+use mathlib.Core.Path.{_≡_, ap}
+use mathlib.Core.List.{List}
 use Prim.Native.Nat.{ℕ, suc, _+_, _-_, _≤_, _<_}
 use native.Mathlib.Omega.{arith}
 use Rattle.table_places.specs.declared.layout.Layout.{Layout}
 use Rattle.merge_append.specs.Append.{Appended}
 use Rattle.merge_append.proofs.AppendLaws.{Underway, begun, on-by, ended}
 use Rattle.merge_edges.specs.declared.moves.ActionPlan.{ActionPlan}
-use Rattle.merge_edges.specs.Taking.{takers}
 use Rattle.merge_edges.specs.Edge.{edgeBy}
 use Rattle.merge_edges.specs.Moves.{planOf, picksOf, placesOf, lastAction}
 use Rattle.merge_edges.specs.Edges.{edgeWordsAt, edgesFrom, edgesUnder, edgesOf, edgesIn}

@@ -1,5 +1,5 @@
 -- Each way out of the code of src/moves.rt.
-use mathlib.Core.Path.{_≡_, refl, sym, ap, ap₂, _∙_, subst}
+use mathlib.Core.Path.{_≡_, refl, ap, ap₂, _∙_, subst}
 use mathlib.Core.Bool.{Bool, true, false}
 use mathlib.Core.List.{List}
 use Prim.Native.Nat.{ℕ, zero, suc, _+_, _-_, _≤_, _<_}
@@ -13,7 +13,7 @@ use Rattle.table_places.specs.Outline.{nodesPlace, afterPredicate, updatePlace,
 use Rattle.table_places.specs.Layout.{automataOf}
 use Rattle.table_places.proofs.CodeLaws.{at-most-all, at-most-cut}
 use Rattle.merge_moves.specs.declared.planning.Planned.{Planned}
-use Rattle.merge_moves.specs.Plan.{planAt, fillAt, PlansTree}
+use Rattle.merge_moves.specs.Plan.{PlansTree}
 use Rattle.merge_moves.specs.Pick.{pickAt}
 use Rattle.merge_append.specs.Append.{narrow}
 use Rattle.merge_append.specs.NodeWords.{capped}

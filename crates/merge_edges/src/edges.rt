@@ -3,7 +3,6 @@ use crate::edge::{self};
 use crate::moves::{self};
 use model::Model;
 use table_places::Layout;
-ghost use mathlib.Core.Path.{_≡_};
 ghost use Rattle.merge_append.specs.Append.{Appended};
 ghost use Rattle.merge_edges.specs.Edges.{edgeWordsAt, edgesFrom, edgesUnder, edgesIn};
 ghost use Rattle.merge_edges.specs.Moves.{picksOf};

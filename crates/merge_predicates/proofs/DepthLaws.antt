@@ -1,19 +1,20 @@
 -- Each way out of the code of src/depth.rt.
 use mathlib.Core.Path.{_≡_, refl, sym, ap, ap₂, _∙_}
 use mathlib.Core.Bool.{Bool, true, false, _||_}
-use mathlib.Core.List.{List, [], _∷_, _++_}
+use mathlib.Core.List.{List, [], _∷_}
 use Prim.Native.Nat.{ℕ, zero, suc, _+_, _-_, _≤_, _<_}
 use native.Mathlib.Omega.{arith}
-use native.Mathlib.Numerals.{sub-one, add-one}
-use lib.ListN.{length, getD, drop, drop-of-length-le, List·getD-eq-default}
+use native.Mathlib.Numerals.{sub-one}
+use lib.ListN.{length, getD, List·getD-eq-default}
 use lib.Dec.{ltb}
 use borrow.Author.Tests.{lt-ltb, le-ltb}
-use Rattle.model.specs.Bounds.{maxDepth}
 use Rattle.node_words.specs.declared.Node.{Node}
 use Rattle.node_words.specs.declared.Node.the-variants.{All, Any, Not, Imp, Eq, Le, Number, Old, New, Add, Sub, Mul, If, Stray}
 use Rattle.node_words.specs.Nodes.{meant, nodeOf}
 use Rattle.node_words.proofs.NodeLaws.{word-by, Other, by-others}
-use Rattle.table_places.specs.Outline.{reach, nodesPlace, afterPredicate, afterAutomaton, locationCount, firstLocation, automataIn, firstAutomaton}
+use Rattle.table_places.specs.declared.layout.Layout.{Layout}
+use Rattle.table_places.specs.Outline.{reach, nodesPlace, afterPredicate, locationCount, firstLocation}
+use Rattle.table_places.specs.Layout.{automataOf}
 use Rattle.merge_predicates.specs.declared.depth.Depth.{Depth}
 use Rattle.merge_append.specs.NodeWords.{capped}
 use Rattle.merge_predicates.specs.Clauses.{partAt}
@@ -139,26 +140,37 @@ module _ (t : List ℕ) (inv : Bool) (most left place : ℕ) (whole : Bool) (i :
 pub ruleset locations-deeper-laws = (locations-none, locations-deep, locations-on)
 
 -- `automata_deeper`
-module _ (t : List ℕ) (inv : Bool) (most left place : ℕ) (whole : Bool) (i : automataDeeper t inv most left place ≡ whole) where
-  pub automata-none : left ≡ 0 → false ≡ whole
+pub automata-begun : (t : List ℕ) (inv : Bool) (most : ℕ) (places : List ℕ) (count : ℕ) → automataDeeper t inv most places 0 (count - 0) ≡ automataDeeper t inv most places 0 count
+automata-begun t inv most places count = let z : count - 0 ≡ count = omega arith in ap (automataDeeper t inv most places 0) z
+
+module _ (t : List ℕ) (inv : Bool) (most : ℕ) (places : List ℕ) (i count : ℕ) (u : automataDeeper t inv most places i (count - i) ≡ automataDeeper t inv most places 0 count) where
+  whole-is : (x : Layout) → places ≡ x .sets → count ≡ automataOf x → automataDeeper t inv most places 0 count ≡ automataDeeper t inv most (x .sets) 0 (automataOf x)
+  whole-is x es ec = ap₂ (λ (ps : List ℕ) (n : ℕ). automataDeeper t inv most ps 0 n) es ec
+
+  pub automata-none : count ≤ i → (x : Layout) → places ≡ x .sets → count ≡ automataOf x → false ≡ automataDeeper t inv most (x .sets) 0 (automataOf x)
   unfolding automataDeeper
-  automata-none z = rw z at i
+  automata-none h x es ec =
+      let n : count - i ≡ 0 = omega arith in
+      sym (ap (automataDeeper t inv most places i) n) ∙ u ∙ whole-is x es ec
 
-  module _ (y : left ≡ 0 → ⊥) (l f : ℕ) (b : Bool) (el : l ≡ locationCount t place) (ef : f ≡ firstLocation t place) (eb : b ≡ locationsDeeper t inv most l f) where
-    split-automata : (n : ℕ) → (n ≡ 0 → ⊥) → automataDeeper t inv most n place ≡ whole → (b || automataDeeper t inv most (n - 1) (afterAutomaton t place)) ≡ whole
+  module _ (h : i < count) (p l f : ℕ) (b : Bool) (ep : p ≡ getD places i 0) (el : l ≡ locationCount t p) (ef : f ≡ firstLocation t p) (eb : b ≡ locationsDeeper t inv most l f) where
+    split-automata : (b || automataDeeper t inv most places (i + 1) (count - (i + 1))) ≡ automataDeeper t inv most places 0 count
     unfolding automataDeeper
-    split-automata zero z j = absurd (z refl)
-    split-automata (suc n) z j = rw (sub-one (suc n), eb, el, ef) j
+    split-automata =
+        let n : count - i ≡ suc (count - (i + 1)) = omega arith in
+        let here : b ≡ locationsDeeper t inv most (locationCount t (getD places i 0)) (firstLocation t (getD places i 0)) =
+        eb ∙ ap₂ (locationsDeeper t inv most) (el ∙ ap (locationCount t) ep) (ef ∙ ap (firstLocation t) ep) in
+        ap (λ c. c || automataDeeper t inv most places (i + 1) (count - (i + 1))) here ∙ sym (ap (automataDeeper t inv most places i) n) ∙ u
 
-    pub automata-deep : b ≡ true → true ≡ whole
-    automata-deep h = rw h at (split-automata left y i)
+    pub automata-deep : b ≡ true → (x : Layout) → places ≡ x .sets → count ≡ automataOf x → true ≡ automataDeeper t inv most (x .sets) 0 (automataOf x)
+    automata-deep q x es ec = (rw q at split-automata) ∙ whole-is x es ec
 
-    pub automata-on : b ≡ false → (p : ℕ) → p ≡ afterAutomaton t place → automataDeeper t inv most (left - 1) p ≡ whole
-    automata-on h p ep = rw ep (rw h at (split-automata left y i))
+    pub automata-on : b ≡ false → automataDeeper t inv most places (i + 1) (count - (i + 1)) ≡ automataDeeper t inv most places 0 count
+    automata-on q = rw q at split-automata
 
-pub ruleset automata-deeper-laws = (automata-none, automata-deep, automata-on)
+pub ruleset automata-deeper-laws = (automata-begun, automata-none, automata-deep, automata-on)
 
 -- `merged_deep`
-pub merged-deep-is : (t : List ℕ) (inv : Bool) (n first : ℕ) (r : Bool) → n ≡ automataIn t → first ≡ firstAutomaton t → r ≡ automataDeeper t inv 22 n first → r ≡ mergedDeep t inv
+pub merged-deep-is : (t : List ℕ) (x : Layout) (inv r : Bool) → r ≡ automataDeeper t inv 22 (x .sets) 0 (automataOf x) → r ≡ mergedDeep t x inv
 unfolding mergedDeep
-merged-deep-is t inv n first r en ef er = rw (er, en, ef)
+merged-deep-is t x inv r e = e

@@ -1,10 +1,11 @@
--- The words of the merged init, and of the merged inv.
+-- The words of the merged init, and of the merged inv. A layout says where the automata stand.
 use mathlib.Core.Bool.{Bool, true, false}
 use mathlib.Core.List.{List, [], _∷_, _++_}
 use Prim.Native.Nat.{ℕ, zero, suc, _+_}
 use lib.ListN.{getD}
-use Rattle.table_places.specs.Outline.{afterPredicate, afterAutomaton, locationCount, firstLocation}
-use Rattle.table_places.specs.Outline.{variablesIn, automataIn, firstAutomaton}
+use Rattle.table_places.specs.declared.layout.Layout.{Layout}
+use Rattle.table_places.specs.Outline.{afterPredicate, locationCount, firstLocation}
+use Rattle.table_places.specs.Layout.{automataOf}
 use Rattle.merge_append.specs.Runs.{nodesAt}
 use Rattle.merge_append.specs.NodeWords.{allNode, numberNode, oldNode, impNode, eqNode, pointerOf, capped}
 
@@ -27,11 +28,11 @@ module _ (t : List ℕ) (inv : Bool) where
   unfoldable pub automatonClauses : (k at : ℕ) → List ℕ
   automatonClauses k at = locationClauses k 0 (locationCount t at) (firstLocation t at)
 
-  -- for n automata, from automaton i at a place on, by their pointers after v variables
-  unfoldable pub automataClauses : (v i n at : ℕ) → List ℕ
-  automataClauses v i zero at = []
-  automataClauses v i (suc n) at =
-      automatonClauses (pointerOf v i) at ++ automataClauses v (i + 1) n (afterAutomaton t at)
+  -- for n automata, from automaton i on, by their pointers after v variables; `places` says where they stand
+  unfoldable pub automataClauses : (places : List ℕ) (v i n : ℕ) → List ℕ
+  automataClauses places v i zero = []
+  automataClauses places v i (suc n) =
+      automatonClauses (pointerOf v i) (getD places i 0) ++ automataClauses places v (i + 1) n
 
   -- how many nodes these clauses have, added to a sum; each has four of its own
   unfoldable pub locationNodes : (n at sum : ℕ) → ℕ
@@ -40,21 +41,23 @@ module _ (t : List ℕ) (inv : Bool) where
       locationNodes n (afterPredicate t (afterPredicate t at))
       (capped (capped (sum + 4) + getD t (partAt t inv at) 0))
 
-  unfoldable pub automataNodes : (n at sum : ℕ) → ℕ
-  automataNodes zero at sum = sum
-  automataNodes (suc n) at sum =
-      automataNodes n (afterAutomaton t at) (locationNodes (locationCount t at) (firstLocation t at) sum)
+  unfoldable pub automataNodes : (places : List ℕ) (i n sum : ℕ) → ℕ
+  automataNodes places i zero sum = sum
+  automataNodes places i (suc n) sum =
+      let at = getD places i 0 in
+      automataNodes places (i + 1) n (locationNodes (locationCount t at) (firstLocation t at) sum)
 
--- how many locations n automata have, added to a sum
-unfoldable pub locationTotal : (t : List ℕ) (n at sum : ℕ) → ℕ
-locationTotal t zero at sum = sum
-locationTotal t (suc n) at sum = locationTotal t n (afterAutomaton t at) (capped (sum + locationCount t at))
+-- how many locations n automata have, from automaton i on, added to a sum
+unfoldable pub locationTotal : (t places : List ℕ) (i n sum : ℕ) → ℕ
+locationTotal t places i zero sum = sum
+locationTotal t places i (suc n) sum =
+    locationTotal t places (i + 1) n (capped (sum + locationCount t (getD places i 0)))
 
 -- the count of nodes, `all K`, and the clauses
-unfoldable pub mergedNodes : (t : List ℕ) (inv : Bool) → ℕ
-mergedNodes t inv = automataNodes t inv (automataIn t) (firstAutomaton t) 1
+unfoldable pub mergedNodes : (t : List ℕ) (x : Layout) (inv : Bool) → ℕ
+mergedNodes t x inv = automataNodes t inv (x .sets) 0 (automataOf x) 1
 
-unfoldable pub mergedWords : (t : List ℕ) (inv : Bool) → List ℕ
-mergedWords t inv =
-    mergedNodes t inv ∷ allNode (locationTotal t (automataIn t) (firstAutomaton t) 0) ∷
-    automataClauses t inv (variablesIn t) 0 (automataIn t) (firstAutomaton t)
+unfoldable pub mergedWords : (t : List ℕ) (x : Layout) (inv : Bool) → List ℕ
+mergedWords t x inv =
+    mergedNodes t x inv ∷ allNode (locationTotal t (x .sets) 0 (automataOf x) 0) ∷
+    automataClauses t inv (x .sets) (x .variables) 0 (automataOf x)

@@ -2,15 +2,16 @@
 -- depth-of.
 use mathlib.Core.Bool.{Bool, true, false, _||_}
 use mathlib.Core.List.{List}
-use Prim.Native.Nat.{ℕ, zero, suc, _+_, max}
+use Prim.Native.Nat.{ℕ, zero, suc, _+_}
 use lib.ListN.{getD}
 use lib.Dec.{ltb}
 use Rattle.model.specs.Bounds.{maxDepth}
 use Rattle.model.specs.Predicate.{Word, allOf, anyOf, notWord, impWord, eqWord, leWord, numWord, oldWord, newWord}
 use Rattle.model.specs.Predicate.{addWord, subWord, mulWord, ifWord, stray}
 use Rattle.model.specs.Table.{wordOf}
-use Rattle.table_places.specs.Outline.{reach, nodesPlace, afterPredicate, afterAutomaton}
-use Rattle.table_places.specs.Outline.{locationCount, firstLocation, automataIn, firstAutomaton}
+use Rattle.table_places.specs.declared.layout.Layout.{Layout}
+use Rattle.table_places.specs.Outline.{reach, nodesPlace, afterPredicate, locationCount, firstLocation}
+use Rattle.table_places.specs.Layout.{automataOf}
 use Rattle.merge_predicates.specs.declared.depth.Depth.{Depth}
 use Rattle.merge_predicates.specs.Clauses.{partAt}
 use Rattle.merge_append.specs.NodeWords.{capped}
@@ -63,12 +64,13 @@ locationsDeeper t inv most zero at = false
 locationsDeeper t inv most (suc n) at =
     isDeeper t most (partAt t inv at) || locationsDeeper t inv most n (afterPredicate t (afterPredicate t at))
 
-unfoldable pub automataDeeper : (t : List ℕ) (inv : Bool) (most n at : ℕ) → Bool
-automataDeeper t inv most zero at = false
-automataDeeper t inv most (suc n) at =
-    locationsDeeper t inv most (locationCount t at) (firstLocation t at) ||
-    automataDeeper t inv most n (afterAutomaton t at)
+-- of n automata, from automaton i on; `places` says where they stand
+unfoldable pub automataDeeper : (t : List ℕ) (inv : Bool) (most : ℕ) (places : List ℕ) (i n : ℕ) → Bool
+automataDeeper t inv most places i zero = false
+automataDeeper t inv most places i (suc n) =
+    let at = getD places i 0 in
+    locationsDeeper t inv most (locationCount t at) (firstLocation t at) || automataDeeper t inv most places (i + 1) n
 
 -- so the merged init, two deeper, is too deep
-unfoldable pub mergedDeep : (t : List ℕ) (inv : Bool) → Bool
-mergedDeep t inv = automataDeeper t inv 22 (automataIn t) (firstAutomaton t)
+unfoldable pub mergedDeep : (t : List ℕ) (x : Layout) (inv : Bool) → Bool
+mergedDeep t x inv = automataDeeper t inv 22 (x .sets) 0 (automataOf x)

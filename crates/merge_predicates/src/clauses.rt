@@ -1,11 +1,13 @@
 // The merged init, and the merged inv: `all K` of `imp eq vI J` with that init (or inv), for each automaton's pointer
 // and location.
 use model::Model;
+use table_places::Layout;
 ghost use mathlib.Core.Path.{_≡_};
+ghost use Rattle.table_places.specs.Layout.{automataOf};
 ghost use Rattle.merge_append.specs.Append.{Appended};
 ghost use Rattle.merge_predicates.specs.Clauses.{partAt, clauseWords, locationClauses, automatonClauses};
-ghost use Rattle.merge_predicates.specs.Clauses.{automataClauses, locationNodes, automataNodes, locationTotal};
-ghost use Rattle.merge_predicates.specs.Clauses.{mergedNodes, mergedWords};
+ghost use Rattle.merge_predicates.specs.Clauses.{automataClauses, locationNodes, locationTotal, mergedNodes};
+ghost use Rattle.merge_predicates.specs.Clauses.{mergedWords};
 
 // Of the location at a place, its init, or its inv.
 pub fn part(t: &[u32], inv: bool, at: usize) -> usize
@@ -78,29 +80,21 @@ fn at_automaton(
     at_locations(t, inv, k, count, first, out, at)
 }
 
-// For `count` automata with pointers after so many variables, of which the first stands at `first`.
-fn at_automata(
-    t: &[u32],
-    inv: bool,
-    variables: usize,
-    count: usize,
-    first: usize,
-    out: &mut [u32; Model::WORDS],
-    at: usize,
-) -> usize
-    ensures { λ r. ⌜ Appended (automataClauses (now (t .entry)) inv variables 0 count first)
+// For each automaton, by its pointer.
+fn at_automata(t: &[u32], x: Layout, inv: bool, out: &mut [u32; Model::WORDS], at: usize) -> usize
+    ensures { λ r. ⌜ Appended (automataClauses (now (t .entry)) inv (x .sets) (x .variables) 0 (automataOf x))
         at (now (out .entry)) (now (out .exit)) r ⌝ }
 {
+    let count = table_places::automata_of(x);
+    let variables = x.variables;
+    let places = x.sets;
     let mut i = 0;
-    let mut left = count;
-    let mut place = first;
     let mut next = at;
-    while left != 0 {
+    while i < count {
         let pointer = merge_append::pointer(variables, i);
+        let place = places[i];
         next = at_automaton(t, inv, pointer, place, out, next);
-        place = table_places::after_automaton(t, place);
         i += 1;
-        left -= 1;
     }
     next
 }
@@ -121,56 +115,46 @@ fn location_nodes(t: &[u32], inv: bool, count: usize, first: usize, sum: usize) 
     total
 }
 
-// The same for so many automata.
-fn automata_nodes(t: &[u32], inv: bool, count: usize, first: usize, sum: usize) -> usize
-    ensures { λ r. ⌜ r ≡ automataNodes (now (t .entry)) inv count first sum ⌝ }
+// How many locations all automata have.
+fn location_total(t: &[u32], x: Layout) -> usize
+    ensures { λ r. ⌜ r ≡ locationTotal (now (t .entry)) (x .sets) 0 (automataOf x) 0 ⌝ }
 {
-    let mut left = count;
-    let mut place = first;
-    let mut total = sum;
-    while left != 0 {
-        let locations = table_places::location_count(t, place);
-        let start = table_places::first_location(t, place);
-        total = location_nodes(t, inv, locations, start, total);
-        place = table_places::after_automaton(t, place);
-        left -= 1;
-    }
-    total
-}
-
-// How many locations so many automata have.
-fn location_total(t: &[u32], count: usize, first: usize) -> usize
-    ensures { λ r. ⌜ r ≡ locationTotal (now (t .entry)) count first 0 ⌝ }
-{
-    let mut left = count;
-    let mut place = first;
+    let count = table_places::automata_of(x);
+    let places = x.sets;
+    let mut i = 0;
     let mut total = 0;
-    while left != 0 {
+    while i < count {
+        let place = places[i];
         total = merge_append::add(total, table_places::location_count(t, place));
-        place = table_places::after_automaton(t, place);
-        left -= 1;
+        i += 1;
     }
     total
 }
 
 // The nodes of the merged init, or of the merged inv.
-pub fn merged_nodes(t: &[u32], inv: bool) -> usize
-    ensures { λ r. ⌜ r ≡ mergedNodes (now (t .entry)) inv ⌝ }
+pub fn merged_nodes(t: &[u32], x: Layout, inv: bool) -> usize
+    ensures { λ r. ⌜ r ≡ mergedNodes (now (t .entry)) x inv ⌝ }
 {
-    let automata = table_places::automata(t);
-    let first = table_places::first_automaton(t);
-    automata_nodes(t, inv, automata, first, 1)
+    let count = table_places::automata_of(x);
+    let places = x.sets;
+    let mut i = 0;
+    let mut total = 1;
+    while i < count {
+        let place = places[i];
+        let locations = table_places::location_count(t, place);
+        let start = table_places::first_location(t, place);
+        total = location_nodes(t, inv, locations, start, total);
+        i += 1;
+    }
+    total
 }
 
 // The merged init, or the merged inv, with its count of nodes.
-pub fn merged(t: &[u32], inv: bool, out: &mut [u32; Model::WORDS], at: usize) -> usize
-    ensures { λ r. ⌜ Appended (mergedWords (now (t .entry)) inv) at (now (out .entry)) (now (out .exit)) r ⌝ }
+pub fn merged(t: &[u32], x: Layout, inv: bool, out: &mut [u32; Model::WORDS], at: usize) -> usize
+    ensures { λ r. ⌜ Appended (mergedWords (now (t .entry)) x inv) at (now (out .entry)) (now (out .exit)) r ⌝ }
 {
-    let automata = table_places::automata(t);
-    let first = table_places::first_automaton(t);
-    let a = merge_append::put(merged_nodes(t, inv), out, at);
-    let operands = location_total(t, automata, first);
+    let a = merge_append::put(merged_nodes(t, x, inv), out, at);
+    let operands = location_total(t, x);
     let b = merge_append::put(merge_append::all_node(operands), out, a);
-    let variables = table_places::variables(t);
-    at_automata(t, inv, variables, automata, first, out, b)
+    at_automata(t, x, inv, out, b)
 }

@@ -1,9 +1,11 @@
 // How deep the predicates nest that the merged ones take in (row 33).
 use crate::clauses::{self};
 use node_words::Node;
+use table_places::Layout;
 ghost use mathlib.Core.Path.{_≡_};
 ghost use lib.ListN.{getD};
 ghost use Rattle.node_words.specs.Nodes.{meant};
+ghost use Rattle.table_places.specs.Layout.{automataOf};
 ghost use Rattle.merge_predicates.specs.Depths.{arity, operandsOf, greater, depthAt, isDeeper};
 ghost use Rattle.merge_predicates.specs.Depths.{locationsDeeper, automataDeeper, mergedDeep};
 
@@ -91,28 +93,28 @@ fn locations_deeper(t: &[u32], inv: bool, most: usize, count: usize, first: usiz
     false
 }
 
-fn automata_deeper(t: &[u32], inv: bool, most: usize, count: usize, first: usize) -> bool
-    ensures { λ r. ⌜ r ≡ automataDeeper (now (t .entry)) inv most count first ⌝ }
+// The same of all automata.
+fn automata_deeper(t: &[u32], x: Layout, inv: bool, most: usize) -> bool
+    ensures { λ r. ⌜ r ≡ automataDeeper (now (t .entry)) inv most (x .sets) 0 (automataOf x) ⌝ }
 {
-    let mut left = count;
-    let mut place = first;
-    while left != 0 {
+    let count = table_places::automata_of(x);
+    let places = x.sets;
+    let mut i = 0;
+    while i < count {
+        let place = places[i];
         let locations = table_places::location_count(t, place);
         let start = table_places::first_location(t, place);
         if locations_deeper(t, inv, most, locations, start) {
             return true;
         }
-        place = table_places::after_automaton(t, place);
-        left -= 1;
+        i += 1;
     }
     false
 }
 
 // Is the merged init, or the merged inv, too deep? It nests two deeper than what it takes in.
-pub fn merged_deep(t: &[u32], inv: bool) -> bool
-    ensures { λ r. ⌜ r ≡ mergedDeep (now (t .entry)) inv ⌝ }
+pub fn merged_deep(t: &[u32], x: Layout, inv: bool) -> bool
+    ensures { λ r. ⌜ r ≡ mergedDeep (now (t .entry)) x inv ⌝ }
 {
-    let automata = table_places::automata(t);
-    let first = table_places::first_automaton(t);
-    automata_deeper(t, inv, model::Model::DEPTH - 2, automata, first)
+    automata_deeper(t, x, inv, model::Model::DEPTH - 2)
 }

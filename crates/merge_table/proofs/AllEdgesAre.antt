@@ -1,7 +1,7 @@
 -- The words of all merged edges are those of the merged model's edges.
 use mathlib.Core.Path.{_≡_, refl, sym, ap, ap₂, _∙_}
 use mathlib.Core.Bool.{Bool, true, false}
-use mathlib.Core.List.{List, [], _∷_, _++_, append-assoc, map, map-append, flatMap, List·Memᴰ, List·Memᴰ·head, List·Memᴰ·tail, List·Memᴰ·not-nil}
+use mathlib.Core.List.{List, [], _∷_, _++_, map, map-append, flatMap, List·Memᴰ, List·Memᴰ·head, List·Memᴰ·tail, List·Memᴰ·not-nil}
 use Prim.Native.Nat.{ℕ, zero, suc, _+_, _-_, _≤_, _<_}
 use native.Mathlib.Omega.{arith}
 use native.Mathlib.Nat.{zero-add, add-zero}
@@ -10,19 +10,17 @@ use lib.ListN.{length, getD, drop, replicate, length-map, length-replicate, drop
 use lib.Seq.{sets, sets-eq, drop-cons, drop-drop, getD-drop}
 use lib.Dec.{eqb}
 use Rattle.model.specs.Basic.{keep, countUp}
-use Rattle.model.specs.Bounds.{maxAutomata, maxEdges, maxTreeNodes}
+use Rattle.model.specs.Bounds.{maxEdges}
 use Rattle.model.specs.Predicate.{nodeCount}
 use Rattle.model.specs.Model.{Edge, Automaton, Model, nobody, automaton, edgeTotal}
 use Rattle.model.specs.Rules.{Taker}
 use Rattle.model.specs.Lawful.{Lawful}
-use Rattle.model.specs.Lines.{edgeLine, automatonLines}
+use Rattle.model.specs.Lines.{edgeLine}
 use Rattle.model.specs.Table.{lineWords, sheetWords}
 use Rattle.model.specs.Moves.{under, alone, moves, moveCount}
 use Rattle.model.specs.Linear.{mergedEdge, mergedEdges}
 use Rattle.model.proofs.Count.{moves-length}
 use Rattle.merge_moves.specs.declared.planning.Planned.{Planned}
-use Rattle.merge_moves.specs.Plan.{planAt, fillAt}
-use Rattle.merge_moves.specs.Pick.{pickAt}
 use Rattle.merge_moves.specs.Takers.{takerOf, takersIn, takersOf}
 use Rattle.merge_moves.proofs.CappingLaws.{cap-small}
 use Rattle.merge_moves.proofs.Plans.{Told}
@@ -40,10 +38,10 @@ use Rattle.merge_edges.specs.Taking.{isUnder}
 use Rattle.merge_edges.specs.Moves.{oneMore, underFrom, underAt, countsFrom, countsOf, rootOf, cellsOf, moveTotal, picksOf, lastAction}
 use Rattle.merge_edges.specs.Edges.{edgeWordsAt, edgesFrom, edgesUnder, edgesOf, edgesIn}
 use Rattle.merge_edges.proofs.MovesLaws.{more-here, more-not, last-all}
-use Rattle.merge_table.proofs.Standing.{narrow-is, automata-cons, ownOf}
-use Rattle.merge_table.proofs.HeadIs.{automata-stand, laid-actions}
+use Rattle.merge_table.proofs.Standing.{narrow-is, automata-cons, Along, along-first, along-rest, ownOf}
+use Rattle.merge_table.proofs.HeadIs.{automata-stand, laid-actions, laid-edges}
 use Rattle.merge_table.proofs.ClausesAre.{capped-most, capped-add}
-use Rattle.merge_table.proofs.EdgesAre.{noEdge, zeros, drop-zeros, under-yes, under-no, first-under, first-past, Starts, starts-first, starts-rest, layout-starts, takerBy, takersFrom, Valid, edge-words}
+use Rattle.merge_table.proofs.EdgesAre.{listed-at, noEdge, zeros, drop-zeros, under-yes, under-no, first-under, first-past, takerBy, takersFrom, Valid, edge-words}
 use Rattle.merge_table.proofs.SyncIs.{root-stands}
 
 -- A, as the layout has it
@@ -98,13 +96,13 @@ abbrev countOf : ℕ → Automaton → ℕ
 countOf action x = length (under action (x .edges))
 
 counts-are : (t edges : List ℕ) (action : ℕ) (xs : List Automaton) (i at : ℕ) (rest : List ℕ) → ((x : Automaton) → List·Memᴰ x xs → length (x .edges) ≤ maxEdges)
-    → drop at t ≡ automatonWords xs ++ rest → Starts t edges i at (length xs) → countsFrom t edges action i (length xs) ≡ map (countOf action) xs
+    → drop at t ≡ automatonWords xs ++ rest → Along t (edgesAt t) edges i at (length xs) → countsFrom t edges action i (length xs) ≡ map (countOf action) xs
 unfolding countsFrom underAt
 counts-are t edges action [] i at rest few e starts = refl
 counts-are t edges action (x ∷ xs) i at rest few e starts =
     let f = automata-cons t at x xs rest e in
     let others = automatonWords xs ++ rest in
-    let place : getD edges i 0 ≡ edgesAt t at = starts-first t edges i at (length xs) starts in
+    let place : getD edges i 0 ≡ edgesAt t at = along-first t (edgesAt t) edges i at (length xs) starts in
     let n : getD t (edgesAt t at) 0 ≡ length (x .edges) = edge-count t others x at f in
     let some = few x (List·Memᴰ·head refl) in
     let k = kept-few action (x .edges) in
@@ -116,7 +114,7 @@ counts-are t edges action (x ∷ xs) i at rest few e starts =
     ap capped (zero-add (countOf action x)) ∙ sym (capped-is (countOf action x) small)) ∙ narrow-is (countOf action x) fits in
     rw (add-one i)
     (ap₂ (λ (y : ℕ) (l : List ℕ). y ∷ l) one
-    (counts-are t edges action xs (suc i) (afterAutomaton t at) rest (λ y q. few y (List·Memᴰ·tail q)) (after-automaton t others x at f) (starts-rest t edges i at (length xs) starts)))
+    (counts-are t edges action xs (suc i) (afterAutomaton t at) rest (λ y q. few y (List·Memᴰ·tail q)) (after-automaton t others x at f) (along-rest t (edgesAt t) edges i at (length xs) starts)))
 
 module _ (m : Model) (lawful : Lawful m) (t rest : List ℕ) (e : t ≡ sheetWords m ++ rest) where
   abbrev lay : Layout
@@ -133,7 +131,7 @@ module _ (m : Model) (lawful : Lawful m) (t rest : List ℕ) (e : t ≡ sheetWor
       let end : 0 + length ps ≡ n = omega arith in
       let room : 0 + length ps ≤ length (zeros 16) = omega (arith, length-replicate {A = ℕ} 16 0) in
       ap (λ c. sets (zeros 16) 0 (countsFrom t (lay .edges) action 0 c)) (all-automata m lawful t rest e) ∙
-      ap (sets (zeros 16) 0) (counts-are t (lay .edges) action (m .automata) 0 (firstAutomaton t) _ (λ x i. let h = edges-few (m .automata) x i in omega arith) (automata-stand m lawful t rest e) (layout-starts m lawful t rest e)) ∙
+      ap (sets (zeros 16) 0) (counts-are t (lay .edges) action (m .automata) 0 (firstAutomaton t) _ (λ x i. let h = edges-few (m .automata) x i in omega arith) (automata-stand m lawful t rest e) (laid-edges m lawful t rest e)) ∙
       sets-eq ps (zeros 16) 0 room ∙ ap (λ (l : List ℕ). ps ++ l) (ap (λ c. drop c (zeros 16)) end ∙ drop-zeros n 16 few)
 
   count-at : (action k : ℕ) → k < length (m .automata) → getD (countsOf t lay action) k 0 ≡ length (under action (automaton m k .edges))
@@ -151,21 +149,24 @@ module _ (m : Model) (lawful : Lawful m) (t rest : List ℕ) (e : t ≡ sheetWor
   total-is action few =
       ap (λ (p : Planned). p .count) (plan-is t (ownOf t) (countsOf t lay action) m action (rootOf t lay) lawful (root-stands m lawful t rest e) (told action)) ∙ sym (cap-small (moveCount m action (m .tree)) few)
 
+  -- of the automata from automaton i on, the first and those after it
+  module _ (i : ℕ) (x : Automaton) (xs : List Automaton) (q : drop i (m .automata) ≡ x ∷ xs) where
+    left-first : automaton m i ≡ x
+    left-first =
+        let z : i + 0 ≡ i = omega arith in
+        ap (λ k. getD (m .automata) k nobody) (sym z) ∙ sym (getD-drop i (m .automata) 0 nobody) ∙ ap (λ (l : List Automaton). getD l 0 nobody) q
+
+    left-rest : drop (suc i) (m .automata) ≡ xs
+    left-rest = let z : suc i ≡ i + 1 = omega arith in ap (λ c. drop c (m .automata)) z ∙ sym (drop-drop 1 i (m .automata)) ∙ ap (drop 1) q
+
   -- the takers that picks name, said in two ways
   same-takers : (action : ℕ) (picks : List ℕ) (xs : List Automaton) (i : ℕ) → drop i (m .automata) ≡ xs → takersIn m action picks (countUp i (length xs)) ≡ takersFrom action picks i xs
   unfolding takersIn takersFrom countUp flatMap
   same-takers action picks [] i q = refl
   same-takers action picks (x ∷ xs) i q =
-      let here : automaton m i ≡ x = first-of i x xs q in
-      let one : takerOf m action i (getD picks i 0) ≡ takerBy action i x (getD picks i 0) = taker-same (getD picks i 0) i x here in
-      let later : drop (suc i) (m .automata) ≡ xs = let z : suc i ≡ i + 1 = omega arith in ap (λ c. drop c (m .automata)) z ∙ sym (drop-drop 1 i (m .automata)) ∙ ap (drop 1) q in
-      ap₂ (λ (k l : List Taker). k ++ l) one (same-takers action picks xs (suc i) later)
+      let one : takerOf m action i (getD picks i 0) ≡ takerBy action i x (getD picks i 0) = taker-same (getD picks i 0) i x (left-first i x xs q) in
+      ap₂ (λ (k l : List Taker). k ++ l) one (same-takers action picks xs (suc i) (left-rest i x xs q))
     where
-      first-of : (j : ℕ) (y : Automaton) (ys : List Automaton) → drop j (m .automata) ≡ y ∷ ys → automaton m j ≡ y
-      first-of j y ys r =
-          let z : j + 0 ≡ j = omega arith in
-          ap (λ k. getD (m .automata) k nobody) (sym z) ∙ sym (getD-drop j (m .automata) 0 nobody) ∙ ap (λ (l : List Automaton). getD l 0 nobody) r
-
       taker-same : (pick j : ℕ) (y : Automaton) → automaton m j ≡ y → takerOf m action j pick ≡ takerBy action j y pick
       taker-same zero j y r = unfold takerOf takerBy in refl
       taker-same (suc k) j y r = unfold takerOf takerBy in ap (λ (w : Automaton). alone j (getD (under action (w .edges)) k noEdge)) r
@@ -176,10 +177,7 @@ module _ (m : Model) (lawful : Lawful m) (t rest : List ℕ) (e : t ≡ sheetWor
   unfolding Valid
   valid-picks action picks there [] i n q = tt
   valid-picks action picks there (x ∷ xs) i n q =
-      let later : drop (suc i) (m .automata) ≡ xs = let z : suc i ≡ i + 1 = omega arith in ap (λ c. drop c (m .automata)) z ∙ sym (drop-drop 1 i (m .automata)) ∙ ap (drop 1) q in
-      let z : i + 0 ≡ i = omega arith in
-      let here : automaton m i ≡ x = ap (λ k. getD (m .automata) k nobody) (sym z) ∙ sym (getD-drop i (m .automata) 0 nobody) ∙ ap (λ (l : List Automaton). getD l 0 nobody) q in
-      (bound (getD picks i 0) refl here, valid-picks action picks there xs (suc i) (omega arith) later)
+      (bound (getD picks i 0) refl (left-first i x xs q), valid-picks action picks there xs (suc i) (omega arith) (left-rest i x xs q))
     where
       bound : (p : ℕ) → getD picks i 0 ≡ p → automaton m i ≡ x → p ≤ length (under action (x .edges))
       bound zero r h = omega arith
@@ -221,14 +219,9 @@ module _ (m : Model) (lawful : Lawful m) (t rest : List ℕ) (e : t ≡ sheetWor
     one-edge : (k : ℕ) → k < length listed → edgeWordsAt t lay action (picksOf t lay cells k) ≡ lineWords (edgeLine (mergedEdge m action (getD listed k [])))
     one-edge k h =
         let named = move-named action few k h in
-        let fits : nodeCount (mergedEdge m action (takersFrom action (picksOf t lay cells k) 0 (m .automata)) .update) ≤ most = rw named (small (getD listed k []) (listed-at listed k h)) in
+        let fits : nodeCount (mergedEdge m action (takersFrom action (picksOf t lay cells k) 0 (m .automata)) .update) ≤ most = rw named (small (getD listed k []) (listed-at [] listed k h)) in
         edge-words m lawful t rest e action (picksOf t lay cells k) (move-valid action few k h) fits ∙
         ap (λ (ts : List Taker). lineWords (edgeLine (mergedEdge m action ts))) named
-      where
-        listed-at : (l : List (List Taker)) (j : ℕ) → j < length l → List·Memᴰ (getD l j []) l
-        listed-at [] j q = absurd (omega arith)
-        listed-at (y ∷ l) zero q = List·Memᴰ·head refl
-        listed-at (y ∷ l) (suc j) q = List·Memᴰ·tail (listed-at l j (omega arith))
 
     edges-from : (n k : ℕ) → k + n ≡ length listed → edgesFrom t lay cells action k n ≡ edgeWords (map (mergedEdge m action) (drop k listed))
     unfolding edgesFrom flatMap

@@ -2,7 +2,7 @@
 use mathlib.Core.Path.{_≡_, refl, sym, ap, ap₂, _∙_}
 use mathlib.Core.Bool.{Bool, true, false}
 use mathlib.Core.List.{List, [], _∷_, _++_, append-assoc, map, map-append, flatMap, List·Memᴰ, List·Memᴰ·head, List·Memᴰ·tail}
-use Prim.Native.Nat.{ℕ, zero, suc, _+_, _-_, _*_, _≤_, _<_}
+use Prim.Native.Nat.{ℕ, zero, suc, _+_, _*_, _≤_, _<_}
 use native.Mathlib.Omega.{arith}
 use native.Mathlib.Nat.{add-zero, zero-add}
 use native.Mathlib.Numerals.{add-one}
@@ -14,23 +14,26 @@ use Rattle.model.specs.Bounds.{bias, maxLocations}
 use Rattle.model.specs.Predicate.{Pred, all, imp, eq, num, old, preds, Word, allOf, impWord, eqWord, numWord, oldWord, words, wordsAll, wordsOf, operands, nodeCount}
 use Rattle.model.specs.Model.{Location, Automaton, Model}
 use Rattle.model.specs.Lawful.{Lawful}
-use Rattle.model.specs.Lines.{locationLines, automatonLines, composeLine}
+use Rattle.model.specs.Lines.{locationLines}
 use Rattle.model.specs.Table.{code, predWords, lineWords, sheetWords}
 use Rattle.model.specs.Linear.{pointer, atLocations, atAutomata, mergedInit, mergedInv}
 use Rattle.model.proofs.LinearLimits.{preds-count, locations-length, automata-length}
-use Rattle.table_places.specs.Outline.{nodesPlace, locationCount, firstLocation, afterPredicate, afterAutomaton, variablesIn, automataIn, firstAutomaton}
+use Rattle.table_places.specs.Outline.{nodesPlace, locationCount, firstLocation, afterPredicate, afterAutomaton, firstAutomaton}
+use Rattle.table_places.specs.declared.layout.Layout.{Layout}
+use Rattle.table_places.specs.Layout.{layoutOf, automataOf}
+use Rattle.table_places.proofs.LayoutLaws.{all-automata}
 use Rattle.table_places.proofs.OutlineLaws as O
-use Rattle.table_places.proofs.OutlineLaws.{locationWords, automatonWords, after-automaton, after-predicate, location-count, first-location, variables-in, automata-in}
+use Rattle.table_places.proofs.OutlineLaws.{locationWords, automatonWords, after-automaton, after-predicate, location-count, first-location}
 use Rattle.node_words.specs.declared.Node.the-variants.{All, Number, Old}
 use Rattle.node_words.specs.Nodes.{wordFor}
 use Rattle.node_words.proofs.NodeLaws.{unbiased-up, all-held, old-held, number-held}
 use Rattle.merge_append.specs.Append.{narrow}
 use Rattle.merge_append.specs.Runs.{nodesAt}
-use Rattle.merge_append.specs.NodeWords.{upward, allNode, numberNode, oldNode, pointerOf, most, capped}
+use Rattle.merge_append.specs.NodeWords.{allNode, numberNode, oldNode, pointerOf, most, capped}
 use Rattle.merge_predicates.specs.Clauses.{partAt, clauseWords, locationClauses, automatonClauses, automataClauses, locationNodes, automataNodes, locationTotal, mergedNodes, mergedWords}
 use Rattle.merge_append.proofs.NodeLaws.{capped-over, capped-is}
-use Rattle.merge_table.proofs.Standing.{narrow-is, run-length, nodes-stand, automata-cons}
-use Rattle.merge_table.proofs.HeadIs.{pointer-sum, upward-small, automata-stand, few-locations}
+use Rattle.merge_table.proofs.Standing.{narrow-is, run-length, nodes-stand, automata-cons, along-first, along-rest, Here}
+use Rattle.merge_table.proofs.HeadIs.{pointer-sum, upward-small, laid-variables, automata-stand, laid-places, few-locations}
 
 -- sums that stay within a word
 pub capped-most : (n : ℕ) → capped n ≤ most
@@ -72,21 +75,22 @@ module _ (t : List ℕ) (inv : Bool) where
       location-nodes-are n k (j + 1) (afterPredicate t (afterPredicate t at)) s (capped-most (capped (sum + 4) + g)) ∙
       ap (λ x. capped (x + length others)) (capped-add (sum + 4) g) ∙ capped-add (sum + 4 + g) (length others) ∙ ap capped size
 
-  pub automata-nodes-are : (n v i at sum : ℕ) → sum ≤ most → automataNodes t inv n at sum ≡ capped (sum + length (automataClauses t inv v i n at))
+  pub automata-nodes-are : (places : List ℕ) (n v i sum : ℕ) → sum ≤ most → automataNodes t inv places i n sum ≡ capped (sum + length (automataClauses t inv places v i n))
   unfolding automataNodes automataClauses automatonClauses
-  automata-nodes-are zero v i at sum h = rw (add-zero sum) (capped-is sum h)
-  automata-nodes-are (suc n) v i at sum h =
+  automata-nodes-are places zero v i sum h = rw (add-zero sum) (capped-is sum h)
+  automata-nodes-are places (suc n) v i sum h =
+      let at = getD places i 0 in
       let c = locationClauses t inv (pointerOf v i) 0 (locationCount t at) (firstLocation t at) in
-      let others = automataClauses t inv v (i + 1) n (afterAutomaton t at) in
+      let others = automataClauses t inv places v (i + 1) n in
       let first = location-nodes-are (locationCount t at) (pointerOf v i) 0 (firstLocation t at) sum h in
       let s = locationNodes t inv (locationCount t at) (firstLocation t at) sum in
       let few : s ≤ most = rw first (capped-most (sum + length c)) in
       let size : sum + length c + length others ≡ sum + length (c ++ others) = omega (arith, length-append c others) in
-      automata-nodes-are n v (i + 1) (afterAutomaton t at) s few ∙ ap (λ x. capped (x + length others)) first ∙ capped-add (sum + length c) (length others) ∙ ap capped size
+      automata-nodes-are places n v (i + 1) s few ∙ ap (λ x. capped (x + length others)) first ∙ capped-add (sum + length c) (length others) ∙ ap capped size
 
-  pub merged-nodes-are : mergedNodes t inv ≡ capped (1 + length (automataClauses t inv (variablesIn t) 0 (automataIn t) (firstAutomaton t)))
+  pub merged-nodes-are : (x : Layout) → mergedNodes t x inv ≡ capped (1 + length (automataClauses t inv (x .sets) (x .variables) 0 (automataOf x)))
   unfolding mergedNodes
-  merged-nodes-are = automata-nodes-are (automataIn t) (variablesIn t) 0 (firstAutomaton t) 1 (omega arith)
+  merged-nodes-are x = automata-nodes-are (x .sets) (automataOf x) (x .variables) 0 1 (omega arith)
 
 -- which of a location's predicates stands at its part's place
 abbrev pub Part : Bool → (Location → Pred) → Type 0
@@ -166,12 +170,12 @@ module _ (m : Model) (inv : Bool) (part : Location → Pred) (stands : Part inv 
       let o = locations-are ls i k (suc j) (afterPredicate t (afterPredicate t at)) rest ek hk (omega arith) (past-location t at l (locationWords ls ++ rest) f) in
       rw (add-one j) (ap₂ (λ (a b : List ℕ). a ++ b) c o ∙ sym (codes-cons p (atLocations m part i (suc j) ls)))
 
-  pub automata-clauses-are : (xs : List Automaton) (v i at : ℕ) (rest : List ℕ) → v ≡ length (m .variables) → v < 32768 → i + length xs < 32768
+  pub automata-clauses-are : (places : List ℕ) (xs : List Automaton) (v i at : ℕ) (rest : List ℕ) → v ≡ length (m .variables) → v < 32768 → i + length xs < 32768
       → ((x : Automaton) → List·Memᴰ x xs → length (x .locations) ≤ maxLocations)
-      → drop at t ≡ automatonWords xs ++ rest → automataClauses t inv v i (length xs) at ≡ codes (atAutomata m part i xs)
+      → drop at t ≡ automatonWords xs ++ rest → Here t places i at (length xs) → automataClauses t inv places v i (length xs) ≡ codes (atAutomata m part i xs)
   unfolding automataClauses automatonClauses atAutomata preds words wordsAll wordsOf
-  automata-clauses-are [] v i at rest ev hv h few e = refl
-  automata-clauses-are (x ∷ xs) v i at rest ev hv h few e =
+  automata-clauses-are places [] v i at rest ev hv h few e here = refl
+  automata-clauses-are places (x ∷ xs) v i at rest ev hv h few e here =
       let f = automata-cons t at x xs rest e in
       let others = automatonWords xs ++ rest in
       let n : locationCount t at ≡ length (x .locations) = location-count t others x at f in
@@ -180,75 +184,83 @@ module _ (m : Model) (inv : Bool) (part : Location → Pred) (stands : Part inv 
       let kp : pointerOf v i ≡ pointer m i = k ∙ point v i ev in
       let kh : pointerOf v i < 65536 = omega arith in
       let small : 0 + length (x .locations) < 65536 = omega arith in
-      let c : locationClauses t inv (pointerOf v i) 0 (locationCount t at) (firstLocation t at) ≡ codes (atLocations m part i 0 (x .locations)) =
+      let p = getD places i 0 in
+      let c : locationClauses t inv (pointerOf v i) 0 (locationCount t p) (firstLocation t p) ≡ codes (atLocations m part i 0 (x .locations)) =
+      ap (λ q. locationClauses t inv (pointerOf v i) 0 (locationCount t q) (firstLocation t q)) (along-first t (λ a. a) places i at (length xs) here) ∙
       ap (λ c. locationClauses t inv (pointerOf v i) 0 c (firstLocation t at)) n ∙ locations-are (x .locations) i (pointerOf v i) 0 (firstLocation t at) _ kp kh small (first-location t others x at f) in
-      let o = automata-clauses-are xs v (suc i) (afterAutomaton t at) rest ev hv (omega arith) (λ y q. few y (List·Memᴰ·tail q)) (after-automaton t others x at f) in
+      let o = automata-clauses-are places xs v (suc i) (afterAutomaton t at) rest ev hv (omega arith) (λ y q. few y (List·Memᴰ·tail q)) (after-automaton t others x at f)
+      (along-rest t (λ a. a) places i at (length xs) here) in
       rw (add-one i) (ap₂ (λ (a b : List ℕ). a ++ b) c o ∙ sym (codes-append (atLocations m part i 0 (x .locations)) (atAutomata m part (suc i) xs)))
     where
       point : (u j : ℕ) → u ≡ length (m .variables) → u + j ≡ pointer m j
       point u j q = unfold pointer in ap (λ w. w + j) q
 
 -- how many locations there are
-totals : (m : Model) (part : Location → Pred) (t : List ℕ) (xs : List Automaton) (i at sum : ℕ) (rest : List ℕ) → sum ≤ most → drop at t ≡ automatonWords xs ++ rest
-    → locationTotal t (length xs) at sum ≡ capped (sum + length (atAutomata m part i xs))
+totals : (m : Model) (part : Location → Pred) (t places : List ℕ) (xs : List Automaton) (i at sum : ℕ) (rest : List ℕ) → sum ≤ most → drop at t ≡ automatonWords xs ++ rest
+    → Here t places i at (length xs) → locationTotal t places i (length xs) sum ≡ capped (sum + length (atAutomata m part i xs))
 unfolding locationTotal atAutomata
-totals m part t [] i at sum rest h e = rw (add-zero sum) (capped-is sum h)
-totals m part t (x ∷ xs) i at sum rest h e =
+totals m part t places [] i at sum rest h e here = rw (add-zero sum) (capped-is sum h)
+totals m part t places (x ∷ xs) i at sum rest h e here =
     let f = automata-cons t at x xs rest e in
     let others = automatonWords xs ++ rest in
     let l = length (x .locations) in
-    let n : locationCount t at ≡ length (x .locations) = location-count t others x at f in
+    let n : locationCount t (getD places i 0) ≡ length (x .locations) = ap (locationCount t) (along-first t (λ a. a) places i at (length xs) here) ∙ location-count t others x at f in
     let more = atAutomata m part (suc i) xs in
     let size : sum + l + length more ≡ sum + length (atLocations m part i 0 (x .locations) ++ more) = omega (arith, length-append (atLocations m part i 0 (x .locations)) more, locations-length m part i 0 (x .locations)) in
-    ap (λ c. locationTotal t (length xs) (afterAutomaton t at) (capped (sum + c))) n ∙
-    totals m part t xs (suc i) (afterAutomaton t at) (capped (sum + l)) rest (capped-most (sum + l)) (after-automaton t others x at f) ∙
+    ap₂ (λ (j c : ℕ). locationTotal t places j (length xs) (capped (sum + c))) (add-one i) n ∙
+    totals m part t places xs (suc i) (afterAutomaton t at) (capped (sum + l)) rest (capped-most (sum + l)) (after-automaton t others x at f) (along-rest t (λ a. a) places i at (length xs) here) ∙
     capped-add (sum + l) (length more) ∙ ap capped size
 
 module _ (m : Model) (lawful : Lawful m) (t rest : List ℕ) (e : t ≡ sheetWords m ++ rest) where
+  abbrev lay : Layout
+  lay = layoutOf t
+
   module _ (inv : Bool) (part : Location → Pred) (stands : Part inv part) where
     abbrev clauses : List Pred
     clauses = atAutomata m part 0 (m .automata)
 
-    clauses-are : automataClauses t inv (variablesIn t) 0 (automataIn t) (firstAutomaton t) ≡ codes clauses
+    clauses-are : automataClauses t inv (lay .sets) (lay .variables) 0 (automataOf lay) ≡ codes clauses
     clauses-are =
         let fv = lawful .few-variables in
         let fn = lawful .few-automata in
-        ap₂ (λ v n. automataClauses t inv v 0 n (firstAutomaton t)) (variables-in t rest m e) (automata-in t rest m e) ∙
-        automata-clauses-are m inv part stands t (m .automata) (length (m .variables)) 0 (firstAutomaton t) _ refl (omega arith) (omega arith) (few-locations m lawful t rest e) (automata-stand m lawful t rest e)
+        ap₂ (λ v n. automataClauses t inv (lay .sets) v 0 n) (laid-variables m lawful t rest e) (all-automata m lawful t rest e) ∙
+        automata-clauses-are m inv part stands t (lay .sets) (m .automata) (length (m .variables)) 0 (firstAutomaton t) _ refl (omega arith) (omega arith) (few-locations m lawful t rest e)
+        (automata-stand m lawful t rest e) (laid-places m lawful t rest e)
 
     -- the count of nodes is the merged predicate's
-    nodes-are : mergedNodes t inv ≡ capped (nodeCount (all (preds clauses)))
+    nodes-are : mergedNodes t lay inv ≡ capped (nodeCount (all (preds clauses)))
     unfolding nodeCount words wordsAll wordsOf
     nodes-are =
-        merged-nodes-are t inv ∙ ap (λ (l : List ℕ). capped (1 + length l)) clauses-are ∙ ap (λ n. capped (1 + n)) (length-map (wordsAll (preds clauses)) code) ∙ ap capped (omega arith)
+        merged-nodes-are t inv lay ∙ ap (λ (l : List ℕ). capped (1 + length l)) clauses-are ∙ ap (λ n. capped (1 + n)) (length-map (wordsAll (preds clauses)) code) ∙ ap capped (omega arith)
 
-    words-are : nodeCount (all (preds clauses)) ≤ most → mergedWords t inv ≡ predWords (all (preds clauses))
+    words-are : nodeCount (all (preds clauses)) ≤ most → mergedWords t lay inv ≡ predWords (all (preds clauses))
     unfolding mergedWords predWords words wordsAll wordsOf
     words-are few =
         let fn = lawful .few-automata in
         let count : length clauses ≤ maxLocations * length (m .automata) = automata-length m part 0 (m .automata) (few-locations m lawful t rest e) in
         let small : length clauses ≤ most = omega arith in
-        let total : locationTotal t (automataIn t) (firstAutomaton t) 0 ≡ operands (preds clauses) =
-        ap (λ n. locationTotal t n (firstAutomaton t) 0) (automata-in t rest m e) ∙ totals m part t (m .automata) 0 (firstAutomaton t) 0 _ (omega arith) (automata-stand m lawful t rest e) ∙
+        let total : locationTotal t (lay .sets) 0 (automataOf lay) 0 ≡ operands (preds clauses) =
+        ap (λ n. locationTotal t (lay .sets) 0 n 0) (all-automata m lawful t rest e) ∙
+        totals m part t (lay .sets) (m .automata) 0 (firstAutomaton t) 0 _ (omega arith) (automata-stand m lawful t rest e) (laid-places m lawful t rest e) ∙
         ap capped (zero-add (length clauses)) ∙ sym (capped-is (length clauses) small) ∙ sym (preds-count clauses) in
-        let node : allNode (locationTotal t (automataIn t) (firstAutomaton t) 0) ≡ code (allOf (operands (preds clauses))) =
+        let node : allNode (locationTotal t (lay .sets) 0 (automataOf lay) 0) ≡ code (allOf (operands (preds clauses))) =
         ap allNode total ∙ all-code (operands (preds clauses)) (omega (arith, preds-count clauses)) in
-        let nodes : mergedNodes t inv ≡ nodeCount (all (preds clauses)) = nodes-are ∙ sym (capped-is (nodeCount (all (preds clauses))) few) in
+        let nodes : mergedNodes t lay inv ≡ nodeCount (all (preds clauses)) = nodes-are ∙ sym (capped-is (nodeCount (all (preds clauses))) few) in
         rw (nodes, node, clauses-are)
 
   -- the merged init's words and nodes, and the merged inv's
-  pub init-words : nodeCount (mergedInit m) ≤ most → mergedWords t false ≡ predWords (mergedInit m)
+  pub init-words : nodeCount (mergedInit m) ≤ most → mergedWords t (layoutOf t) false ≡ predWords (mergedInit m)
   unfolding mergedInit
   init-words = words-are false (λ l. l .init) init-part
 
-  pub inv-words : nodeCount (mergedInv m) ≤ most → mergedWords t true ≡ predWords (mergedInv m)
+  pub inv-words : nodeCount (mergedInv m) ≤ most → mergedWords t (layoutOf t) true ≡ predWords (mergedInv m)
   unfolding mergedInv
   inv-words = words-are true (λ l. l .inv) inv-part
 
-  pub init-nodes : mergedNodes t false ≡ capped (nodeCount (mergedInit m))
+  pub init-nodes : mergedNodes t (layoutOf t) false ≡ capped (nodeCount (mergedInit m))
   unfolding mergedInit
   init-nodes = nodes-are false (λ l. l .init) init-part
 
-  pub inv-nodes : mergedNodes t true ≡ capped (nodeCount (mergedInv m))
+  pub inv-nodes : mergedNodes t (layoutOf t) true ≡ capped (nodeCount (mergedInv m))
   unfolding mergedInv
   inv-nodes = nodes-are true (λ l. l .inv) inv-part

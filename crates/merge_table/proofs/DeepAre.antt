@@ -1,32 +1,33 @@
 -- The tests of depth are row 33's: of the merged init and inv, and of a merged edge's update.
 use mathlib.Core.Path.{_≡_, refl, sym, ap, ap₂, _∙_}
-use mathlib.Core.Bool.{Bool, true, false, _||_}
-use mathlib.Core.List.{List, [], _∷_, _++_, append-assoc, map, flatMap, List·Memᴰ, List·Memᴰ·head, List·Memᴰ·tail}
-use Prim.Native.Nat.{ℕ, zero, suc, max, _+_, _≤_, _<_}
+use mathlib.Core.Bool.{Bool, true, false, _||_, or-false}
+use mathlib.Core.List.{List, [], _∷_, _++_, map, List·Memᴰ, List·Memᴰ·head, List·Memᴰ·tail}
+use Prim.Native.Nat.{ℕ, suc, max, _≤_, _<_}
 use native.Mathlib.Omega.{arith}
+use native.Mathlib.Numerals.{add-one}
 use lib.IntN.{pos}
-use lib.ListN.{length, getD, drop}
+use lib.ListN.{length, drop}
 use lib.Dec.{ltb}
 use borrow.Author.Tests.{ltb-true, ltb-false, lt-ltb, le-ltb}
 use Rattle.model.specs.Basic.{exists}
-use Rattle.model.specs.Predicate.{Pred, all, imp, eq, num, old, new, preds, depth, depthAll, depthOf}
+use Rattle.model.specs.Predicate.{Pred, all, imp, eq, num, old, preds, depth, depthAll, depthOf}
 use Rattle.model.specs.Model.{Location, Automaton, Model}
 use Rattle.model.specs.Rules.{Taker}
 use Rattle.model.specs.Limits.{isTooDeep}
-use Rattle.model.specs.Lawful.{Lawful, LawfulLocation, LawfulAutomaton}
-use Rattle.model.specs.Table.{predWords, lineWords, sheetWords}
-use Rattle.model.specs.Lines.{locationLines}
+use Rattle.model.specs.Lawful.{Lawful, LawfulLocation}
+use Rattle.model.specs.Table.{sheetWords}
 use Rattle.model.specs.Linear.{pointer, atLocations, atAutomata, mergedInit, mergedInv, pointerMoves, mergedEdge}
 use Rattle.model.proofs.Tests.{exists-append}
-use Rattle.table_places.specs.Outline.{locationCount, firstLocation, afterPredicate, afterAutomaton, automataIn, firstAutomaton}
-use Rattle.table_places.proofs.OutlineLaws.{locationWords, automatonWords, after-automaton, location-count, first-location, automata-in}
+use Rattle.table_places.specs.Outline.{locationCount, firstLocation, afterPredicate, afterAutomaton, firstAutomaton}
+use Rattle.table_places.proofs.LayoutLaws.{all-automata}
+use Rattle.table_places.proofs.OutlineLaws.{locationWords, automatonWords, after-automaton, location-count, first-location}
 use Rattle.merge_predicates.specs.Clauses.{partAt}
 use Rattle.merge_edges.specs.Taking.{takers}
 use Rattle.merge_edges.specs.Edge.{updatesDeep}
 use Rattle.table_places.specs.Layout.{layoutOf}
-use Rattle.merge_predicates.specs.Depths.{isDeeper, locationsDeeper, automataDeeper, mergedDeep}
-use Rattle.merge_table.proofs.Standing.{automata-cons}
-use Rattle.merge_table.proofs.HeadIs.{automata-stand}
+use Rattle.merge_predicates.specs.Depths.{locationsDeeper, automataDeeper, mergedDeep}
+use Rattle.merge_table.proofs.Standing.{automata-cons, along-first, along-rest, Here}
+use Rattle.merge_table.proofs.HeadIs.{automata-stand, laid-places}
 use Rattle.merge_table.proofs.ClausesAre.{Part, init-part, inv-part, location-cons, past-location}
 use Rattle.merge_table.proofs.DepthsAre.{Readable, readable, deeper-stands}
 use Rattle.merge_table.proofs.EdgesAre.{Valid, takersFrom, edge-deep}
@@ -97,24 +98,25 @@ module _ (m : Model) (inv : Bool) (part : Location → Pred) (stands : Part inv 
         ap₂ (λ (a b : Bool). a || b) (deeper-stands t (part l) 22 (partAt t inv at) (s .0) (shallow l (List·Memᴰ·head refl)) (s .1))
         (locations-read ls (afterPredicate t (afterPredicate t at)) rest (λ y q. shallow y (List·Memᴰ·tail q)) (past-location t at l (locationWords ls ++ rest) f))
 
-    automata-read : (xs : List Automaton) (at : ℕ) (rest : List ℕ) → ((x : Automaton) → List·Memᴰ x xs → (l : Location) → List·Memᴰ l (x .locations) → Readable (part l))
-        → drop at t ≡ automatonWords xs ++ rest → automataDeeper t inv 22 (length xs) at ≡ exists deep-automaton xs
+    automata-read : (places : List ℕ) (xs : List Automaton) (i at : ℕ) (rest : List ℕ) → ((x : Automaton) → List·Memᴰ x xs → (l : Location) → List·Memᴰ l (x .locations) → Readable (part l))
+        → drop at t ≡ automatonWords xs ++ rest → Here t places i at (length xs) → automataDeeper t inv 22 places i (length xs) ≡ exists deep-automaton xs
     unfolding automataDeeper exists deep-automaton
-    automata-read [] at rest shallow e = refl
-    automata-read (x ∷ xs) at rest shallow e =
+    automata-read places [] i at rest shallow e here = refl
+    automata-read places (x ∷ xs) i at rest shallow e here =
         let f = automata-cons t at x xs rest e in
         let others = automatonWords xs ++ rest in
         let n : locationCount t at ≡ length (x .locations) = location-count t others x at f in
-        ap₂ (λ (a b : Bool). a || b)
-        (ap (λ c. locationsDeeper t inv 22 c (firstLocation t at)) n ∙ locations-read (x .locations) (firstLocation t at) _ (shallow x (List·Memᴰ·head refl)) (first-location t others x at f))
-        (automata-read xs (afterAutomaton t at) rest (λ y q. shallow y (List·Memᴰ·tail q)) (after-automaton t others x at f))
+        rw (add-one i)
+        (ap₂ (λ (a b : Bool). a || b)
+        (ap (λ p. locationsDeeper t inv 22 (locationCount t p) (firstLocation t p)) (along-first t (λ a. a) places i at (length xs) here) ∙ ap (λ c. locationsDeeper t inv 22 c (firstLocation t at)) n ∙ locations-read (x .locations) (firstLocation t at) _ (shallow x (List·Memᴰ·head refl)) (first-location t others x at f))
+        (automata-read places xs (suc i) (afterAutomaton t at) rest (λ y q. shallow y (List·Memᴰ·tail q)) (after-automaton t others x at f) (along-rest t (λ a. a) places i at (length xs) here)))
 
   whole-deep : (lawful : Lawful m) (t rest : List ℕ) → t ≡ sheetWords m ++ rest → ((l : Location) → LawfulLocation (m .variables) l → Readable (part l))
-      → mergedDeep t inv ≡ isTooDeep (all (preds (atAutomata m part 0 (m .automata))))
+      → mergedDeep t (layoutOf t) inv ≡ isTooDeep (all (preds (atAutomata m part 0 (m .automata))))
   unfolding mergedDeep
   whole-deep lawful t rest e shallow =
-      ap (λ n. automataDeeper t inv 22 n (firstAutomaton t)) (automata-in t rest m e) ∙
-      automata-read t (m .automata) (firstAutomaton t) _ (λ x i l j. shallow l (lawful .automata x i .locations l j)) (automata-stand m lawful t rest e) ∙
+      ap (automataDeeper t inv 22 (layoutOf t .sets) 0) (all-automata m lawful t rest e) ∙
+      automata-read t (layoutOf t .sets) (m .automata) 0 (firstAutomaton t) _ (λ x i l j. shallow l (lawful .automata x i .locations l j)) (automata-stand m lawful t rest e) (laid-places m lawful t rest e) ∙
       sym (all-deep (atAutomata m part 0 (m .automata)) ∙ automata-deep 0 (m .automata))
 
 -- the pointer moves are not deep
@@ -129,11 +131,11 @@ updates-deep [] = refl
 updates-deep (x ∷ xs) = ap (λ b. ltb 23 (depth (x .edge .update)) || b) (updates-deep xs)
 
 module _ (m : Model) (lawful : Lawful m) (t rest : List ℕ) (e : t ≡ sheetWords m ++ rest) where
-  pub init-deep : mergedDeep t false ≡ isTooDeep (mergedInit m)
+  pub init-deep : mergedDeep t (layoutOf t) false ≡ isTooDeep (mergedInit m)
   unfolding mergedInit
   init-deep = whole-deep m false (λ l. l .init) init-part lawful t rest e (λ l h. readable (l .init) (h .init))
 
-  pub inv-deep : mergedDeep t true ≡ isTooDeep (mergedInv m)
+  pub inv-deep : mergedDeep t (layoutOf t) true ≡ isTooDeep (mergedInv m)
   unfolding mergedInv
   inv-deep = whole-deep m true (λ l. l .inv) inv-part lawful t rest e (λ l h. readable (l .inv) (h .inv))
 
@@ -144,8 +146,4 @@ module _ (m : Model) (lawful : Lawful m) (t rest : List ℕ) (e : t ≡ sheetWor
       let us = map (λ (y : Taker). y .edge .update) ts in
       edge-deep m lawful t rest e action picks valid ∙
       sym (all-deep (us ++ pointerMoves m ts) ∙ exists-append (λ p. ltb 23 (depth p)) us (pointerMoves m ts) ∙
-      ap₂ (λ (a b : Bool). a || b) (updates-deep ts) (moves-shallow m ts) ∙ or-none (exists (λ (y : Taker). ltb 23 (depth (y .edge .update))) ts))
-    where
-      or-none : (b : Bool) → (b || false) ≡ b
-      or-none true = refl
-      or-none false = refl
+      ap₂ (λ (a b : Bool). a || b) (updates-deep ts) (moves-shallow m ts) ∙ or-false (exists (λ (y : Taker). ltb 23 (depth (y .edge .update))) ts))

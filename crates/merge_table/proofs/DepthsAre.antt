@@ -1,16 +1,15 @@
 -- On the words of a predicate the depth read is the predicate's, so the tests of depth are row 33's.
-use mathlib.Core.Path.{_≡_, refl, sym, ap, ap₂, _∙_}
-use mathlib.Core.Bool.{Bool, true, false, _||_, or-assoc}
-use mathlib.Core.List.{List, [], _∷_, _++_, append-assoc, map, map-append, flatMap}
-use Prim.Native.Nat.{ℕ, zero, suc, max, _+_, _-_, _≤_, _<_}
+use mathlib.Core.Path.{_≡_, refl, sym, ap, _∙_}
+use mathlib.Core.Bool.{Bool, true, false}
+use mathlib.Core.List.{List, [], _∷_, _++_, append-assoc, map, map-append}
+use Prim.Native.Nat.{ℕ, zero, suc, max, _+_, _≤_, _<_}
 use native.Mathlib.Omega.{arith}
-use lib.IntN.{ℤ, pos}
-use lib.ListN.{length, getD, drop, length-append, length-map}
-use lib.Dec.{leb, ltb}
-use borrow.Author.Tests.{ltb-true, ltb-false, lt-ltb, le-ltb}
+use lib.ListN.{getD, drop}
+use lib.Dec.{ltb}
+use borrow.Author.Tests.{ltb-true, ltb-false}
 use Rattle.model.specs.Basic.{every}
 use Rattle.model.specs.Bounds.{maxDepth}
-use Rattle.model.specs.Predicate.{Pred, Preds, Expr, all, any, negate, imp, eq, le, none, more, num, old, new, add, sub, mul, choose, Word, allOf, anyOf, notWord, impWord, eqWord, leWord, numWord, oldWord, newWord, addWord, subWord, mulWord, ifWord, stray, words, wordsAll, wordsOf, operands, nodeCount, depth, depthAll, depthOf, Range}
+use Rattle.model.specs.Predicate.{Pred, Preds, Expr, all, any, negate, imp, eq, le, none, more, num, old, new, add, sub, mul, choose, Word, allOf, anyOf, notWord, impWord, eqWord, leWord, numWord, oldWord, newWord, addWord, subWord, mulWord, ifWord, words, wordsAll, wordsOf, operands, depth, depthAll, depthOf, Range}
 use Rattle.model.specs.Limits.{inRange}
 use Rattle.model.specs.Lawful.{LawfulPred}
 use Rattle.model.specs.Table.{code, wordOf, predWords}
@@ -19,7 +18,7 @@ use Rattle.table_places.specs.Outline.{reach, nodesPlace}
 use Rattle.table_places.proofs.OutlineLaws.{read, reached, nodes-stand}
 use Rattle.merge_predicates.specs.declared.depth.Depth.{Depth}
 use Rattle.merge_append.specs.NodeWords.{most, capped}
-use Rattle.merge_predicates.specs.Depths.{arity, operandsOf, depthTo, greater, deepest, depthAt, isDeeper}
+use Rattle.merge_predicates.specs.Depths.{arity, operandsOf, greater, deepest, depthAt, isDeeper}
 use Rattle.merge_append.proofs.NodeLaws.{capped-is}
 
 -- a predicate whose words say it, at most as deep as it may be

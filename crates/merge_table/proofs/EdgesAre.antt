@@ -1,45 +1,44 @@
 -- A merged edge's words are those of the merged model's edge with the takers that the picks name.
 use mathlib.Core.Path.{_≡_, refl, sym, ap, ap₂, _∙_}
-use mathlib.Core.Bool.{Bool, true, false, not, _&&_, _||_}
+use mathlib.Core.Bool.{Bool, true, false, _&&_, _||_, or-false}
 use mathlib.Core.List.{List, [], _∷_, _++_, append-assoc, append-nil, map, map-append, flatMap, List·Memᴰ, List·Memᴰ·head, List·Memᴰ·tail}
 use Prim.Native.Nat.{ℕ, zero, suc, _+_, _-_, _*_, _≤_, _<_}
 use native.Mathlib.Omega.{arith}
 use native.Mathlib.Nat.{add-zero}
 use native.Mathlib.Numerals.{add-one}
 use lib.IntN.{pos}
-use lib.ListN.{length, getD, take, drop, replicate, length-append, length-map, length-replicate, drop-of-length-le, List·getD-eq-default}
-use lib.Seq.{sets, sets-eq, drop-cons}
+use lib.ListN.{length, getD, drop, replicate, length-append, length-map, length-replicate}
+use lib.Seq.{sets, sets-eq}
 use lib.Dec.{eqb, leb, ltb}
-use borrow.Author.Tests.{leb-true, le-leb, eq-eqb, ne-eqb}
-use Rattle.model.specs.Bounds.{bias, maxAutomata}
+use borrow.Author.Tests.{ne-eqb}
 use Rattle.model.specs.Basic.{exists, keep}
-use Rattle.model.specs.Predicate.{Pred, all, none, eq, num, old, new, preds, Word, allOf, newWord, words, wordsAll, wordsOf, operands, nodeCount, depth}
+use Rattle.model.specs.Predicate.{Pred, all, none, eq, num, old, new, preds, allOf, newWord, words, wordsAll, wordsOf, operands, nodeCount, depth}
 use Rattle.model.specs.Model.{Edge, Automaton, Model}
 use Rattle.model.specs.Rules.{Taker}
 use Rattle.model.specs.Lawful.{Lawful, LawfulAutomaton}
 use Rattle.model.specs.Lines.{edgeLine, automatonLines}
-use Rattle.model.specs.Table.{biased, code, predWords, lineWords, sheetWords}
+use Rattle.model.specs.Table.{code, predWords, lineWords, sheetWords}
 use Rattle.model.specs.Moves.{under, alone}
 use Rattle.model.specs.Linear.{pointer, pointerMoves, mergedEdge}
 use Rattle.model.proofs.Tests.{exists-append}
 use Rattle.model.proofs.Lists.{keep-out}
 use Rattle.model.proofs.LinearLimits.{preds-count, pointers-length}
-use Rattle.table_places.specs.Outline.{reach, nodesPlace, afterPredicate, edgeAction, updatePlace, firstEdge, edgesAt, afterAutomaton, firstAutomaton, passed, automatonAt}
-use Rattle.table_places.specs.Layout.{layoutOf, automataOf}
+use Rattle.table_places.specs.Outline.{reach, nodesPlace, afterPredicate, updatePlace, firstEdge, edgesAt, afterAutomaton, firstAutomaton}
+use Rattle.table_places.specs.Layout.{layoutOf}
 use Rattle.table_places.proofs.OutlineLaws as O
 use Rattle.table_places.proofs.OutlineLaws.{wordsOf as linesOf, edgeWords, automatonWords, sheet-parts, from-stands, to-stands, action-stands, update-stands, edge-count, first-edge, after-automaton}
-use Rattle.table_places.proofs.LayoutLaws.{all-automata, edges-place}
+use Rattle.table_places.proofs.LayoutLaws.{all-automata}
 use Rattle.node_words.specs.declared.Node.the-variants.{New}
 use Rattle.node_words.specs.Nodes.{wordFor}
 use Rattle.node_words.proofs.NodeLaws.{new-held}
 use Rattle.merge_append.specs.Runs.{nodesAt}
-use Rattle.merge_append.specs.NodeWords.{allNode, numberNode, oldNode, newNode, pointerOf, most, capped}
+use Rattle.merge_append.specs.NodeWords.{allNode, newNode, pointerOf, most, capped}
 use Rattle.merge_append.proofs.NodeLaws.{capped-is}
 use Rattle.merge_edges.specs.Taking.{isUnder, still, edgeUnder, takenAt, takenFrom, takers}
 use Rattle.merge_edges.specs.Edge.{updateAt, moveAt, updatesAt, movesAt, takerNodes, takersNodes, takerOperands, takersOperands, edgeBy, updateDeep, updatesDeep}
 use Rattle.merge_edges.specs.Edges.{edgeWordsAt}
-use Rattle.merge_table.proofs.Standing.{narrow-is, run-length, nodes-stand, automata-cons}
-use Rattle.merge_table.proofs.HeadIs.{pointer-sum, laid-variables, automata-stand}
+use Rattle.merge_table.proofs.Standing.{narrow-is, run-length, nodes-stand, automata-cons, Along, along-first, along-rest}
+use Rattle.merge_table.proofs.HeadIs.{pointer-sum, laid-variables, automata-stand, laid-edges}
 use Rattle.merge_table.proofs.ClausesAre.{capped-most, capped-add, codes, codes-append, codes-cons, number-code, old-code, all-code}
 use Rattle.merge_table.proofs.DepthsAre.{Readable, readable, deeper-stands}
 
@@ -194,15 +193,17 @@ module _ (m : Model) (t : List ℕ) (i place : ℕ) (e : Edge) (rest : List ℕ)
         updates = rw (isnt, updateAt) (u ∙ sym one);
         moves = rw (isnt, moveAt, k, from-stands t rest e place at, to-stands t rest e place at, old-code (pointer m i) kh, new-code (pointer m i) kh, number-code (e .from) hf, number-code (e .to) ht);
         operands-add = λ sum h. rw (isnt, takerOperands) (ap capped (omega arith));
-        deep = rw (isnt, updateDeep) (deeper-stands t (e .update) 23 (updatePlace t place) rest hd update-place ∙ or-none (ltb 23 (depth (e .update))));
+        deep = rw (isnt, updateDeep) (deeper-stands t (e .update) 23 (updatePlace t place) rest hd update-place ∙ sym (or-false (ltb 23 (depth (e .update)))));
       }
     where
       small : length (m .variables) < 32768 → i < 32768 → pointer m i < 65536
       small a b = unfold pointer in omega arith
 
-      or-none : (b : Bool) → b ≡ (b || false)
-      or-none true = refl
-      or-none false = refl
+-- what stands in a list is of it
+pub listed-at : {A : Type 0} (d : A) (l : List A) (k : ℕ) → k < length l → List·Memᴰ (getD l k d) l
+listed-at d [] k h = absurd (omega arith)
+listed-at d (y ∷ l) zero h = List·Memᴰ·head refl
+listed-at d (y ∷ l) (suc k) h = List·Memᴰ·tail (listed-at d l k (omega arith))
 
 -- the edges that stand at a lawful automaton's place
 taker-adds : (m : Model) (t : List ℕ) (A action i pick at : ℕ) (x : Automaton) (rest : List ℕ) → LawfulAutomaton (m .variables) A x → length (m .variables) < 32768 → i < 32768
@@ -218,15 +219,10 @@ taker-adds m t A action i (suc j) at x rest lawful hv hi some e few =
     let s = under-stands t action (x .edges) j first rest (omega arith) (first-edge t rest x at e) in
     let above = under-above t action j (length (x .edges)) first some (unfold firstEdge in reach-above t (edgesAt t at) 1 some (omega arith)) in
     let d = getD (under action (x .edges)) j noEdge in
-    let l = lawful .edges d (keep-out (λ y. eqb (y .action) action) (x .edges) (member-at (under action (x .edges)) j (omega arith)) .0) in
+    let l = lawful .edges d (keep-out (λ y. eqb (y .action) action) (x .edges) (listed-at noEdge (under action (x .edges)) j (omega arith)) .0) in
     let few-locations = lawful .few-locations in
     let it : takenAt t action (suc j) (edgesAt t at) ≡ place = rw (z, one, n, takenAt) in
     rw it (adds-one m t i place d (s .0) (s .1) above hv hi (omega (arith, l .from)) (omega (arith, l .to)) (readable (d .update) (l .update)))
-  where
-    member-at : (l : List Edge) (k : ℕ) → k < length l → List·Memᴰ (getD l k noEdge) l
-    member-at [] k h = absurd (omega arith)
-    member-at (y ∷ l) zero h = List·Memᴰ·head refl
-    member-at (y ∷ l) (suc k) h = List·Memᴰ·tail (member-at l k (omega arith))
 
 -- What the places of all automata add.
 pub record AddsAll (m : Model) (t : List ℕ) (i : ℕ) (places : List ℕ) (ts : List Taker) : Type 0 where
@@ -261,25 +257,8 @@ unfolding updatesAt movesAt takersOperands updatesDeep exists preds words wordsA
 adds-zeros m t i zero = record { updates = refl; moves = refl; operands-add = λ sum h. rw (add-zero sum) (capped-is sum h); deep = refl }
 adds-zeros m t i (suc k) = adds-more m t i 0 (replicate k 0) [] [] (adds-none m t i) (adds-zeros m t (suc i) k)
 
--- Where the edges of n automata stand, of which the first is automaton i and stands at a place.
-abbrev pub Starts : (t edges : List ℕ) (i at n : ℕ) → Type 0
-Starts t edges i at n = (k : ℕ) → k < n → getD edges (i + k) 0 ≡ edgesAt t (passed t at k)
-
-module _ (t edges : List ℕ) (i at n : ℕ) (s : Starts t edges i at (suc n)) where
-  pub starts-first : getD edges i 0 ≡ edgesAt t at
-  unfolding passed
-  starts-first = let z : i + 0 ≡ i = omega arith in ap (λ j. getD edges j 0) (sym z) ∙ s 0 (omega arith)
-
-  pub starts-rest : Starts t edges (suc i) (afterAutomaton t at) n
-  unfolding passed
-  starts-rest k h = let z : suc i + k ≡ i + suc k = omega arith in ap (λ j. getD edges j 0) z ∙ s (suc k) (omega arith)
-
-pub layout-starts : (m : Model) → Lawful m → (t rest : List ℕ) → t ≡ sheetWords m ++ rest → Starts t (layoutOf t .edges) 0 (firstAutomaton t) (length (m .automata))
-unfolding automatonAt
-layout-starts m lawful t rest e k h = let z : 0 + k ≡ k = omega arith in ap (λ j. getD (layoutOf t .edges) j 0) z ∙ edges-place m lawful t rest e k h
-
 adds-all : (m : Model) (t edges : List ℕ) (A action : ℕ) (picks : List ℕ) (xs : List Automaton) (i at k : ℕ) (rest : List ℕ) → ((x : Automaton) → List·Memᴰ x xs → LawfulAutomaton (m .variables) A x)
-    → length (m .variables) < 32768 → i + length xs < 32768 → 1 ≤ length t → drop at t ≡ automatonWords xs ++ rest → Starts t edges i at (length xs) → Valid action picks i xs
+    → length (m .variables) < 32768 → i + length xs < 32768 → 1 ≤ length t → drop at t ≡ automatonWords xs ++ rest → Along t (edgesAt t) edges i at (length xs) → Valid action picks i xs
     → AddsAll m t i (takenFrom t edges action picks i (length xs) ++ replicate k 0) (takersFrom action picks i xs)
 unfolding takenFrom takersFrom Valid
 adds-all m t edges A action picks [] i at k rest lawful hv hi some e starts valid = adds-zeros m t i k
@@ -288,8 +267,8 @@ adds-all m t edges A action picks (x ∷ xs) i at k rest lawful hv hi some e sta
     let others = automatonWords xs ++ rest in
     let one = taker-adds m t A action i (getD picks i 0) at x others (lawful x (List·Memᴰ·head refl)) hv (omega arith) some f (valid .0) in
     let more = adds-all m t edges A action picks xs (suc i) (afterAutomaton t at) k rest (λ y q. lawful y (List·Memᴰ·tail q)) hv (omega arith) some (after-automaton t others x at f)
-    (starts-rest t edges i at (length xs) starts) (valid .1) in
-    rw (add-one i, starts-first t edges i at (length xs) starts)
+    (along-rest t (edgesAt t) edges i at (length xs) starts) (valid .1) in
+    rw (add-one i, along-first t (edgesAt t) edges i at (length xs) starts)
     (adds-more m t i (takenAt t action (getD picks i 0) (edgesAt t at)) _ (takerBy action i x (getD picks i 0)) (takersFrom action picks (suc i) xs) one more)
 
 -- on any words: the count of the nodes is the number of words
@@ -370,7 +349,7 @@ module _ (m : Model) (lawful : Lawful m) (t rest : List ℕ) (e : t ≡ sheetWor
       let fv = lawful .few-variables in
       let fn = lawful .few-automata in
       rw places-are (adds-all m t (layoutOf t .edges) (m .actions) action picks (m .automata) 0 (firstAutomaton t) (16 - length (m .automata)) _ (lawful .automata) (omega arith) (omega arith) some-words
-      (automata-stand m lawful t rest e) (layout-starts m lawful t rest e) valid)
+      (automata-stand m lawful t rest e) (laid-edges m lawful t rest e) valid)
 
   -- row 33 for this edge
   pub edge-deep : updatesDeep t (takers t (layoutOf t) action picks) ≡ exists (λ y. ltb 23 (depth (y .edge .update))) named

@@ -2,8 +2,8 @@
 use mathlib.Core.Path.{_≡_, refl, sym, ap, ap₂, _∙_}
 use mathlib.Core.Bool.{Bool, true, false}
 use mathlib.Core.List.{List, _++_, map}
-use mathlib.Core.Option.{Option, none, some}
-use Prim.Native.Nat.{ℕ, suc, _+_, _≤_}
+use mathlib.Core.Option.{none, some}
+use Prim.Native.Nat.{ℕ, suc}
 use native.Mathlib.Omega.{arith}
 use lib.ListN.{length, replicate}
 use lib.Dec.{eqb, ltb}
@@ -31,7 +31,7 @@ use Rattle.merge_table.specs.Linearization.{linearModel, linearizationOf
 use Rattle.merge_table.proofs.Standing.{ownOf}
 use Rattle.merge_table.proofs.CountIs.{count-row, count-exact, counts-few, variables-row}
 use Rattle.merge_table.proofs.SurveyIs.{survey-deep, survey-row34}
-use Rattle.merge_table.proofs.WholeIs.{Kept, rows-kept, whole-table}
+use Rattle.merge_table.proofs.WholeIs.{rows-kept, whole-table}
 
 module _ (m : Model) (lawful : Lawful m) (t rest : List ℕ) (e : t ≡ sheetWords m ++ rest) where
   abbrev lay : Layout

@@ -1,8 +1,7 @@
 -- The merged sheet's words are those of the merged model.
 use mathlib.Core.Path.{_≡_, refl, sym, ap, ap₂, _∙_}
-use mathlib.Core.Bool.{true, false}
 use mathlib.Core.List.{List, [], _∷_, _++_, append-assoc, append-nil, map, flatMap, List·Memᴰ}
-use Prim.Native.Nat.{ℕ, _+_, _≤_}
+use Prim.Native.Nat.{ℕ, _≤_}
 use lib.ListN.{length}
 use Rattle.model.specs.Basic.{keep, countUp}
 use Rattle.model.specs.Bounds.{maxEdges}
@@ -17,10 +16,6 @@ use Rattle.model.specs.Moves.{moves, moveCount}
 use Rattle.model.specs.Linear.{mergedInit, mergedInv, mergedEdge, mergedEdges, linear}
 use Rattle.table_places.proofs.OutlineLaws.{wordsOf, edgeWords, words-append}
 use Rattle.merge_append.specs.NodeWords.{most}
-use Rattle.merge_words.specs.Head.{headWords}
-use Rattle.merge_predicates.specs.Clauses.{mergedWords}
-use Rattle.merge_words.specs.Sync.{syncBy}
-use Rattle.merge_edges.specs.Edges.{edgesIn}
 use Rattle.table_places.specs.Layout.{layoutOf}
 use Rattle.merge_table.proofs.Standing.{ownOf}
 use Rattle.merge_words.specs.MergedSheet.{locationWords, automatonWords, mergedSheet}

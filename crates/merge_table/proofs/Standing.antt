@@ -1,7 +1,7 @@
 -- What is copied from a sheet's words is what stands there.
 use mathlib.Core.Path.{_≡_, refl, sym, ap, ap₂, _∙_}
 use mathlib.Core.List.{List, [], _∷_, _++_, append-assoc, map, flatMap}
-use Prim.Native.Nat.{ℕ, zero, suc, _+_, _-_, _≤_, _<_}
+use Prim.Native.Nat.{ℕ, zero, suc, _+_, _<_}
 use native.Mathlib.Omega.{arith}
 use native.Mathlib.Nat.{mod-eq-of-lt}
 use lib.ListN.{length, getD, drop, length-map}
@@ -9,7 +9,7 @@ use Rattle.model.specs.Predicate.{Pred, words, nodeCount}
 use Rattle.model.specs.Model.{Automaton}
 use Rattle.model.specs.Lines.{automatonLines}
 use Rattle.model.specs.Table.{code, predWords}
-use Rattle.table_places.specs.Outline.{reach, nodesPlace}
+use Rattle.table_places.specs.Outline.{reach, nodesPlace, afterAutomaton, passed}
 use Rattle.table_places.specs.Layout.{layoutOf}
 use Rattle.table_places.specs.Own.{ownSets}
 use Rattle.table_places.proofs.OutlineLaws as O
@@ -47,6 +47,23 @@ pub automata-cons : (t : List ℕ) (at : ℕ) (x : Automaton) (xs : List Automat
 unfolding flatMap
 automata-cons t at x xs rest e =
     e ∙ ap (λ (l : List ℕ). l ++ rest) (words-append (automatonLines x) (flatMap automatonLines xs)) ∙ append-assoc (wordsOf (automatonLines x)) (automatonWords xs) rest
+
+-- What an array says of n automata in a row, of which the first is automaton i and stands at a place: f of where each stands.
+abbrev pub Along : (t : List ℕ) (f : ℕ → ℕ) (array : List ℕ) (i at n : ℕ) → Type 0
+Along t f array i at n = (k : ℕ) → k < n → getD array (i + k) 0 ≡ f (passed t at k)
+
+module _ (t : List ℕ) (f : ℕ → ℕ) (array : List ℕ) (i at n : ℕ) (s : Along t f array i at (suc n)) where
+  pub along-first : getD array i 0 ≡ f at
+  unfolding passed
+  along-first = let z : i + 0 ≡ i = omega arith in ap (λ j. getD array j 0) (sym z) ∙ s 0 (omega arith)
+
+  pub along-rest : Along t f array (suc i) (afterAutomaton t at) n
+  unfolding passed
+  along-rest k h = let z : suc i + k ≡ i + suc k = omega arith in ap (λ j. getD array j 0) z ∙ s (suc k) (omega arith)
+
+-- where the automata stand
+abbrev pub Here : (t places : List ℕ) (i at n : ℕ) → Type 0
+Here t places i at n = Along t (λ a. a) places i at n
 
 -- the automata's own sets
 abbrev pub ownOf : List ℕ → List ℕ

@@ -1,6 +1,6 @@
 -- The survey of the merged predicates says what rows 33 and 34 ask.
 use mathlib.Core.Path.{_≡_, refl, sym, ap, ap₂, _∙_}
-use mathlib.Core.Bool.{Bool, true, false, _||_, or-assoc}
+use mathlib.Core.Bool.{Bool, true, false, _||_, or-assoc, or-false}
 use mathlib.Core.List.{List, [], _∷_, _++_, map, map-append, flatMap}
 use Prim.Native.Nat.{ℕ, zero, suc, _+_, _≤_, _<_}
 use native.Mathlib.Omega.{arith}
@@ -24,7 +24,7 @@ use Rattle.model.proofs.Tests.{exists-append}
 use Rattle.model.proofs.Count.{moves-length}
 use Rattle.merge_words.specs.declared.survey.Survey.{Survey}
 use Rattle.merge_append.specs.NodeWords.{most, capped}
-use Rattle.merge_edges.specs.Moves.{cellsOf, placesOf, lastAction}
+use Rattle.merge_edges.specs.Moves.{cellsOf, placesOf}
 use Rattle.table_places.specs.declared.layout.Layout.{Layout}
 use Rattle.table_places.specs.Layout.{layoutOf}
 use Rattle.model.proofs.Lists.{sum-append}
@@ -48,10 +48,6 @@ capped-test k n h = go (leb n most) refl
     go true q = ap (ltb k) (sym (capped-is n (leb-true n most q)))
     go false q = let l = leb-false n most q in ap (ltb k) (sym (capped-over n l)) ∙ lt-ltb k most h ∙ sym (lt-ltb k n (omega arith))
 
-or-none : (b : Bool) → b ≡ (b || false)
-or-none true = refl
-or-none false = refl
-
 abbrev nodesOf : List Pred → ℕ
 nodesOf ps = sum (map nodeCount ps)
 
@@ -61,7 +57,7 @@ over s ps = surveyed (s .deep || exists isTooDeep ps) (capped (s .nodes + nodesO
 
 over-none : (s : Survey) → s .nodes ≤ most → s ≡ over s []
 unfolding exists sum
-over-none s h = let z : s .nodes ≡ s .nodes + 0 = omega arith in ap₂ surveyed (or-none (s .deep)) (capped-is (s .nodes) h ∙ ap capped z)
+over-none s h = let z : s .nodes ≡ s .nodes + 0 = omega arith in ap₂ surveyed (sym (or-false (s .deep))) (capped-is (s .nodes) h ∙ ap capped z)
 
 over-more : (s : Survey) (ps qs : List Pred) → over (over s ps) qs ≡ over s (ps ++ qs)
 over-more s ps qs =
@@ -96,7 +92,7 @@ module _ (m : Model) (lawful : Lawful m) (t rest : List ℕ) (e : t ≡ sheetWor
         let p = update (getD listed k []) in
         let deep = edge-too-deep m lawful t rest e action _ valid ∙ ap (λ ts. isTooDeep (update ts)) named in
         let nodes = edge-nodes m lawful t rest e action _ valid ∙ ap (λ ts. capped (nodeCount (update ts))) named in
-        ap₂ surveyed (ap (λ b. s .deep || b) (deep ∙ or-none (isTooDeep p)))
+        ap₂ surveyed (ap (λ b. s .deep || b) (deep ∙ sym (or-false (isTooDeep p))))
         (ap (λ n. capped (s .nodes + n)) nodes ∙ capped-both (s .nodes) (nodeCount p) ∙ ap (λ n. capped (s .nodes + n)) (sym (add-zero (nodeCount p))))
 
     survey-from : (n k : ℕ) (s : Survey) → k + n ≡ length listed → s .nodes ≤ most → surveyFrom t lay cells action k n s ≡ over s (updates (drop k listed))
@@ -132,11 +128,11 @@ module _ (m : Model) (lawful : Lawful m) (t rest : List ℕ) (e : t ≡ sheetWor
         over-more s (updatesOf es) (updatesOf others) ∙ ap (over s) (sym (map-append (λ (d : Edge). d .update) es others)))
 
     -- the merged init and inv, and then all edges
-    whole-survey : surveyWhole t (layoutOf t) (ownOf t) ≡ over (surveyStart t) (updatesOf (mergedEdges m))
+    whole-survey : surveyWhole t (layoutOf t) (ownOf t) ≡ over (surveyStart t lay) (updatesOf (mergedEdges m))
     unfolding surveyWhole surveyIn surveyStart mergedEdges
     whole-survey =
         let z : m .actions + 1 ≡ suc (m .actions) = omega arith in
-        ap (λ a. surveyOf t lay (ownOf t) 0 (a + 1) (surveyStart t)) (last-is m lawful t rest e) ∙ survey-upto (m .actions + 1) 0 (surveyStart t) (omega arith) (capped-most _) ∙ ap (λ n. over (surveyStart t) (updatesOf (edgesFor (countUp 0 n)))) z
+        ap (λ a. surveyOf t lay (ownOf t) 0 (a + 1) (surveyStart t lay)) (last-is m lawful t rest e) ∙ survey-upto (m .actions + 1) 0 (surveyStart t lay) (omega arith) (capped-most _) ∙ ap (λ n. over (surveyStart t lay) (updatesOf (edgesFor (countUp 0 n)))) z
 
     -- row 33
     pub survey-deep : surveyWhole t (layoutOf t) (ownOf t) .deep ≡ row33 m

@@ -1,23 +1,22 @@
 -- The synchronising set of the merged sheet is that of the merged model.
 use mathlib.Core.Path.{_≡_, refl, sym, ap, ap₂, _∙_}
-use mathlib.Core.Bool.{Bool, true, false, _&&_}
+use mathlib.Core.Bool.{Bool, true, false}
 use mathlib.Core.List.{List, [], _∷_, _++_, append-nil}
 use Prim.Native.Nat.{ℕ, zero, suc, _+_, _-_, _*_, _^_, _%_, _≤_, _<_}
 use native.Mathlib.Omega.{arith}
 use native.Mathlib.Nat.{zero-add, add-zero, add-mul, mul-assoc, mul-comm, one-mul, zero-mul, mod-eq-of-lt}
-use lib.ListN.{length, getD, take, drop}
-use lib.Seq.{sets, take-at}
+use lib.ListN.{length, take, drop}
+use lib.Seq.{take-at}
 use lib.Dec.{eqb, leb}
 use lib.Pow.{pow-mono, pow-add}
 use borrow.Author.Tests.{le-leb, lt-leb, ne-eqb}
-use Rattle.model.specs.Basic.{keep, member, countUp}
-use Rattle.model.specs.Composition.{treeSize}
+use Rattle.model.specs.Basic.{keep, countUp}
 use Rattle.model.specs.Limits.{rises}
-use Rattle.model.specs.Model.{Model, automaton, inSet}
+use Rattle.model.specs.Model.{Model, inSet}
 use Rattle.model.specs.Lawful.{Lawful}
-use Rattle.model.specs.Table.{lowBits, highBits, setWords, bit, setOf, lineWords, sheetWords}
+use Rattle.model.specs.Table.{lowBits, highBits, setWords, bit, setOf, sheetWords}
 use Rattle.model.proofs.Lists.{keep-append, keep-first, keep-skip, count-last, count-split}
-use Rattle.model.proofs.Numbered.{numbered, size-is, leaves-in}
+use Rattle.model.proofs.Numbered.{numbered, leaves-in}
 use Rattle.table_tree.specs.Nodes.{treeWords}
 use Rattle.table_tree.specs.Members.{inSetAt}
 use Rattle.table_tree.proofs.SetLaws.{keep-alike, low-joined, high-joined}

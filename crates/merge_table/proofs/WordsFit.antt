@@ -11,7 +11,7 @@ use lib.Dec.{leb, ltb}
 use borrow.Author.Tests.{leb-true, ltb-false}
 use Rattle.model.specs.Basic.{between, every, lacks}
 use Rattle.model.specs.Bounds.{firstFormat, lastFormat, maxActions, maxNodes, maxTreeNodes, leastNumber, greatestNumber}
-use Rattle.model.specs.Predicate.{Pred, Word, words, nodeCount, namesOutside, namesNew, allOf, anyOf, notWord, impWord, eqWord, leWord, numWord, oldWord, newWord, addWord, subWord, mulWord, ifWord, stray}
+use Rattle.model.specs.Predicate.{Pred, Word, words, nodeCount, namesOutside, namesNew}
 use Rattle.model.specs.Composition.{Tree, par, syn, leaf, nodes, treeSize}
 use Rattle.model.specs.Model.{Model}
 use Rattle.model.specs.Lawful.{Lawful}

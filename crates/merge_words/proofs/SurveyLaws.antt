@@ -63,12 +63,12 @@ module _ (t own : List ℕ) (x : Layout) (action last : ℕ) (s whole : Survey) 
 pub ruleset all-survey-laws = (all-survey-begun, all-survey-turn, all-survey-end)
 
 -- `start`
-pub start-is : (t : List ℕ) (a b : Bool) (n k r : ℕ) → a ≡ mergedDeep t false → b ≡ mergedDeep t true → n ≡ mergedNodes t false → k ≡ mergedNodes t true → r ≡ capped (n + k)
-    → surveyed (a || b) r ≡ surveyStart t
+pub start-is : (t : List ℕ) (x : Layout) (a b : Bool) (n k r : ℕ) → a ≡ mergedDeep t x false → b ≡ mergedDeep t x true → n ≡ mergedNodes t x false → k ≡ mergedNodes t x true → r ≡ capped (n + k)
+    → surveyed (a || b) r ≡ surveyStart t x
 unfolding surveyStart
-start-is t a b n k r ea eb en ek er = ap₂ surveyed (ap₂ (λ (x y : Bool). x || y) ea eb) (er ∙ ap₂ (λ (x y : ℕ). capped (x + y)) en ek)
+start-is t x a b n k r ea eb en ek er = ap₂ surveyed (ap₂ (λ (c d : Bool). c || d) ea eb) (er ∙ ap₂ (λ (c d : ℕ). capped (c + d)) en ek)
 
 -- `whole`
-pub whole-is : (t own : List ℕ) (x : Layout) (s r : Survey) → s ≡ surveyStart t → r ≡ surveyIn t x own s → r ≡ surveyWhole t x own
+pub whole-is : (t own : List ℕ) (x : Layout) (s r : Survey) → s ≡ surveyStart t x → r ≡ surveyIn t x own s → r ≡ surveyWhole t x own
 unfolding surveyWhole
 whole-is t own x s r es er = er ∙ ap (surveyIn t x own) es

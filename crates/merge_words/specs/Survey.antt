@@ -36,9 +36,9 @@ module _ (t : List ℕ) (x : Layout) where
   surveyIn own s = surveyOf own 0 (lastAction x + 1) s
 
 -- the merged init and inv; then all edges
-unfoldable pub surveyStart : (t : List ℕ) → Survey
-surveyStart t =
-    surveyed (mergedDeep t false || mergedDeep t true) (capped (mergedNodes t false + mergedNodes t true))
+unfoldable pub surveyStart : (t : List ℕ) (x : Layout) → Survey
+surveyStart t x =
+    surveyed (mergedDeep t x false || mergedDeep t x true) (capped (mergedNodes t x false + mergedNodes t x true))
 
 unfoldable pub surveyWhole : (t : List ℕ) (x : Layout) (own : List ℕ) → Survey
-surveyWhole t x own = surveyIn t x own (surveyStart t)
+surveyWhole t x own = surveyIn t x own (surveyStart t x)

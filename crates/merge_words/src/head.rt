@@ -1,9 +1,10 @@
 // The merged sheet's words before its automaton, and after it.
 use model::Model;
+use table_places::Layout;
 ghost use mathlib.Core.Path.{_≡_};
 ghost use mathlib.Core.List.{[], _∷_};
 ghost use Rattle.model.specs.Bounds.{bias};
-ghost use Rattle.table_places.specs.Outline.{actionsIn};
+ghost use Rattle.table_places.specs.Layout.{automataOf};
 ghost use Rattle.merge_append.specs.Append.{Appended};
 ghost use Rattle.merge_words.specs.Head.{formatIn, lastLocationAt, pointerRanges, headWords};
 
@@ -26,50 +27,50 @@ fn range(high: usize, out: &mut [u32; Model::WORDS], at: usize) -> usize
     merge_append::put(high, out, next)
 }
 
-// The ranges of `count` pointers, the first one's automaton standing at `first`.
-fn pointers(
-    t: &[u32],
-    first: usize,
-    count: usize,
-    out: &mut [u32; Model::WORDS],
-    at: usize,
-) -> usize
-    ensures { λ r. ⌜ Appended (pointerRanges (now (t .entry)) first count) at (now (out .entry)) (now (out .exit)) r ⌝ }
+// The ranges of the pointers.
+fn pointers(t: &[u32], x: Layout, out: &mut [u32; Model::WORDS], at: usize) -> usize
+    ensures { λ r. ⌜ Appended (pointerRanges (now (t .entry)) (x .sets) 0 (automataOf x))
+        at (now (out .entry)) (now (out .exit)) r ⌝ }
 {
-    let mut left = count;
-    let mut place = first;
+    let count = table_places::automata_of(x);
+    let places = x.sets;
+    let mut i = 0;
     let mut next = at;
-    while left != 0 {
+    while i < count {
+        let place = places[i];
         let high = merge_append::upward(last_location(t, place));
         next = range(high, out, next);
-        place = table_places::after_automaton(t, place);
-        left -= 1;
+        i += 1;
     }
     next
 }
 
 // The format, the actions, and the number of variables.
-fn numbers(t: &[u32], variables: usize, out: &mut [u32; Model::WORDS], at: usize) -> usize
-    ensures { λ r. ⌜ Appended (formatIn (now (t .entry)) ∷ actionsIn (now (t .entry)) ∷ variables ∷ [])
+fn numbers(
+    t: &[u32],
+    actions: usize,
+    variables: usize,
+    out: &mut [u32; Model::WORDS],
+    at: usize,
+) -> usize
+    ensures { λ r. ⌜ Appended (formatIn (now (t .entry)) ∷ actions ∷ variables ∷ [])
         at (now (out .entry)) (now (out .exit)) r ⌝ }
 {
     let a = merge_append::put(table_places::word(t, 0), out, at);
-    let b = merge_append::put(table_places::actions(t), out, a);
+    let b = merge_append::put(actions, out, a);
     merge_append::put(variables, out, b)
 }
 
 // Format, actions, V + N, the ranges, and one automaton.
-pub fn head(t: &[u32], out: &mut [u32; Model::WORDS], at: usize) -> usize
-    ensures { λ r. ⌜ Appended (headWords (now (t .entry))) at (now (out .entry)) (now (out .exit)) r ⌝ }
+pub fn head(t: &[u32], x: Layout, out: &mut [u32; Model::WORDS], at: usize) -> usize
+    ensures { λ r. ⌜ Appended (headWords (now (t .entry)) x) at (now (out .entry)) (now (out .exit)) r ⌝ }
 {
-    let variables = table_places::variables(t);
-    let automata = table_places::automata(t);
-    let a = numbers(t, merge_append::pointer(variables, automata), out, at);
+    let variables = merge_append::pointer(x.variables, x.automata);
+    let a = numbers(t, x.actions, variables, out, at);
     let ranges = table_places::range_at(t, 0);
-    let words = merge_append::pointer(variables, variables);
+    let words = merge_append::pointer(x.variables, x.variables);
     let b = merge_append::copy(t, ranges, words, out, a);
-    let first = table_places::first_automaton(t);
-    let c = pointers(t, first, automata, out, b);
+    let c = pointers(t, x, out, b);
     merge_append::put(1, out, c)
 }
 

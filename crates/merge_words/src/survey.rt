@@ -66,13 +66,13 @@ fn all_survey(t: &[u32], x: Layout, own: &[u64; 16], s: Survey) -> Survey
 }
 
 // The merged init and the merged inv.
-fn start(t: &[u32]) -> Survey
-    ensures { λ r. ⌜ r ≡ surveyStart (now (t .entry)) ⌝ }
+fn start(t: &[u32], x: Layout) -> Survey
+    ensures { λ r. ⌜ r ≡ surveyStart (now (t .entry)) x ⌝ }
 {
-    let init_deep = merge_predicates::merged_deep(t, false);
-    let inv_deep = merge_predicates::merged_deep(t, true);
-    let init = merge_predicates::merged_nodes(t, false);
-    let inv = merge_predicates::merged_nodes(t, true);
+    let init_deep = merge_predicates::merged_deep(t, x, false);
+    let inv_deep = merge_predicates::merged_deep(t, x, true);
+    let init = merge_predicates::merged_nodes(t, x, false);
+    let inv = merge_predicates::merged_nodes(t, x, true);
     Survey {
         deep: init_deep | inv_deep,
         nodes: merge_append::add(init, inv),
@@ -83,5 +83,5 @@ fn start(t: &[u32]) -> Survey
 pub fn whole(t: &[u32], x: Layout, own: &[u64; 16]) -> Survey
     ensures { λ r. ⌜ r ≡ surveyWhole (now (t .entry)) x (now (own .entry)) ⌝ }
 {
-    all_survey(t, x, own, start(t))
+    all_survey(t, x, own, start(t, x))
 }

@@ -1,7 +1,6 @@
 -- `merge_predicates::clauses::at_automata` meets its contract: what is done and what is left make up the whole. The measure is the automata left.
 use Rattle.merge_predicates.proofs.ClauseLaws.{automata-laws}
-use mathlib.Core.Path.{_≡_}
-use Prim.Native.Nat.{_+_}
+use Prim.Native.Nat.{_-_, _≤_}
 use Rattle.merge_append.proofs.AppendLaws.{Underway}
 use Rattle.merge_predicates.specs.Clauses.{automataClauses}
 use borrow.Author.Needs.{needs}
@@ -9,10 +8,13 @@ use Rattle.merge_predicates.proofs.clauses.at_automata.Statement.{state
 use Rattle.merge_predicates.proofs.clauses.at_automata.Tie as tie
 
 abbrev Inv-loop : tie.InvT-loop
-Inv-loop t inv variables count first out₀ at i₀ left₀ place₀ next₀ out i left place next = (i + left ≡ count) × Underway (automataClauses t inv variables 0 count first) at out₀ (automataClauses t inv variables i left place) next out
+Inv-loop t inv out₀ at count variables places i₀ next₀ out i next = (count ≤ 16) × (i ≤ count) × Underway (automataClauses t inv places variables 0 count) at out₀ (automataClauses t inv places variables i (count - i)) next out
 
 abbrev μ-loop : tie.MeasureT-loop
-μ-loop t inv variables count first out₀ at i₀ left₀ place₀ next₀ out i left place next = left
+μ-loop t inv out₀ at count variables places i₀ next₀ out i next = count - i
+
+automata-of-requires : tie.Need-automata-of-requires Inv-loop μ-loop
+automata-of-requires c κs = search needs
 
 loop-holds : tie.Need-loop-holds Inv-loop μ-loop
 loop-holds c = search (needs, automata-laws)
@@ -20,17 +22,17 @@ loop-holds c = search (needs, automata-laws)
 pointer-requires : tie.Need-pointer-requires Inv-loop μ-loop
 pointer-requires c κs = search needs
 
+mul-place : tie.Need-mul-place Inv-loop μ-loop
+mul-place c = search needs
+
+array-read-place : tie.Need-array-read-place Inv-loop μ-loop
+array-read-place c = search needs
+
 at-automaton-requires : tie.Need-at-automaton-requires Inv-loop μ-loop
 at-automaton-requires c κs = search needs
 
-after-automaton-requires : tie.Need-after-automaton-requires Inv-loop μ-loop
-after-automaton-requires c κs = search needs
-
 add-i : tie.Need-add-i Inv-loop μ-loop
 add-i c = search needs
-
-sub-left : tie.Need-sub-left Inv-loop μ-loop
-sub-left c = search needs
 
 loop-less : tie.Need-loop-less Inv-loop μ-loop
 loop-less c = search needs
@@ -47,12 +49,13 @@ at-automata-spec =
     (tie.spec
     Inv-loop
     μ-loop
+    automata-of-requires
     loop-holds
     pointer-requires
+    mul-place
+    array-read-place
     at-automaton-requires
-    after-automaton-requires
     add-i
-    sub-left
     loop-less
     loop-again
     returns)

@@ -4,12 +4,6 @@ use borrow.Author.Needs.{needs}
 use Rattle.merge_predicates.proofs.clauses.merged.Statement.{statement}
 use Rattle.merge_predicates.proofs.clauses.merged.Tie as tie
 
-automata-requires : tie.Need-automata-requires
-automata-requires c κs = search needs
-
-first-automaton-requires : tie.Need-first-automaton-requires
-first-automaton-requires c κs = search needs
-
 merged-nodes-requires : tie.Need-merged-nodes-requires
 merged-nodes-requires c κs = search needs
 
@@ -25,9 +19,6 @@ all-node-requires c κs = search needs
 put-requires-2 : tie.Need-put-requires-2
 put-requires-2 c κs = search needs
 
-variables-requires : tie.Need-variables-requires
-variables-requires c κs = search needs
-
 at-automata-requires : tie.Need-at-automata-requires
 at-automata-requires c κs = search needs
 
@@ -38,13 +29,10 @@ pub merged-spec : {M : Type 1} → statement M
 merged-spec =
     tie.close
     (tie.spec
-    automata-requires
-    first-automaton-requires
     merged-nodes-requires
     put-requires
     location-total-requires
     all-node-requires
     put-requires-2
-    variables-requires
     at-automata-requires
     returns)

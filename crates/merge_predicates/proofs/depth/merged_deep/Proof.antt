@@ -4,14 +4,8 @@ use borrow.Author.Needs.{needs}
 use Rattle.merge_predicates.proofs.depth.merged_deep.Statement.{statement}
 use Rattle.merge_predicates.proofs.depth.merged_deep.Tie as tie
 
-automata-requires : tie.Need-automata-requires
-automata-requires c κs = search needs
-
 sub-automata-deeper : tie.Need-sub-automata-deeper
 sub-automata-deeper c = search needs
-
-first-automaton-requires : tie.Need-first-automaton-requires
-first-automaton-requires c κs = search needs
 
 automata-deeper-requires : tie.Need-automata-deeper-requires
 automata-deeper-requires c κs = search needs
@@ -23,8 +17,6 @@ pub merged-deep-spec : {M : Type 1} → statement M
 merged-deep-spec =
     tie.close
     (tie.spec
-    automata-requires
-    first-automaton-requires
     sub-automata-deeper
     automata-deeper-requires
     returns)

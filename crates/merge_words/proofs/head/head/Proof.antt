@@ -4,12 +4,6 @@ use borrow.Author.Needs.{needs}
 use Rattle.merge_words.proofs.head.head.Statement.{statement}
 use Rattle.merge_words.proofs.head.head.Tie as tie
 
-variables-requires : tie.Need-variables-requires
-variables-requires c κs = search needs
-
-automata-requires : tie.Need-automata-requires
-automata-requires c κs = search needs
-
 pointer-requires : tie.Need-pointer-requires
 pointer-requires c κs = search needs
 
@@ -25,9 +19,6 @@ pointer-requires-2 c κs = search needs
 copy-requires : tie.Need-copy-requires
 copy-requires c κs = search needs
 
-first-automaton-requires : tie.Need-first-automaton-requires
-first-automaton-requires c κs = search needs
-
 pointers-requires : tie.Need-pointers-requires
 pointers-requires c κs = search needs
 
@@ -41,14 +32,11 @@ pub head-spec : {M : Type 1} → statement M
 head-spec =
     tie.close
     (tie.spec
-    variables-requires
-    automata-requires
     pointer-requires
     numbers-requires
     range-at-requires
     pointer-requires-2
     copy-requires
-    first-automaton-requires
     pointers-requires
     put-requires
     returns)

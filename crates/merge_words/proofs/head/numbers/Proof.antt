@@ -10,9 +10,6 @@ word-requires c κs = search needs
 put-requires : tie.Need-put-requires
 put-requires c κs = search needs
 
-actions-requires : tie.Need-actions-requires
-actions-requires c κs = search needs
-
 put-requires-2 : tie.Need-put-requires-2
 put-requires-2 c κs = search needs
 
@@ -24,4 +21,4 @@ returns c = search (needs, three-words)
 
 pub numbers-spec : {M : Type 1} → statement M
 numbers-spec =
-    tie.close (tie.spec word-requires put-requires actions-requires put-requires-2 put-requires-3 returns)
+    tie.close (tie.spec word-requires put-requires put-requires-2 put-requires-3 returns)

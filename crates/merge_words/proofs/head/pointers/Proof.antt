@@ -2,18 +2,28 @@
 use Rattle.merge_words.proofs.HeadLaws.{pointers-laws}
 use Rattle.merge_append.proofs.AppendLaws.{Underway}
 use Rattle.merge_words.specs.Head.{pointerRanges}
+use Prim.Native.Nat.{_-_, _≤_}
 use borrow.Author.Needs.{needs}
 use Rattle.merge_words.proofs.head.pointers.Statement.{statement}
 use Rattle.merge_words.proofs.head.pointers.Tie as tie
 
 abbrev Inv-loop : tie.InvT-loop
-Inv-loop t first count out₀ at left₀ place₀ next₀ out left place next = Underway (pointerRanges t first count) at out₀ (pointerRanges t place left) next out
+Inv-loop t out₀ at count places i₀ next₀ out i next = (count ≤ 16) × (i ≤ count) × Underway (pointerRanges t places 0 count) at out₀ (pointerRanges t places i (count - i)) next out
 
 abbrev μ-loop : tie.MeasureT-loop
-μ-loop t first count out₀ at left₀ place₀ next₀ out left place next = left
+μ-loop t out₀ at count places i₀ next₀ out i next = count - i
+
+automata-of-requires : tie.Need-automata-of-requires Inv-loop μ-loop
+automata-of-requires c κs = search needs
 
 loop-holds : tie.Need-loop-holds Inv-loop μ-loop
 loop-holds c = search (needs, pointers-laws)
+
+mul-place : tie.Need-mul-place Inv-loop μ-loop
+mul-place c = search needs
+
+array-read-place : tie.Need-array-read-place Inv-loop μ-loop
+array-read-place c = search needs
 
 last-location-requires : tie.Need-last-location-requires Inv-loop μ-loop
 last-location-requires c κs = search needs
@@ -24,11 +34,8 @@ upward-requires c κs = search needs
 range-requires : tie.Need-range-requires Inv-loop μ-loop
 range-requires c κs = search needs
 
-after-automaton-requires : tie.Need-after-automaton-requires Inv-loop μ-loop
-after-automaton-requires c κs = search needs
-
-sub-left : tie.Need-sub-left Inv-loop μ-loop
-sub-left c = search needs
+add-i : tie.Need-add-i Inv-loop μ-loop
+add-i c = search needs
 
 loop-less : tie.Need-loop-less Inv-loop μ-loop
 loop-less c = search needs
@@ -45,12 +52,14 @@ pointers-spec =
     (tie.spec
     Inv-loop
     μ-loop
+    automata-of-requires
     loop-holds
+    mul-place
+    array-read-place
     last-location-requires
     upward-requires
     range-requires
-    after-automaton-requires
-    sub-left
+    add-i
     loop-less
     loop-again
     returns)
