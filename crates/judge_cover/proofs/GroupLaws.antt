@@ -11,13 +11,13 @@ use lib.Seq.{getD-set-same, getD-set-other}
 use Rattle.model.specs.Basic.{keep, countUp, sum}
 use Rattle.model.specs.Bounds.{maxAutomata}
 use Rattle.model.specs.Table.{bit}
-use Rattle.model.proofs.Lists.{keep-append, keep-first, keep-skip, sum-append}
+use Rattle.model.proofs.Lists.{keep-append, keep-first, keep-skip, sum-append, count-split}
 use Rattle.model.proofs.Tests.{not-false}
 use Rattle.judge_cover.specs.declared.sift.Room.{Room}
 use Rattle.judge_cover.specs.declared.sift.Room.the-variants.{At, Full}
 use Rattle.judge_cover.specs.Cover.{group, groups, groupsOf, useful, siftedGroup, siftedGroups}
 use Rattle.judge_cover.specs.Steps.{advanced, CoversAtMost, BoundsOf, SiftedTo, SiftedAs}
-use Rattle.judge_cover.proofs.Counting.{map-count, count-last, count-join}
+use Rattle.judge_cover.proofs.Counting.{map-count, count-last}
 use Rattle.judge_cover.proofs.CodeLaws.{other}
 
 -- a group's first edge, and its last
@@ -43,7 +43,7 @@ group-last l a b r h len =
     let e : b + 1 - a ≡ (b - a) + 1 = omega arith in
     let z : a + (b - a) ≡ b = omega arith in
     let f : ℕ → ℕ = λ j. getD (set l b r) j 0 in
-    ap (λ n. map f (countUp a n)) e ∙ ap (map f) (count-join a (b - a) 1) ∙ map-append f (countUp a (b - a)) (countUp (a + (b - a)) 1)
+    ap (λ n. map f (countUp a n)) e ∙ ap (map f) (count-split a (b - a) 1) ∙ map-append f (countUp a (b - a)) (countUp (a + (b - a)) 1)
     ∙ ap₂ (λ x y. x ++ y)
     (map-count f (λ j. getD l j 0) (b - a) a (λ j x y. getD-set-other l b j r 0 (λ w. omega arith)))
     (ap (λ y. y ∷ []) (ap f z ∙ getD-set-same l b r 0 len))

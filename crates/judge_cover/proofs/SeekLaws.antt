@@ -13,10 +13,10 @@ use borrow.Author.Tests.{lt-ltb, le-ltb, ltb-true, ltb-false}
 use Rattle.model.specs.Basic.{every, exists, keep, countUp, sum}
 use Rattle.model.specs.Table.{bit}
 use Rattle.model.proofs.Tests.{exists-map, every-ext, not-true, not-false}
-use Rattle.model.proofs.Lists.{every-map, none-narrower}
+use Rattle.model.proofs.Lists.{every-map, none-narrower, count-split}
 use Rattle.judge_cover.specs.Cover.{coverable, group, groups, groupsOf, leftBy, worth, namedIn, past, allFilled, useful, siftedGroup, siftedGroups}
 use Rattle.judge_cover.specs.Steps.{Without, CoversAtMost, BoundsOf, triesAt, triedIn}
-use Rattle.judge_cover.proofs.Counting.{map-count, count-join, exists-count}
+use Rattle.judge_cover.proofs.Counting.{map-count, exists-count}
 use Rattle.judge_cover.proofs.CoverLaws.{filled, nothing-left, one-empty, coverable-falls, Above, Bounded, none, one, bound, sift, sift-same}
 use Rattle.judge_cover.proofs.Branching.{others, through, branch-is, tries, worth-is-enough}
 use Rattle.judge_cover.proofs.CodeLaws.{some-here, some-later, some-none}
@@ -138,7 +138,7 @@ module _ (masks starts ends : List ℕ) (n k : ℕ) (l : k < n) (few : n ≤ 16)
       let behind : map F (countUp k c) ≡ map H (countUp (suc k) c) = map-shift F H c k (λ i a b.
       let p : past k i ≡ suc i = rw (le-ltb i k a, past) (omega arith) in
       ap₂ (group masks) (f .each i (omega arith) ∙ ap (λ j. getD starts j 0) p) (g .each i (omega arith) ∙ ap (λ j. getD ends j 0) p)) in
-      ap (λ m. map F (countUp 0 m)) e ∙ ap (map F) (count-join 0 k c) ∙ map-append F (countUp 0 k) (countUp (0 + k) c)
+      ap (λ m. map F (countUp 0 m)) e ∙ ap (map F) (count-split 0 k c) ∙ map-append F (countUp 0 k) (countUp (0 + k) c)
       ∙ ap₂ (λ p q. p ++ q) (before ∙ ap (λ m. map H (countUp 0 m)) (sym y))
       (ap (λ m. map F (countUp m c)) z ∙ behind ∙ ap (λ m. map H (countUp (suc k) m)) (sym x))
 
