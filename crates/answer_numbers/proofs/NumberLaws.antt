@@ -4,8 +4,8 @@ use mathlib.Core.Path.{_≡_}
 use Rattle.model.specs.Runs.{phaseNumber}
 use Rattle.judge_rows.specs.declared.Phase.{Phase}
 use Rattle.judge_rows.specs.Phases.{phaseIs}
-use Rattle.judge.specs.declared.Ran.{Ran}
-use Rattle.judge.specs.declared.Ran.the-variants as Ran
+use Rattle.judge_runs.specs.declared.Ran.{Ran}
+use Rattle.judge_runs.specs.declared.Ran.the-variants as Ran
 use Rattle.judge.specs.declared.Counted.{Counted}
 use Rattle.judge.specs.declared.Counted.the-variants as Counted
 use Rattle.merger.specs.declared.MergeAnswer as G

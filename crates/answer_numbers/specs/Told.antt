@@ -3,8 +3,8 @@
 use Prim.Native.Nat.{ℕ, _+_, _*_, _%_, _^_}
 use Rattle.model.specs.Runs.{phaseNumber}
 use Rattle.judge_rows.specs.Phases.{phaseIs}
-use Rattle.judge.specs.declared.Ran.{Ran}
-use Rattle.judge.specs.declared.Ran.the-variants as J
+use Rattle.judge_runs.specs.declared.Ran.{Ran}
+use Rattle.judge_runs.specs.declared.Ran.the-variants as J
 use Rattle.judge.specs.declared.Counted.{Counted}
 use Rattle.judge.specs.declared.Counted.the-variants as S
 use Rattle.reader.specs.declared.ReadAnswer.{ReadAnswer}

@@ -6,7 +6,7 @@ use lib.IntN.{ℤ}
 use Rattle.model.specs.Table.{openTable}
 use Rattle.model.specs.Judge as J
 use Rattle.judge_call.specs.Answers.{answerNumber}
-use Rattle.judge.specs.declared.Ran.{Ran}
+use Rattle.judge_runs.specs.declared.Ran.{Ran}
 use Rattle.judge.specs.declared.Counted.{Counted}
 use Rattle.judge.specs.RunAnswer.{runAnswer, ranOf}
 use Rattle.judge.specs.TableSize.{sizeOf}

@@ -1,3 +1,2 @@
-pub mod RunCodeLaws
 pub mod RunLaws
 pub mod SizeLaws

@@ -28,8 +28,8 @@ use Rattle.table_places.proofs.Opened.{Sheet, sheet-of}
 use Rattle.judge_rows.specs.declared.Phase.{Phase}
 use Rattle.judge_rows.specs.declared.Phase.the-variants.{Start, Running}
 use Rattle.judge_rows.specs.declared.State.{State}
-use Rattle.judge.specs.declared.Ran.{Ran}
-use Rattle.judge.specs.declared.Ran.the-variants as Code
+use Rattle.judge_runs.specs.declared.Ran.{Ran}
+use Rattle.judge_runs.specs.declared.Ran.the-variants as Code
 use Rattle.judge_rows.specs.declared.Admitted.{Admitted}
 use Rattle.judge_rows.specs.declared.Admitted.the-variants.{In, Out}
 use Rattle.judge_call.specs.declared.Answer.{Answer}
@@ -43,7 +43,7 @@ use Rattle.judge_call.specs.Calls.{environmentFrom, stepFrom, ownOf}
 use Rattle.judge_turn.specs.Turns.{environmentMark, judgedOn, proposedOn, movedTo, turnOn}
 use Rattle.judge.specs.RunAnswer.{proposalOf, proposalsOf, RunAnswer, notRun, uneven, answersShort, endShort, ran, isUneven, lacksEnd, runFrom, runAnswer, ranOf, lentAfter, answersAfter, locationsAfter, valuesAfter}
 use Rattle.judge_lists.specs.Lists.{inFront, listsFit, endFits}
-use Rattle.judge.specs.RunWords.{Gone, goOn, Left, ranOn, listedOn, overOn, Leaves}
+use Rattle.judge_runs.specs.RunWords.{Gone, goOn, Left, ranOn, listedOn, overOn, Leaves}
 use Rattle.judge_rows.proofs.Filled.{filled-front, filled-twice}
 use Rattle.judge_rows.proofs.RowLaws.{lengths-row, locations-row, values-row}
 use Rattle.judge_rows.proofs.StateLaws.{stands, phase-read, in-front}

@@ -1,3 +1,2 @@
 pub mod RunAnswer
-pub mod RunWords
 pub mod TableSize

@@ -12,8 +12,8 @@ use Rattle.model.specs.Table.{unopened, opened, openTable}
 use Rattle.model.specs.Rules.{State}
 use Rattle.model.specs.Judge.{Answer, phaseOf, row21, row22, row23}
 use Rattle.model.specs.Runs.{Proposal, toStep, toEnvironment, tableJudge, Run, run}
-use Rattle.judge.specs.declared.Ran.{Ran}
-use Rattle.judge.specs.declared.Ran.the-variants.{Ended, Refused, Uneven, AnswersShort, EndShort}
+use Rattle.judge_runs.specs.declared.Ran.{Ran}
+use Rattle.judge_runs.specs.declared.Ran.the-variants.{Ended, Refused, Uneven, AnswersShort, EndShort}
 use Rattle.judge_rows.specs.Phases.{phaseFor}
 use Rattle.judge_call.specs.Answers.{answerNumber}
 use Rattle.judge_turn.specs.Turns.{environmentMark}

@@ -1,7 +1,5 @@
 // The judges: is a proposed step of the composition allowed? One by one, or a list of proposals over one check of the
 // table.
-mod runs;
-
 pub use judge_call::Answer;
 pub use judge_call::environment;
 pub use judge_call::number;
@@ -9,23 +7,13 @@ pub use judge_call::step;
 pub use judge_rows::Phase;
 pub use judge_rows::State;
 pub use judge_rows::phase_number;
+pub use judge_runs::Ran;
 use model::Checked;
 ghost use mathlib.Core.Path.{_≡_};
 ghost use lib.ListN.{length};
 ghost use Rattle.model.specs.Table.{openTable};
 ghost use Rattle.judge.specs.RunAnswer.{runAnswer, ranOf, answersAfter, locationsAfter, valuesAfter};
 ghost use Rattle.judge.specs.TableSize.{sizeOf};
-
-// The phase that a run ends in; or the row that refuses the table, the phase or the state that it starts from; or a
-// fault of the list: not one location for each automaton and one value for each variable at each proposal, no place
-// for each answer, no place for the state.
-pub enum Ran {
-    Ended(Phase),
-    Refused(u32),
-    Uneven,
-    AnswersShort,
-    EndShort,
-}
 
 // Puts a list of proposals to the judges, over one check of the table and one walk over it. For each: its action, or
 // 4294967295 for the environment judge; its locations, which that judge does not read; its values. A yes moves the run
@@ -63,7 +51,7 @@ pub fn run(
     if let Checked::Refused(row) = table_check::check(table) {
         return Ran::Refused(row);
     }
-    runs::over(
+    judge_runs::over(
         table,
         phase,
         locations,

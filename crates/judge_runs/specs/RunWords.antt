@@ -10,8 +10,8 @@ use lib.Dec.{leb}
 use Rattle.table_places.specs.declared.layout.Layout.{Layout}
 use Rattle.table_places.specs.Layout.{layoutOf, automataOf, variablesOf}
 use Rattle.judge_rows.specs.declared.State.{State}
-use Rattle.judge.specs.declared.Ran.{Ran}
-use Rattle.judge.specs.declared.Ran.the-variants.{Ended, Refused, Uneven, AnswersShort, EndShort}
+use Rattle.judge_runs.specs.declared.Ran.{Ran}
+use Rattle.judge_runs.specs.declared.Ran.the-variants.{Ended, Refused, Uneven, AnswersShort, EndShort}
 use Rattle.judge_rows.specs.declared.Admitted.the-variants.{In, Out}
 use Rattle.judge_rows.specs.States.{stateOf}
 use Rattle.judge_call.specs.Calls.{ownOf}

@@ -1,7 +1,5 @@
-// A list of proposals over a table that is known to be good: what `run` does once it has checked the table. `x` is the
-// table's layout and `own` the automata's own sets, found once for the list; and a state that a yes led to is not
-// checked again.
-use crate::Ran;
+// A list of proposals over a table that is known to be good. `x` is the table's layout and `own` the automata's own
+// sets, found once for the list; and a state that a yes led to is not checked again.
 use judge_rows::Admitted;
 use judge_rows::Phase;
 use judge_rows::State;
@@ -12,8 +10,19 @@ ghost use mathlib.Core.Bool.{true};
 ghost use lib.ListN.{length};
 ghost use Rattle.table_places.specs.Layout.{automataOf, variablesOf};
 ghost use Rattle.judge_lists.specs.Lists.{endFits};
-ghost use Rattle.judge.specs.declared.Ran.the-variants.{Ended};
-ghost use Rattle.judge.specs.RunWords.{onward, goOn, ranOn, listedOn, overOn, Leaves};
+ghost use Rattle.judge_runs.specs.declared.Ran.the-variants.{Ended};
+ghost use Rattle.judge_runs.specs.RunWords.{onward, goOn, ranOn, listedOn, overOn, Leaves};
+
+// The phase that a run ends in; or the row that refuses the table, the phase or the state that it starts from; or a
+// fault of the list: not one location for each automaton and one value for each variable at each proposal, no place
+// for each answer, no place for the state.
+pub enum Ran {
+    Ended(Phase),
+    Refused(u32),
+    Uneven,
+    AnswersShort,
+    EndShort,
+}
 
 // The place n items on in a list of so many, or its end.
 fn onward(size: usize, at: usize, n: usize) -> usize
@@ -144,7 +153,7 @@ fn listed(
 }
 
 // The whole call over a good table: rows 20 to 23 of the state that the run starts from, and then the list.
-pub(crate) fn over(
+pub fn over(
     words: &[u32],
     phase: u32,
     locations: &[u32],

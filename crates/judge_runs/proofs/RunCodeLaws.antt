@@ -16,9 +16,9 @@ use Rattle.table_places.specs.Layout.{layoutOf, automataOf, variablesOf}
 use Rattle.table_places.specs.Own.{ownSets}
 use Rattle.judge_rows.specs.declared.Phase.{Phase}
 use Rattle.judge_rows.specs.declared.State.{State}
-use Rattle.judge.specs.declared.Ran.{Ran}
-use Rattle.judge.specs.declared.Ran.the-variants.{Ended, Uneven, AnswersShort, EndShort}
-use Rattle.judge.specs.declared.Ran.the-variants as Refuses
+use Rattle.judge_runs.specs.declared.Ran.{Ran}
+use Rattle.judge_runs.specs.declared.Ran.the-variants.{Ended, Uneven, AnswersShort, EndShort}
+use Rattle.judge_runs.specs.declared.Ran.the-variants as Refuses
 use Rattle.judge_turn.specs.declared.Turn.{Turn}
 use Rattle.judge_rows.specs.declared.Admitted.{Admitted}
 use Rattle.judge_rows.specs.declared.Admitted.the-variants.{In, Out}
@@ -28,7 +28,7 @@ use Rattle.judge_lists.specs.Lists.{listsFit, endFits, inFront, placed}
 use Rattle.judge_lists.proofs.ListLaws.{room-for-locations, room-for-values}
 use Rattle.judge_rows.specs.Checks.{begunOn}
 use Rattle.judge_turn.specs.Turns.{turnOn}
-use Rattle.judge.specs.RunWords.{onward, Gone, goOn, Left, ranOn, listedOn, overOn, Leaves}
+use Rattle.judge_runs.specs.RunWords.{onward, Gone, goOn, Left, ranOn, listedOn, overOn, Leaves}
 
 -- `onward`
 module _ (size at n : ℕ) where

@@ -1,8 +1,8 @@
--- `judge::runs::onward` meets its contract: each way out is a law of RunCodeLaws.
-use Rattle.judge.proofs.RunCodeLaws.{onward-laws}
+-- `judge_runs::onward` meets its contract: each way out is a law of RunCodeLaws.
+use Rattle.judge_runs.proofs.RunCodeLaws.{onward-laws}
 use borrow.Author.Needs.{needs}
-use Rattle.judge.proofs.runs.onward.Statement.{statement}
-use Rattle.judge.proofs.runs.onward.Tie as tie
+use Rattle.judge_runs.proofs.onward.Statement.{statement}
+use Rattle.judge_runs.proofs.onward.Tie as tie
 
 sub-if1 : tie.Need-sub-if1
 sub-if1 c = search needs

@@ -1,8 +1,8 @@
--- `judge::runs::ended` meets its contract: a law of RunCodeLaws.
-use Rattle.judge.proofs.RunCodeLaws.{ended-is}
+-- `judge_runs::ended` meets its contract: a law of RunCodeLaws.
+use Rattle.judge_runs.proofs.RunCodeLaws.{ended-is}
 use borrow.Author.Needs.{needs}
-use Rattle.judge.proofs.runs.ended.Statement.{statement}
-use Rattle.judge.proofs.runs.ended.Tie as tie
+use Rattle.judge_runs.proofs.ended.Statement.{statement}
+use Rattle.judge_runs.proofs.ended.Tie as tie
 
 all-requires : tie.Need-all-requires
 all-requires c κs = search needs

@@ -1,8 +1,8 @@
--- `judge::runs::over` meets its contract: each way out is a law of RunCodeLaws.
-use Rattle.judge.proofs.RunCodeLaws.{over-laws}
+-- `judge_runs::over` meets its contract: each way out is a law of RunCodeLaws.
+use Rattle.judge_runs.proofs.RunCodeLaws.{over-laws}
 use borrow.Author.Needs.{needs}
-use Rattle.judge.proofs.runs.over.Statement.{statement}
-use Rattle.judge.proofs.runs.over.Tie as tie
+use Rattle.judge_runs.proofs.over.Statement.{statement}
+use Rattle.judge_runs.proofs.over.Tie as tie
 
 layout-of-requires : tie.Need-layout-of-requires
 layout-of-requires c κs = search needs

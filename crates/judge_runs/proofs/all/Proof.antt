@@ -1,10 +1,10 @@
--- `judge::runs::all` meets its contract: the run goes on to the same end. The measure is the proposals left.
+-- `judge_runs::all` meets its contract: the run goes on to the same end. The measure is the proposals left.
 use Prim.Native.Nat.{_-_}
 use lib.ListN.{length}
-use Rattle.judge.proofs.RunCodeLaws.{Going, all-laws}
+use Rattle.judge_runs.proofs.RunCodeLaws.{Going, all-laws}
 use borrow.Author.Needs.{needs}
-use Rattle.judge.proofs.runs.all.Statement.{statement}
-use Rattle.judge.proofs.runs.all.Tie as tie
+use Rattle.judge_runs.proofs.all.Statement.{statement}
+use Rattle.judge_runs.proofs.all.Tie as tie
 
 abbrev Inv-loop : tie.InvT-loop
 Inv-loop words x own actions new-locations new-values answers₀ n v s₀ at₀ from₀ k₀ answers s at from k =

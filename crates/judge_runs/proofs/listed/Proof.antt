@@ -1,8 +1,8 @@
--- `judge::runs::listed` meets its contract: each way out is a law of RunCodeLaws.
-use Rattle.judge.proofs.RunCodeLaws.{end-has-room, listed-laws}
+-- `judge_runs::listed` meets its contract: each way out is a law of RunCodeLaws.
+use Rattle.judge_runs.proofs.RunCodeLaws.{end-has-room, listed-laws}
 use borrow.Author.Needs.{needs}
-use Rattle.judge.proofs.runs.listed.Statement.{statement}
-use Rattle.judge.proofs.runs.listed.Tie as tie
+use Rattle.judge_runs.proofs.listed.Statement.{statement}
+use Rattle.judge_runs.proofs.listed.Tie as tie
 
 lengths-for-requires : tie.Need-lengths-for-requires
 lengths-for-requires c κs = search needs
