@@ -50,7 +50,7 @@ module _ (t : List ℕ) (action left place sum whole : ℕ) (i : underFrom t act
 
 pub ruleset under-laws = (under-turn, under-end)
 
--- `under_in`
+-- `under_at`
 pub under-is : (t : List ℕ) (action edges f n r : ℕ) → f ≡ firstEdge t edges → n ≡ getD t edges 0 → r ≡ underFrom t action n f 0 → r ≡ underAt t action edges
 unfolding underAt
 under-is t action edges f n r ef en er = rw (er, ef, en)

@@ -13,6 +13,7 @@ pub struct ActionPlan {
     pub count: u32,
 }
 
+// One more in a sum, if there is one here.
 fn one_more(here: bool, sum: usize) -> usize
     ensures { λ r. ⌜ r ≡ oneMore here sum ⌝ }
 {
@@ -35,7 +36,7 @@ fn under(t: &[u32], action: usize, count: usize, first: usize) -> usize
 }
 
 // The same of an automaton, whose count of edges stands at `edges`.
-fn under_in(t: &[u32], action: usize, edges: usize) -> usize
+fn under_at(t: &[u32], action: usize, edges: usize) -> usize
     ensures { λ r. ⌜ r ≡ underAt (now (t .entry)) action edges ⌝ }
 {
     let first = table_places::first_edge(t, edges);
@@ -52,12 +53,13 @@ fn counts_of(t: &[u32], x: Layout, action: usize) -> [u32; 16]
     let mut i = 0;
     while i < count {
         let place = edges[i];
-        under[i] = merge_append::narrow(under_in(t, action, place));
+        under[i] = merge_append::narrow(under_at(t, action, place));
         i += 1;
     }
     under
 }
 
+// The plan of an action, where `own` has the automata's own sets.
 pub fn plan(t: &[u32], x: Layout, own: &[u64; 16], action: u32) -> ActionPlan
     ensures { λ r. ⌜ r ≡ planOf (now (t .entry)) x (now (own .entry)) action ⌝ }
 {

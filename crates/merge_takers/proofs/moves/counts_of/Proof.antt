@@ -23,8 +23,8 @@ mul-place c = search needs
 array-read-place : tie.Need-array-read-place Inv-loop μ-loop
 array-read-place c = search needs
 
-under-in-requires : tie.Need-under-in-requires Inv-loop μ-loop
-under-in-requires c κs = search needs
+under-at-requires : tie.Need-under-at-requires Inv-loop μ-loop
+under-at-requires c κs = search needs
 
 narrow-requires : tie.Need-narrow-requires Inv-loop μ-loop
 narrow-requires c κs = search needs
@@ -57,7 +57,7 @@ counts-of-spec =
     loop-holds
     mul-place
     array-read-place
-    under-in-requires
+    under-at-requires
     narrow-requires
     mul-under
     array-write-under
