@@ -6,9 +6,9 @@ use native.Mathlib.Omega.{arith}
 use Rattle.table_places.specs.declared.layout.Layout.{Layout}
 use Rattle.merge_append.specs.Append.{Appended}
 use Rattle.merge_append.proofs.AppendLaws.{Underway, begun, on-by, ended}
-use Rattle.merge_edges.specs.declared.moves.ActionPlan.{ActionPlan}
+use Rattle.merge_takers.specs.declared.moves.ActionPlan.{ActionPlan}
 use Rattle.merge_edges.specs.Edge.{edgeBy}
-use Rattle.merge_edges.specs.Moves.{planOf, picksOf, placesOf, lastAction}
+use Rattle.merge_takers.specs.Moves.{planOf, picksOf, placesOf, lastAction}
 use Rattle.merge_edges.specs.Edges.{edgeWordsAt, edgesFrom, edgesUnder, edgesOf, edgesIn}
 
 -- `edge`

@@ -1,4 +1,2 @@
-pub mod TakingLaws
 pub mod EdgeLaws
-pub mod MovesLaws
 pub mod EdgesLaws

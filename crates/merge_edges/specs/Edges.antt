@@ -2,9 +2,9 @@
 use mathlib.Core.List.{List, [], _++_}
 use Prim.Native.Nat.{ℕ, zero, suc, _+_}
 use Rattle.table_places.specs.declared.layout.Layout.{Layout}
-use Rattle.merge_edges.specs.Taking.{takers}
+use Rattle.merge_takers.specs.Taking.{takers}
 use Rattle.merge_edges.specs.Edge.{edgeBy}
-use Rattle.merge_edges.specs.Moves.{cellsOf, moveTotal, picksOf, lastAction}
+use Rattle.merge_takers.specs.Moves.{cellsOf, moveTotal, picksOf, lastAction}
 
 module _ (t : List ℕ) (x : Layout) where
   -- the edge that these picks name

@@ -1,4 +1,2 @@
-pub mod Taking
 pub mod Edge
-pub mod Moves
 pub mod Edges

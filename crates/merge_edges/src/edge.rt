@@ -46,6 +46,7 @@ fn pointer_move(
     equal(merge_append::new_node(k), to, out, a)
 }
 
+// The updates of all takers.
 fn updates(t: &[u32], places: [usize; 16], out: &mut [u32; Model::WORDS], at: usize) -> usize
     ensures { λ r. ⌜ Appended (updatesAt (now (t .entry)) places)
         at (now (out .entry)) (now (out .exit)) r ⌝ }
@@ -59,6 +60,7 @@ fn updates(t: &[u32], places: [usize; 16], out: &mut [u32; Model::WORDS], at: us
     next
 }
 
+// The pointers of all takers, after so many variables.
 fn pointer_moves(
     t: &[u32],
     variables: usize,
@@ -103,6 +105,7 @@ pub fn takers_nodes(t: &[u32], places: [usize; 16]) -> usize
     sum
 }
 
+// Three operands for a taker, added to a sum.
 fn taker_operands(sum: usize, place: usize) -> usize
     ensures { λ r. ⌜ r ≡ takerOperands sum place ⌝ }
 {
@@ -112,7 +115,7 @@ fn taker_operands(sum: usize, place: usize) -> usize
     merge_append::add(sum, 3)
 }
 
-// The operands of a merged edge's `all`: three for a taker.
+// The operands of a merged edge's `all`.
 fn takers_operands(places: [usize; 16]) -> usize
     ensures { λ r. ⌜ r ≡ takersOperands 0 places ⌝ }
 {

@@ -1,11 +1,10 @@
 // The words of all merged edges: for each action its moves, one after the other.
 use crate::edge::{self};
-use crate::moves::{self};
 use model::Model;
 use table_places::Layout;
 ghost use Rattle.merge_append.specs.Append.{Appended};
 ghost use Rattle.merge_edges.specs.Edges.{edgeWordsAt, edgesFrom, edgesUnder, edgesIn};
-ghost use Rattle.merge_edges.specs.Moves.{picksOf};
+ghost use Rattle.merge_takers.specs.Moves.{picksOf};
 
 // One merged edge: move k of the planned action.
 fn edge(
@@ -21,7 +20,7 @@ fn edge(
         (edgeWordsAt (now (t .entry)) x action (picksOf (now (t .entry)) x (now (cells .entry)) k))
         at (now (out .entry)) (now (out .exit)) r ⌝ }
 {
-    let places = moves::places_of(t, x, action, cells, k);
+    let places = merge_takers::places_of(t, x, action, cells, k);
     edge::edge(t, x.variables, action, places, out, at)
 }
 
@@ -59,7 +58,7 @@ fn action_edges(
     ensures { λ r. ⌜ Appended (edgesUnder (now (t .entry)) x (now (own .entry)) action)
         at (now (out .entry)) (now (out .exit)) r ⌝ }
 {
-    let p = moves::plan(t, x, own, action);
+    let p = merge_takers::plan(t, x, own, action);
     let cells = p.cells;
     edges(t, x, arithmetic::index(action), &cells, p.count, out, at)
 }
@@ -75,7 +74,7 @@ pub fn all_edges(
     ensures { λ r. ⌜ Appended (edgesIn (now (t .entry)) x (now (own .entry)))
         at (now (out .entry)) (now (out .exit)) r ⌝ }
 {
-    let last = moves::last_action(x);
+    let last = merge_takers::last_action(x);
     let mut action = 0;
     let mut next = at;
     while action <= last {

@@ -20,6 +20,7 @@ pub fn part(t: &[u32], inv: bool, at: usize) -> usize
     }
 }
 
+// `imp eq vK J` with the predicate at a place.
 fn clause(
     t: &[u32],
     k: usize,

@@ -34,10 +34,10 @@ use Rattle.table_places.proofs.AgreeLaws.{own-agrees}
 use Rattle.merge_append.specs.Append.{narrow}
 use Rattle.merge_append.specs.NodeWords.{most, capped}
 use Rattle.merge_append.proofs.NodeLaws.{capped-is}
-use Rattle.merge_edges.specs.Taking.{isUnder}
-use Rattle.merge_edges.specs.Moves.{oneMore, underFrom, underAt, countsFrom, countsOf, rootOf, cellsOf, moveTotal, picksOf, lastAction}
+use Rattle.merge_takers.specs.Taking.{isUnder}
+use Rattle.merge_takers.specs.Moves.{oneMore, underFrom, underAt, countsFrom, countsOf, rootOf, cellsOf, moveTotal, picksOf, lastAction}
 use Rattle.merge_edges.specs.Edges.{edgeWordsAt, edgesFrom, edgesUnder, edgesOf, edgesIn}
-use Rattle.merge_edges.proofs.MovesLaws.{more-here, more-not, last-all}
+use Rattle.merge_takers.proofs.MovesLaws.{more-here, more-not, last-all}
 use Rattle.merge_table.proofs.Standing.{narrow-is, automata-cons, Along, along-first, along-rest, ownOf}
 use Rattle.merge_table.proofs.HeadIs.{automata-stand, laid-actions, laid-edges}
 use Rattle.merge_table.proofs.ClausesAre.{capped-most, capped-add}

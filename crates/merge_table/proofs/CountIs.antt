@@ -22,7 +22,7 @@ use Rattle.merge_moves.specs.Capping as M
 use Rattle.merge_moves.proofs.CappingLaws.{cap-small, cap-large}
 use Rattle.merge_moves.proofs.Whole.{plan-is}
 use Rattle.merge_append.specs.NodeWords.{pointerOf, most, capped}
-use Rattle.merge_edges.specs.Moves.{countsOf, rootOf, moveTotal, movesOf, movesIn}
+use Rattle.merge_takers.specs.Moves.{countsOf, rootOf, moveTotal, movesOf, movesIn}
 use Rattle.merge_append.proofs.NodeLaws.{capped-over, capped-is}
 use Rattle.merge_table.proofs.HeadIs.{pointer-sum, laid-variables, laid-automata}
 use Rattle.merge_table.proofs.Standing.{ownOf}

@@ -22,7 +22,7 @@ use Rattle.table_places.specs.Outline.{locationCount, firstLocation, afterPredi
 use Rattle.table_places.proofs.LayoutLaws.{all-automata}
 use Rattle.table_places.proofs.OutlineLaws.{locationWords, automatonWords, after-automaton, location-count, first-location}
 use Rattle.merge_predicates.specs.Clauses.{partAt}
-use Rattle.merge_edges.specs.Taking.{takers}
+use Rattle.merge_takers.specs.Taking.{takers}
 use Rattle.merge_edges.specs.Edge.{updatesDeep}
 use Rattle.table_places.specs.Layout.{layoutOf}
 use Rattle.merge_predicates.specs.Depths.{locationsDeeper, automataDeeper, mergedDeep}

@@ -34,7 +34,7 @@ use Rattle.node_words.proofs.NodeLaws.{new-held}
 use Rattle.merge_append.specs.Runs.{nodesAt}
 use Rattle.merge_append.specs.NodeWords.{allNode, newNode, pointerOf, most, capped}
 use Rattle.merge_append.proofs.NodeLaws.{capped-is}
-use Rattle.merge_edges.specs.Taking.{isUnder, still, edgeUnder, takenAt, takenFrom, takers}
+use Rattle.merge_takers.specs.Taking.{isUnder, still, edgeUnder, takenAt, takenFrom, takers}
 use Rattle.merge_edges.specs.Edge.{updateAt, moveAt, updatesAt, movesAt, takerNodes, takersNodes, takerOperands, takersOperands, edgeBy, updateDeep, updatesDeep}
 use Rattle.merge_edges.specs.Edges.{edgeWordsAt}
 use Rattle.merge_table.proofs.Standing.{narrow-is, run-length, nodes-stand, automata-cons, Along, along-first, along-rest}

@@ -23,7 +23,7 @@ use Rattle.table_append.specs.Append.{put}
 use Rattle.merge_append.specs.Append.{narrow, placed, Appended}
 use Rattle.table_places.specs.declared.layout.Layout.{Layout}
 use Rattle.table_places.specs.Layout.{layoutOf}
-use Rattle.merge_edges.specs.Moves.{movesIn}
+use Rattle.merge_takers.specs.Moves.{movesIn}
 use Rattle.merge_words.specs.MergedSheet.{mergedSheet}
 use Rattle.merge_words.specs.Survey.{surveyWhole}
 use Rattle.merge_words.specs.Linearize.{refusedBy, mergedTo, isCrowded, faultBy, sheetTable, linearFor, linearIn, linearBy}

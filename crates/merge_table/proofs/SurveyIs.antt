@@ -24,7 +24,7 @@ use Rattle.model.proofs.Tests.{exists-append}
 use Rattle.model.proofs.Count.{moves-length}
 use Rattle.merge_words.specs.declared.survey.Survey.{Survey}
 use Rattle.merge_append.specs.NodeWords.{most, capped}
-use Rattle.merge_edges.specs.Moves.{cellsOf, placesOf}
+use Rattle.merge_takers.specs.Moves.{cellsOf, placesOf}
 use Rattle.table_places.specs.declared.layout.Layout.{Layout}
 use Rattle.table_places.specs.Layout.{layoutOf}
 use Rattle.model.proofs.Lists.{sum-append}

@@ -26,7 +26,7 @@ use Rattle.table_places.specs.Layout.{layoutOf}
 use Rattle.table_places.proofs.Standing.{tree-stands}
 use Rattle.table_places.proofs.LayoutLaws.{tree-place}
 use Rattle.table_places.proofs.AgreeLaws.{own-agrees}
-use Rattle.merge_edges.specs.Moves.{rootOf}
+use Rattle.merge_takers.specs.Moves.{rootOf}
 use Rattle.merge_words.specs.Sync.{isShared, shifted, bitsFrom, syncBy}
 use Rattle.merge_table.proofs.Standing.{ownOf}
 use Rattle.merge_table.proofs.HeadIs.{laid-actions}

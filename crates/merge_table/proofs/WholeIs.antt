@@ -24,7 +24,7 @@ use Rattle.model.proofs.LinearLimits.{linear-lawful}
 use Rattle.model.proofs.Sizes.{words-fit}
 use Rattle.merge_append.specs.Append.{Appended}
 use Rattle.merge_append.specs.NodeWords.{most}
-use Rattle.merge_edges.specs.Moves.{movesIn}
+use Rattle.merge_takers.specs.Moves.{movesIn}
 use Rattle.table_places.specs.Layout.{layoutOf}
 use Rattle.merge_words.specs.MergedSheet.{mergedSheet}
 use Rattle.merge_table.proofs.Standing.{ownOf}

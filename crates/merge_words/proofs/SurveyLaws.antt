@@ -8,9 +8,9 @@ use Rattle.merge_words.specs.declared.survey.Survey.{Survey}
 use Rattle.merge_append.specs.NodeWords.{capped}
 use Rattle.merge_predicates.specs.Clauses.{mergedNodes}
 use Rattle.merge_predicates.specs.Depths.{mergedDeep}
-use Rattle.merge_edges.specs.declared.moves.ActionPlan.{ActionPlan}
+use Rattle.merge_takers.specs.declared.moves.ActionPlan.{ActionPlan}
 use Rattle.merge_edges.specs.Edge.{takersNodes, updatesDeep}
-use Rattle.merge_edges.specs.Moves.{planOf, placesOf, lastAction}
+use Rattle.merge_takers.specs.Moves.{planOf, placesOf, lastAction}
 use Rattle.table_places.specs.declared.layout.Layout.{Layout}
 use Rattle.merge_words.specs.Survey.{surveyed, withEdge, surveyFrom, surveyUnder, surveyOf, surveyIn, surveyStart, surveyWhole}
 

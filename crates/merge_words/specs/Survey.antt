@@ -8,7 +8,7 @@ use Rattle.merge_append.specs.NodeWords.{capped}
 use Rattle.merge_predicates.specs.Clauses.{mergedNodes}
 use Rattle.merge_predicates.specs.Depths.{mergedDeep}
 use Rattle.merge_edges.specs.Edge.{takersNodes, updatesDeep}
-use Rattle.merge_edges.specs.Moves.{cellsOf, moveTotal, placesOf, lastAction}
+use Rattle.merge_takers.specs.Moves.{cellsOf, moveTotal, placesOf, lastAction}
 use Rattle.merge_words.specs.declared.survey.Survey.{Survey}
 
 abbrev pub surveyed : (deep : Bool) (nodes : ℕ) → Survey

@@ -59,7 +59,7 @@ fn counted(t: &[u32], x: Layout) -> Linearization
     ensures { λ r. ⌜ r ≡ linearIn (now (t .entry)) x ⌝ }
 {
     let own = table_places::own_sets(t, x);
-    let edges = merge_edges::all_moves(t, x, &own);
+    let edges = merge_takers::all_moves(t, x, &own);
     admitted(t, x, &own, edges)
 }
 

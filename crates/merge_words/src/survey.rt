@@ -1,7 +1,7 @@
 // What rows 33 and 34 ask of the merged predicates: is one too deep, and how many nodes they have.
 use table_places::Layout;
 ghost use mathlib.Core.Path.{_≡_};
-ghost use Rattle.merge_edges.specs.Moves.{placesOf};
+ghost use Rattle.merge_takers.specs.Moves.{placesOf};
 ghost use Rattle.merge_words.specs.Survey.{withEdge, surveyFrom, surveyUnder, surveyIn, surveyStart, surveyWhole};
 
 pub struct Survey {
@@ -13,7 +13,7 @@ pub struct Survey {
 fn with_edge(t: &[u32], x: Layout, action: usize, cells: &[u32; 192], k: u32, s: Survey) -> Survey
     ensures { λ r. ⌜ r ≡ withEdge (now (t .entry)) (placesOf (now (t .entry)) x (now (cells .entry)) action k) s ⌝ }
 {
-    let places = merge_edges::places_of(t, x, action, cells, k);
+    let places = merge_takers::places_of(t, x, action, cells, k);
     let deep = merge_edges::updates_deep(t, places);
     let nodes = merge_edges::takers_nodes(t, places);
     Survey {
@@ -46,7 +46,7 @@ fn with_edges(
 fn action_survey(t: &[u32], x: Layout, own: &[u64; 16], action: u32, s: Survey) -> Survey
     ensures { λ r. ⌜ r ≡ surveyUnder (now (t .entry)) x (now (own .entry)) action s ⌝ }
 {
-    let p = merge_edges::plan(t, x, own, action);
+    let p = merge_takers::plan(t, x, own, action);
     let cells = p.cells;
     with_edges(t, x, arithmetic::index(action), &cells, p.count, s)
 }
@@ -55,7 +55,7 @@ fn action_survey(t: &[u32], x: Layout, own: &[u64; 16], action: u32, s: Survey) 
 fn all_survey(t: &[u32], x: Layout, own: &[u64; 16], s: Survey) -> Survey
     ensures { λ r. ⌜ r ≡ surveyIn (now (t .entry)) x (now (own .entry)) s ⌝ }
 {
-    let last = merge_edges::last_action(x);
+    let last = merge_takers::last_action(x);
     let mut action = 0;
     let mut sofar = s;
     while action <= last {
