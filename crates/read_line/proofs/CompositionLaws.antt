@@ -34,11 +34,10 @@ use Rattle.read_composition.proofs.Meaning.{read-formed, read-size, read-is-for
 use Rattle.read_line.specs.declared.LineRead.{LineRead}
 use Rattle.read_line.specs.declared.LineRead.the-variants.{Sound, Fault}
 use Rattle.table_append.specs.Append.{nextPlace, put}
-use Rattle.read_line.specs.Exact.{lineOf}
-use Rattle.read_line.specs.Form.{valueAfter, misformed, fieldsOf}
+use Rattle.read_form.specs.Form.{lineOf, valueAfter, misformed, fieldsOf}
 use Rattle.read_line.specs.Outcome.{answered, written}
 use Rattle.read_line.specs.Composition.{blank, treeIn, treeFault, treeWords, treeRead, treeAfter, partOf, composeFault, composeRead, composeAfter}
-use Rattle.read_line.proofs.FormLaws.{row2-by}
+use Rattle.read_form.proofs.FormLaws.{row2-by}
 use Rattle.table_append.proofs.Joined.{next-then, put-then}
 use Rattle.read_line.proofs.Outcomes.{breaks, not-broken, then-same, answered-fault, answered-sound, written-fault, written-sound}
 use Rattle.read_line.proofs.SyncLaws.{few-items}

@@ -29,7 +29,7 @@ use Rattle.read_nodes.proofs.NodesRows.{broken-hit, broken-past}
 use Rattle.read_line.specs.declared.edge.Ends.{Ends}
 use Rattle.read_line.specs.declared.edge.Ends.the-variants.{Are, Unsound}
 use Rattle.table_append.specs.Append.{nextPlace, put}
-use Rattle.read_line.specs.Form.{valueAfter, misformed}
+use Rattle.read_form.specs.Form.{valueAfter, misformed}
 use Rattle.read_line.specs.Predicate.{mostWords, predicateRead, predicateFault, counted, lineTold, lineAfter}
 use Rattle.read_line.specs.Edge.{fieldIn, endsSound, endsIn, astray, thenRow, valueFault, valueWords, valueRead, afterValue, edgeName, edgeFault, edgeRead, edgeAfter}
 use Rattle.read_line.proofs.PredicateLaws.{told-row, told-full, told-fine, told-size, told-few, told-stand, fault-same, more-next, more-put, line-row, line-kept, line-sound, line-put}

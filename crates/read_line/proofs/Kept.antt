@@ -13,13 +13,13 @@ use Rattle.line_order.specs.declared.Key.the-variants.{Format, Actions, Variabl
 use Rattle.line_order.specs.declared.Counts.{Counts}
 use Rattle.format.specs.Bytes.{Bytes}
 use Rattle.format.specs.Spelling.{spelling}
-use Rattle.read_line.specs.declared.number.Count.{Count}
-use Rattle.read_line.specs.declared.number.Count.the-variants as Count
-use Rattle.read_line.specs.declared.number.Bounds.{Bounds}
-use Rattle.read_line.specs.declared.number.Bounds.the-variants as Bounds
+use Rattle.read_numbers.specs.declared.number.Count.{Count}
+use Rattle.read_numbers.specs.declared.number.Count.the-variants as Count
+use Rattle.read_numbers.specs.declared.range.Bounds.{Bounds}
+use Rattle.read_numbers.specs.declared.range.Bounds.the-variants as Bounds
 use Rattle.table_append.specs.Append.{put}
 use Rattle.read_line.specs.Outcome.{written}
-use Rattle.read_line.specs.Number.{countIn, numberAfter, fewEdges, boundsIn, boundsAfter}
+use Rattle.read_line.specs.Number.{numberAfter, boundsAfter}
 use Rattle.read_line.specs.Sync.{syncFault, syncAfter}
 use Rattle.read_line.specs.Composition.{composeFault, composeAfter}
 use Rattle.read_line.specs.Predicate.{mostWords}

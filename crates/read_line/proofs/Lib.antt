@@ -1,4 +1,3 @@
-pub mod FormLaws
 pub mod Answered
 pub mod Outcomes
 pub mod NumberLaws

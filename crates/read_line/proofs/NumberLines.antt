@@ -28,14 +28,14 @@ use Rattle.text_bytes.specs.Number.{integerIn}
 use Rattle.text_bytes.proofs.FindLaws.{parts-step, parts-last, parts-count, first-is}
 use Rattle.read_line.specs.declared.LineRead.{LineRead}
 use Rattle.read_line.specs.declared.LineRead.the-variants.{Sound, Fault}
-use Rattle.read_line.specs.declared.number.Count.{Count}
-use Rattle.read_line.specs.declared.number.Count.the-variants.{Is, Unsound}
+use Rattle.read_numbers.specs.declared.number.Count.{Count}
+use Rattle.read_numbers.specs.declared.number.Count.the-variants.{Is, Unsound}
 use Rattle.table_append.specs.Append.{nextPlace, put}
-use Rattle.read_line.specs.Exact.{lineOf}
-use Rattle.read_line.specs.Form.{valueAfter, misformed, fieldsOf}
-use Rattle.read_line.specs.Number.{countIn, numberRead, numberAfter, fewEdges}
+use Rattle.read_form.specs.Form.{lineOf, valueAfter, misformed, fieldsOf}
+use Rattle.read_numbers.specs.Number.{countIn, fewEdges}
+use Rattle.read_line.specs.Number.{numberRead, numberAfter}
 use Rattle.read_line.proofs.Answered.{answered, left}
-use Rattle.read_line.proofs.FormLaws.{row2-by}
+use Rattle.read_form.proofs.FormLaws.{row2-by}
 
 -- a value of one field is the field
 pub sole-part : (c : ℕ) (v : Bytes) → length (parts c v) ≡ 1 → parts c v ≡ v ∷ []

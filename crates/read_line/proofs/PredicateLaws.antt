@@ -18,7 +18,7 @@ use Rattle.read_nodes.proofs.NodesRows.{broken-hit, broken-past, accepted, acce
 use Rattle.read_line.specs.declared.LineRead.{LineRead}
 use Rattle.read_line.specs.declared.LineRead.the-variants.{Sound, Fault}
 use Rattle.table_append.specs.Append.{nextPlace, put}
-use Rattle.read_line.specs.Form.{valueAfter, misformed}
+use Rattle.read_form.specs.Form.{valueAfter, misformed}
 use Rattle.read_line.specs.Predicate.{mostWords, predicateRead, rowIn, predicateFault, lineTold, lineAfter, counted, locatedRead, locatedAfter, locationFault, locationRead, locationAfter}
 use Rattle.table_append.proofs.Joined.{next-then, put-then}
 

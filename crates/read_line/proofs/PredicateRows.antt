@@ -33,11 +33,10 @@ use Rattle.read_nodes.specs.Text.{textPred, textFault}
 use Rattle.read_nodes.proofs.NodesRows.{same-row, read-rows, Accepted, accepted}
 use Rattle.read_line.specs.declared.LineRead.the-variants.{Sound, Fault}
 use Rattle.table_append.specs.Append.{nextPlace, put}
-use Rattle.read_line.specs.Exact.{lineOf}
-use Rattle.read_line.specs.Form.{valueAfter, misparted, misformed, fieldsOf}
+use Rattle.read_form.specs.Form.{lineOf, valueAfter, misparted, misformed, fieldsOf}
 use Rattle.read_line.specs.Predicate.{mostWords, predicateRead, rowIn, predicateFault, counted, lineAfter, locationFault, locationRead, locationAfter}
 use Rattle.table_append.proofs.AppendLaws.{put-kept}
-use Rattle.read_line.proofs.FormLaws.{row2-by}
+use Rattle.read_form.proofs.FormLaws.{row2-by}
 use Rattle.read_line.proofs.PredicateLaws.{line-row, line-sound, line-put}
 
 -- the row that an answer tells

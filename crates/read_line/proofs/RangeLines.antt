@@ -29,14 +29,14 @@ use Rattle.text_bytes.specs.Number.{integerIn}
 use Rattle.text_bytes.proofs.FindLaws.{parts-step, parts-last, parts-count, first-is}
 use Rattle.read_line.specs.declared.LineRead.{LineRead}
 use Rattle.read_line.specs.declared.LineRead.the-variants.{Sound, Fault}
-use Rattle.read_line.specs.declared.number.Bounds.{Bounds}
-use Rattle.read_line.specs.declared.number.Bounds.the-variants.{Are, Unsound}
+use Rattle.read_numbers.specs.declared.range.Bounds.{Bounds}
+use Rattle.read_numbers.specs.declared.range.Bounds.the-variants.{Are, Unsound}
 use Rattle.table_append.specs.Append.{nextPlace, put}
-use Rattle.read_line.specs.Exact.{lineOf}
-use Rattle.read_line.specs.Form.{valueAfter, misformed, fieldsOf}
-use Rattle.read_line.specs.Number.{lowPart, highPart, orderedFrom, boundsOf, boundsIn, boundsRead, boundsAfter}
+use Rattle.read_form.specs.Form.{lineOf, valueAfter, misformed, fieldsOf}
+use Rattle.read_numbers.specs.Range.{lowPart, highPart, orderedFrom, boundsOf, boundsIn}
+use Rattle.read_line.specs.Number.{boundsRead, boundsAfter}
 use Rattle.read_line.proofs.Answered.{answered, left}
-use Rattle.read_line.proofs.FormLaws.{row2-by}
+use Rattle.read_form.proofs.FormLaws.{row2-by}
 use Rattle.read_line.proofs.NumberLines.{sole-part, fault-variable}
 
 -- a value of two fields

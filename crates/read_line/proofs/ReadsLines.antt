@@ -18,7 +18,8 @@ use Rattle.model.specs.Predicate.{range}
 use Rattle.read_line.specs.declared.LineRead.{LineRead}
 use Rattle.read_line.specs.declared.LineRead.the-variants.{Sound, Fault}
 use Rattle.table_append.specs.Append.{nextPlace, put}
-use Rattle.read_line.specs.Exact.{lineOf, ReadsLines}
+use Rattle.read_form.specs.Form.{lineOf}
+use Rattle.read_line.specs.Exact.{ReadsLines}
 use Rattle.read_line.specs.Line.{lineWith, lineWithAfter, lineRead, lineAfter}
 use Rattle.read_line.proofs.Answered.{answered-fault, answered-sound, left-new}
 use Rattle.read_line.proofs.NumberLines.{format-read, format-left, actions-read, actions-left, variables-read, variables-left, automata-read, automata-left, locations-read, locations-left, edges-read, edges-left}

@@ -15,7 +15,7 @@ use Rattle.read_composition.specs.Lists.{listsKept}
 use Rattle.read_composition.specs.Read.{compositionOf, memoryOf}
 use Rattle.read_line.specs.declared.LineRead.{LineRead}
 use Rattle.table_append.specs.Append.{nextPlace, put}
-use Rattle.read_line.specs.Form.{valueAfter, misformed}
+use Rattle.read_form.specs.Form.{valueAfter, misformed}
 use Rattle.read_line.specs.Outcome.{answered, written}
 
 -- the memory for the words of 64 nodes, before any is read

@@ -14,7 +14,7 @@ use Rattle.format.specs.Number.{within, naturalOf}
 use Rattle.read_line.specs.declared.LineRead.{LineRead}
 use Rattle.read_line.specs.declared.edge.Ends.{Ends}
 use Rattle.read_line.specs.declared.edge.Ends.the-variants.{Are, Unsound}
-use Rattle.read_line.specs.Form.{valueAfter, misformed}
+use Rattle.read_form.specs.Form.{valueAfter, misformed}
 use Rattle.read_nodes.specs.Nodes.{codesOf}
 use Rattle.read_line.specs.Predicate.{predicateFault, counted, lineTold, lineAfter}
 

@@ -14,13 +14,11 @@ use Rattle.line_order.specs.Due.{codeOf, numberOf}
 use Rattle.line_order.specs.Counts.{nodesOf, Counted}
 use Rattle.table_check.specs.Scan.{Declared}
 use Rattle.format.specs.Bytes.{Bytes}
-use Rattle.format.specs.Rows.{Line, fault, entry}
+use Rattle.format.specs.Rows.{fault, entry}
 use Rattle.read_line.specs.declared.LineRead.{LineRead}
 use Rattle.read_line.specs.declared.LineRead.the-variants.{Sound, Fault}
 use Rattle.table_append.specs.Append.{nextPlace, put}
-
-abbrev pub lineOf : Bytes → Bool → Line
-lineOf s ended = record { bytes = s; ended = ended }
+use Rattle.read_form.specs.Form.{lineOf}
 
 -- `read` answers for a line's bytes, whether an LF ended it, the key that is due, what was counted, the buffer and the place of its next word;
 -- `after` is the buffer then

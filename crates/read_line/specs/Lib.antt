@@ -1,4 +1,3 @@
-pub mod Form
 pub mod Outcome
 pub mod Number
 pub mod Sync

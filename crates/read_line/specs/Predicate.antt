@@ -15,7 +15,7 @@ use Rattle.read_nodes.specs.Nodes.{codesOf, nodesRead}
 use Rattle.read_line.specs.declared.LineRead.{LineRead}
 use Rattle.read_line.specs.declared.LineRead.the-variants.{Sound, Fault}
 use Rattle.table_append.specs.Append.{nextPlace, put}
-use Rattle.read_line.specs.Form.{valueAfter, misformed}
+use Rattle.read_form.specs.Form.{valueAfter, misformed}
 
 -- no text has room for more words
 abbrev pub mostWords : ℕ

@@ -12,7 +12,7 @@ use Rattle.read_composition.specs.declared.list.Listed.{Listed}
 use Rattle.read_composition.specs.List.{listOf}
 use Rattle.read_line.specs.declared.LineRead.{LineRead}
 use Rattle.table_append.specs.Append.{nextPlace, put}
-use Rattle.read_line.specs.Form.{valueAfter, misformed}
+use Rattle.read_form.specs.Form.{valueAfter, misformed}
 use Rattle.read_line.specs.Outcome.{answered, written}
 
 -- the list, judged with A or 63

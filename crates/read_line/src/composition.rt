@@ -1,6 +1,5 @@
 // The line `compose=C`, the tree of the automata.
 use crate::LineRead;
-use crate::form::{self};
 use crate::sync::cap;
 use line_order::Counts;
 use model::Model;
@@ -51,10 +50,10 @@ pub fn composition(
 ) -> LineRead
     ensures { λ r. ⌜ (r ≡ composeRead (now (line .entry)) ended counts at) × (now (words .exit) ≡ composeAfter (now (line .entry)) ended counts (now (words .entry)) at) ⌝ }
 {
-    if form::misformed(line, ended, b"compose=", 0) {
+    if read_form::misformed(line, ended, b"compose=", 0) {
         return LineRead::Fault(2);
     }
-    let part = form::value(line, b"compose=");
+    let part = read_form::value(line, b"compose=");
     if !numbers_sound(part) {
         return LineRead::Fault(3);
     }

@@ -1,6 +1,5 @@
 // The line `edge=FROM,ACT,TO,P`.
 use crate::LineRead;
-use crate::form::{self};
 use crate::predicates::{self};
 use line_order::Counts;
 use model::Model;
@@ -129,8 +128,15 @@ pub fn edge(
     ensures { λ _. ⌜ now (words .exit) ≡ edgeAfter (now (line .entry)) ended counts (now (words .entry))
         (length (now (nodes .entry))) (length (now (sorts .entry))) at ⌝ }
 {
-    if form::misformed(line, ended, b"edge=", 4) {
+    if read_form::misformed(line, ended, b"edge=", 4) {
         return LineRead::Fault(2);
     }
-    read_value(form::value(line, b"edge="), counts, words, at, nodes, sorts)
+    read_value(
+        read_form::value(line, b"edge="),
+        counts,
+        words,
+        at,
+        nodes,
+        sorts,
+    )
 }

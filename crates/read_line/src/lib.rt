@@ -1,7 +1,6 @@
 // One line of the sheet text: which row it breaks, or what it says, with its words put into the table that is being read.
 mod composition;
 mod edge;
-mod form;
 mod number;
 mod predicates;
 mod sync;
@@ -38,50 +37,15 @@ fn read_with(
 {
     match key {
         Key::Format => number::format(line, ended, words, at),
-        Key::Actions => number::counting_line(
-            line,
-            ended,
-            b"actions=",
-            0,
-            Model::ACTIONS,
-            words,
-            at,
-        ),
-        Key::Variables => number::counting_line(
-            line,
-            ended,
-            b"variables=",
-            0,
-            Model::VARIABLES as u32,
-            words,
-            at,
-        ),
+        Key::Actions => number::actions(line, ended, words, at),
+        Key::Variables => number::variables(line, ended, words, at),
         Key::Variable => number::variable(line, ended, words, at),
-        Key::Automata => number::counting_line(
-            line,
-            ended,
-            b"automata=",
-            1,
-            Model::AUTOMATA as u32,
-            words,
-            at,
-        ),
+        Key::Automata => number::automata(line, ended, words, at),
         Key::Sync => sync::sync(line, ended, counts, words, at),
-        Key::Locations => number::counting_line(
-            line,
-            ended,
-            b"locations=",
-            1,
-            Model::LOCATIONS as u32,
-            words,
-            at,
-        ),
-        Key::Init => predicates::location(line, ended, b"init=", counts, words, at, nodes, sorts),
-        Key::Inv => predicates::location(line, ended, b"inv=", counts, words, at, nodes, sorts),
-        Key::Edges => {
-            let before = counts.edges;
-            number::edges(line, ended, before, words, at)
-        }
+        Key::Locations => number::locations(line, ended, words, at),
+        Key::Init => predicates::init(line, ended, counts, words, at, nodes, sorts),
+        Key::Inv => predicates::inv(line, ended, counts, words, at, nodes, sorts),
+        Key::Edges => number::edges(line, ended, counts, words, at),
         Key::Edge => edge::edge(line, ended, counts, words, at, nodes, sorts),
         Key::Compose => composition::composition(line, ended, counts, words, at),
         Key::End => LineRead::Fault(2),

@@ -1,6 +1,5 @@
 // The lines `init=P` and `inv=P`, and the predicate P of these and of an edge, with memory for its nodes.
 use crate::LineRead;
-use crate::form::{self};
 use line_order::Counts;
 use model::Model;
 use read_nodes::Nodes;
@@ -9,6 +8,8 @@ ghost use mathlib.Core.List.{_∷_};
 ghost use Prim.Native.Nat.{suc, _≤_};
 ghost use lib.ListN.{length, take};
 ghost use Rattle.model.specs.Bounds.{maxNodes};
+ghost use Rattle.model.specs.Lines as Lines;
+ghost use Rattle.format.specs.Spelling.{spelling};
 ghost use Rattle.read_predicate.specs.Scratch.{Scratch};
 ghost use Rattle.read_nodes.specs.Nodes.{nodesAfter};
 ghost use Rattle.table_append.specs.Append.{nextPlace, put};
@@ -71,7 +72,7 @@ fn located(
 }
 
 // A location's line with the key `name`: row 2, and those of P.
-pub fn location(
+fn location(
     line: &[u8],
     ended: bool,
     name: &[u8],
@@ -86,8 +87,50 @@ pub fn location(
     ensures { λ _. ⌜ now (words .exit) ≡ locationAfter (now (name .entry)) (now (line .entry)) ended counts
         (now (words .entry)) (length (now (nodes .entry))) (length (now (sorts .entry))) at ⌝ }
 {
-    if form::misformed(line, ended, name, 1) {
+    if read_form::misformed(line, ended, name, 1) {
         return LineRead::Fault(2);
     }
-    located(form::value(line, name), counts, words, at, nodes, sorts)
+    located(
+        read_form::value(line, name),
+        counts,
+        words,
+        at,
+        nodes,
+        sorts,
+    )
+}
+
+// The lines by their keys.
+pub fn init(
+    line: &[u8],
+    ended: bool,
+    counts: Counts,
+    words: &mut [u32; Model::WORDS],
+    at: usize,
+    nodes: &mut [u32],
+    sorts: &mut [bool],
+) -> LineRead
+    ensures { λ r. ⌜ r ≡ locationRead (spelling Lines.init) (now (line .entry)) ended counts (now (words .entry))
+        (length (now (nodes .entry))) (length (now (sorts .entry))) at ⌝ }
+    ensures { λ _. ⌜ now (words .exit) ≡ locationAfter (spelling Lines.init) (now (line .entry)) ended counts
+        (now (words .entry)) (length (now (nodes .entry))) (length (now (sorts .entry))) at ⌝ }
+{
+    location(line, ended, b"init=", counts, words, at, nodes, sorts)
+}
+
+pub fn inv(
+    line: &[u8],
+    ended: bool,
+    counts: Counts,
+    words: &mut [u32; Model::WORDS],
+    at: usize,
+    nodes: &mut [u32],
+    sorts: &mut [bool],
+) -> LineRead
+    ensures { λ r. ⌜ r ≡ locationRead (spelling Lines.inv) (now (line .entry)) ended counts (now (words .entry))
+        (length (now (nodes .entry))) (length (now (sorts .entry))) at ⌝ }
+    ensures { λ _. ⌜ now (words .exit) ≡ locationAfter (spelling Lines.inv) (now (line .entry)) ended counts
+        (now (words .entry)) (length (now (nodes .entry))) (length (now (sorts .entry))) at ⌝ }
+{
+    location(line, ended, b"inv=", counts, words, at, nodes, sorts)
 }

@@ -1,6 +1,5 @@
 // The line `sync=LIST`, which begins an automaton with its synchronising set.
 use crate::LineRead;
-use crate::form::{self};
 use line_order::Counts;
 use model::Model;
 use table_append::append_one;
@@ -29,11 +28,11 @@ pub fn sync(
 ) -> LineRead
     ensures { λ r. ⌜ (r ≡ syncRead (now (line .entry)) ended counts at) × (now (words .exit) ≡ syncAfter (now (line .entry)) ended counts (now (words .entry)) at) ⌝ }
 {
-    if form::misformed(line, ended, b"sync=", 0) {
+    if read_form::misformed(line, ended, b"sync=", 0) {
         return LineRead::Fault(2);
     }
     let a = counts.actions;
-    let list = read_composition::sync_list(form::value(line, b"sync="), cap(a));
+    let list = read_composition::sync_list(read_form::value(line, b"sync="), cap(a));
     if !list.sound {
         return LineRead::Fault(3);
     }

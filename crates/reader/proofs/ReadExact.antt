@@ -40,7 +40,8 @@ use Rattle.text_bytes.proofs.FindLaws.{find-after, lines-found, lines-ended, li
 use Rattle.read_line.specs.declared.LineRead.{LineRead}
 use Rattle.read_line.specs.declared.LineRead.the-variants as LineRead
 use Rattle.table_append.specs.Append.{nextPlace, put}
-use Rattle.read_line.specs.Exact.{lineOf, ReadsLines}
+use Rattle.read_form.specs.Form.{lineOf}
+use Rattle.read_line.specs.Exact.{ReadsLines}
 use Rattle.read_line.specs.Line.{lineRead, lineAfter}
 use Rattle.reader.specs.declared.ReadAnswer.{ReadAnswer}
 use Rattle.reader.specs.declared.ReadAnswer.the-variants.{Accepted, Refused}

@@ -1,0 +1,36 @@
+// Row 2: is this the line that is due, with its fields, in printable bytes, up to an LF?
+ghost use mathlib.Core.Path.{_≡_};
+ghost use Rattle.read_form.specs.Form.{valueAfter, misparted, misformed};
+
+// What stands after the key.
+pub fn value<'a>(line: &'a [u8], name: &[u8]) -> &'a [u8]
+    ensures { λ r. ⌜ now r ≡ valueAfter (now (name .entry)) (now (line .entry)) ⌝ }
+{
+    if line.len() < name.len() {
+        return &line[..0];
+    }
+    let start = name.len();
+    &line[start..]
+}
+
+// Commas part the value into another number of fields; where `fields` is 0 they part nothing.
+fn misparted(value: &[u8], fields: usize) -> bool
+    ensures { λ r. ⌜ r ≡ misparted fields (now (value .entry)) ⌝ }
+{
+    if fields == 0 {
+        return false;
+    }
+    text_bytes::count(value, b',') != fields - 1
+}
+
+pub fn misformed(line: &[u8], ended: bool, name: &[u8], fields: usize) -> bool
+    ensures { λ r. ⌜ r ≡ misformed (now (name .entry)) fields (now (line .entry)) ended ⌝ }
+{
+    if !text_bytes::begins(line, name) {
+        return true;
+    }
+    if misparted(value(line, name), fields) {
+        return true;
+    }
+    !text_bytes::printable(line) | !ended
+}
