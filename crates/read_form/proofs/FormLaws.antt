@@ -1,11 +1,10 @@
--- Each way out of the code of src/lib.rt, and what it says of a line.
-use Prim.Native.Nat.{ℕ, zero, suc, _+_, _-_, _≤_, _<_}
+-- Each way out of `misparted` and `misformed`, and what they say of a line.
+use Prim.Native.Nat.{ℕ, zero, suc, _-_}
 use mathlib.Core.Path.{_≡_, refl, sym, _∙_, ap}
 use mathlib.Core.Bool.{Bool, true, false, not, _||_}
-use mathlib.Core.List.{List, []}
 use native.Mathlib.Omega.{arith}
 use borrow.Author.Tests.{eq-eqb, ne-eqb, eqb-true, eqb-false}
-use lib.ListN.{length, take, drop, drop-of-length-le}
+use lib.ListN.{length}
 use lib.Dec.{eqb}
 use Rattle.model.specs.Basic.{every}
 use Rattle.model.specs.Lines.{Key, format, actions, variables, variable, automata, sync, locations, init, inv, edges, edge, compose}
@@ -14,14 +13,7 @@ use Rattle.format.specs.Rows.{Line, place, is, fields, fieldCount, valueOf, pri
 use Rattle.format.specs.Spelling.{spelling}
 use Rattle.text_bytes.specs.Find.{countOf}
 use Rattle.text_bytes.proofs.FindLaws.{parts-count}
-use Rattle.text_bytes.proofs.Places.{take-rest}
 use Rattle.read_form.specs.Form.{lineOf, valueAfter, misparted, misformed, fieldsOf}
-
--- `value`
-pub value-none : (line name : List ℕ) → length line < length name → _≡_ {A = List ℕ} [] (valueAfter name line)
-value-none line name h = sym (drop-of-length-le line {i = length name} (omega arith))
-
-pub ruleset value-laws = (value-none, take-rest)
 
 -- `misparted`
 pub parted-any : (v : Bytes) (n : ℕ) → n ≡ 0 → false ≡ misparted n v

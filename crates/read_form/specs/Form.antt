@@ -1,8 +1,8 @@
 -- Row 2 of a line, by its key's bytes and how many fields commas part it into. It is `row2`: the law row2-by.
 use Prim.Native.Nat.{ℕ, zero, suc}
 use mathlib.Core.Bool.{Bool, true, false, not, _||_}
-use mathlib.Core.List.{List}
-use lib.ListN.{length, drop}
+use mathlib.Core.List.{List, []}
+use lib.ListN.{length, getD, drop}
 use lib.Dec.{eqb}
 use Rattle.model.specs.Basic.{every}
 use Rattle.model.specs.Lines.{Key, format, actions, variables, variable, automata, sync, locations, init, inv}
@@ -17,6 +17,10 @@ lineOf s ended = record { bytes = s; ended = ended }
 -- what stands after the key
 abbrev pub valueAfter : (name s : Bytes) → Bytes
 valueAfter name s = drop (length name) s
+
+-- a field of a value that commas part
+unfoldable pub fieldIn : ℕ → Bytes → Bytes
+fieldIn number v = getD (parts comma v) number []
 
 -- so many fields; where none are asked for, commas part nothing
 unfoldable pub misparted : ℕ → Bytes → Bool

@@ -1,6 +1,7 @@
-// Row 2: is this the line that is due, with its fields, in printable bytes, up to an LF?
+// The form of a line: what stands after its key, its fields, and row 2: is this the line that is due, with its fields,
+// in printable bytes, up to an LF?
 ghost use mathlib.Core.Path.{_≡_};
-ghost use Rattle.read_form.specs.Form.{valueAfter, misparted, misformed};
+ghost use Rattle.read_form.specs.Form.{valueAfter, fieldIn, misparted, misformed};
 
 // What stands after the key.
 pub fn value<'a>(line: &'a [u8], name: &[u8]) -> &'a [u8]
@@ -33,4 +34,22 @@ pub fn misformed(line: &[u8], ended: bool, name: &[u8], fields: usize) -> bool
         return true;
     }
     !text_bytes::printable(line) | !ended
+}
+
+// The field with this number, of those that commas part; empty where there are fewer.
+pub fn field(value: &[u8], number: usize) -> &[u8]
+    ensures { λ r. ⌜ now r ≡ fieldIn number (now (value .entry)) ⌝ }
+{
+    let mut at = 0;
+    let mut left = number;
+    while left != 0 {
+        let end = text_bytes::find(value, at, b',');
+        if value.len() <= end {
+            return &value[..0];
+        }
+        at = end + 1;
+        left -= 1;
+    }
+    let end = text_bytes::find(value, at, b',');
+    &value[at..end]
 }

@@ -39,7 +39,8 @@ use Rattle.read_line.specs.Outcome.{answered, written}
 use Rattle.read_line.specs.Composition.{blank, treeIn, treeFault, treeWords, treeRead, treeAfter, partOf, composeFault, composeRead, composeAfter}
 use Rattle.read_form.proofs.FormLaws.{row2-by}
 use Rattle.table_append.proofs.Joined.{next-then, put-then}
-use Rattle.read_line.proofs.Outcomes.{breaks, not-broken, then-same, answered-fault, answered-sound, written-fault, written-sound}
+use Rattle.read_nodes.proofs.NodesRows.{same-row, broken-hit, broken-past}
+use Rattle.read_line.proofs.Outcomes.{answered-fault, answered-sound, written-fault, written-sound}
 use Rattle.read_line.proofs.SyncLaws.{few-items}
 
 -- rows 13, 14 and 16 by the answer of `read_composition::read`
@@ -64,7 +65,7 @@ module _ (N : ℕ) (s : Bytes) (words : List ℕ) (at : ℕ) where
 
     module _ (f : x .formed ≡ false) where
       formed-fault : treeFault N s ≡ some 13
-      formed-fault = rows ∙ breaks 13 _ _ (ap not f)
+      formed-fault = rows ∙ broken-hit 13 _ _ (ap not f)
 
       pub formed-read : Fault 13 ≡ treeRead N s at
       formed-read = tree-read-fault 13 formed-fault
@@ -75,7 +76,7 @@ module _ (N : ℕ) (s : Bytes) (words : List ℕ) (at : ℕ) where
     module _ (f : x .formed ≡ true) where
       module _ (g : x .ordered ≡ false) where
         ordered-fault : treeFault N s ≡ some 14
-        ordered-fault = rows ∙ not-broken 13 _ _ (ap not f) ∙ breaks 14 _ _ (ap not g)
+        ordered-fault = rows ∙ broken-past 13 _ _ (ap not f) ∙ broken-hit 14 _ _ (ap not g)
 
         pub ordered-read : Fault 14 ≡ treeRead N s at
         ordered-read = tree-read-fault 14 ordered-fault
@@ -87,7 +88,7 @@ module _ (N : ℕ) (s : Bytes) (words : List ℕ) (at : ℕ) where
         module _ (h : 64 < x .nodes) where
           large-fault : treeFault N s ≡ some 16
           unfolding isTooLarge
-          large-fault = rows ∙ not-broken 13 _ _ (ap not f) ∙ not-broken 14 _ _ (ap not g) ∙ breaks 16 _ none (lt-ltb 64 (x .nodes) h)
+          large-fault = rows ∙ broken-past 13 _ _ (ap not f) ∙ broken-past 14 _ _ (ap not g) ∙ broken-hit 16 _ none (lt-ltb 64 (x .nodes) h)
 
           pub large-read : Fault 16 ≡ treeRead N s at
           large-read = tree-read-fault 16 large-fault
@@ -98,7 +99,7 @@ module _ (N : ℕ) (s : Bytes) (words : List ℕ) (at : ℕ) where
         module _ (h : x .nodes ≤ 64) (p : ℕ) (hp : p ≡ nextPlace at 1) where
           none-broken : treeFault N s ≡ none
           unfolding isTooLarge
-          none-broken = rows ∙ not-broken 13 _ _ (ap not f) ∙ not-broken 14 _ _ (ap not g) ∙ not-broken 16 _ none (le-ltb 64 (x .nodes) h)
+          none-broken = rows ∙ broken-past 13 _ _ (ap not f) ∙ broken-past 14 _ _ (ap not g) ∙ broken-past 16 _ none (le-ltb 64 (x .nodes) h)
 
           its-words : treeWords N s ≡ x .nodes ∷ take (x .next) new
           unfolding treeWords treeIn
@@ -142,7 +143,7 @@ module _ (s : Bytes) (ended : Bool) (c : Counts) (words : List ℕ) (at : ℕ) w
     module _ (f : m ≡ true) where
       form-fault : composeFault s ended c ≡ some 2
       unfolding composeFault
-      form-fault = breaks 2 _ _ (sym hm ∙ f)
+      form-fault = broken-hit 2 _ _ (sym hm ∙ f)
 
       pub form-read : Fault 2 ≡ composeRead s ended c at
       form-read = line-read-fault 2 form-fault
@@ -157,7 +158,7 @@ module _ (s : Bytes) (ended : Bool) (c : Counts) (words : List ℕ) (at : ℕ) w
       module _ (g : n ≡ false) where
         numbers-fault : composeFault s ended c ≡ some 3
         unfolding composeFault
-        numbers-fault = not-broken 2 _ _ (sym hm ∙ f) ∙ breaks 3 _ _ (ap not (numbers-by ∙ g))
+        numbers-fault = broken-past 2 _ _ (sym hm ∙ f) ∙ broken-hit 3 _ _ (ap not (numbers-by ∙ g))
 
         pub numbers-read : Fault 3 ≡ composeRead s ended c at
         numbers-read = line-read-fault 3 numbers-fault
@@ -172,7 +173,7 @@ module _ (s : Bytes) (ended : Bool) (c : Counts) (words : List ℕ) (at : ℕ) w
         module _ (h : l ≡ false) where
           lists-fault : composeFault s ended c ≡ some 5
           unfolding composeFault
-          lists-fault = not-broken 2 _ _ (sym hm ∙ f) ∙ not-broken 3 _ _ (ap not (numbers-by ∙ g)) ∙ breaks 5 _ _ (ap not (lists-by ∙ h))
+          lists-fault = broken-past 2 _ _ (sym hm ∙ f) ∙ broken-past 3 _ _ (ap not (numbers-by ∙ g)) ∙ broken-hit 5 _ _ (ap not (lists-by ∙ h))
 
           pub lists-read : Fault 5 ≡ composeRead s ended c at
           lists-read = line-read-fault 5 lists-fault
@@ -184,7 +185,7 @@ module _ (s : Bytes) (ended : Bool) (c : Counts) (words : List ℕ) (at : ℕ) w
           rest-fault : composeFault s ended c ≡ treeFault (c .automata) v
           unfolding composeFault
           rest-fault =
-              not-broken 2 _ _ (sym hm ∙ f) ∙ not-broken 3 _ _ (ap not (numbers-by ∙ g)) ∙ not-broken 5 _ _ (ap not (lists-by ∙ h)) ∙
+              broken-past 2 _ _ (sym hm ∙ f) ∙ broken-past 3 _ _ (ap not (numbers-by ∙ g)) ∙ broken-past 5 _ _ (ap not (lists-by ∙ h)) ∙
               ap (treeFault (c .automata)) (sym hv)
 
           pub rest-read : (q : LineRead) → q ≡ treeRead (c .automata) v at → q ≡ composeRead s ended c at
@@ -263,17 +264,17 @@ module _ (N A : ℕ) (s : Bytes) (three : sounds [] (tokens s) ≡ true) (five :
       go : (o : Option Tree) → treeSpelled s ≡ o → rowsBy its ≡ rowsOfTree N s
       go none e =
           let f : its .formed ≡ false = read-formed N A s blank three five ∙ ap (λ (o : Option Tree). not (lacks o)) e in
-          breaks 13 _ _ (ap not f) ∙ sym (breaks 13 _ _ (ap lacks e))
+          broken-hit 13 _ _ (ap not f) ∙ sym (broken-hit 13 _ _ (ap lacks e))
       go (some t) e =
           let f = read-is-formed N A s blank three five t e in
           let o : not (its .ordered) ≡ isDisordered N t = ap not (read-ordered N A s blank three five t e) ∙ Bool·not-not (isDisordered N t) in
           let n : its .nodes ≡ length (readNodes (tokens s)) =
           read-count N A s blank three five t e ∙ sym (read-size N A s blank three five t e) in
-          not-broken 13 _ _ (ap not f) ∙
+          broken-past 13 _ _ (ap not f) ∙
           ap (λ (b : Bool). broken 14 b (broken 16 (isTooLarge (its .nodes)) none))
           (o ∙ ap (λ (x : Option Tree). isDisordered N (treeOr x)) (sym e)) ∙
           ap (λ (k : ℕ). broken 14 (isDisordered N (treeOr (treeSpelled s))) (broken 16 (isTooLarge k) none)) n ∙
-          sym (not-broken 13 _ _ (ap lacks e))
+          sym (broken-past 13 _ _ (ap lacks e))
 
   -- the words, where the rows of the tree are not broken either
   tree-words : rowsOfTree N s ≡ none → treeWords N s ≡ wordsOf (treeOr (treeSpelled s))
@@ -317,14 +318,14 @@ module _ (r : Reading) (c : Counts) (counted : Counted r c) (s : Bytes) (ended :
   unfolding composeFault fieldsOf spelling
   compose-fault =
       ap (λ (b : Bool). broken 2 b (broken 3 (not inRow3) afterRow3)) (row2-by compose s ended) ∙
-      ap (broken 2 (row2 compose (lineOf s ended))) (then-same 3 _ _ _ (λ h. later (not-false _ h))) ∙
+      ap (broken 2 (row2 compose (lineOf s ended))) (same-row 3 _ _ _ _ refl (λ h. later (not-false _ h))) ∙
       sym rows-of
     where
       later : inRow3 ≡ true → afterRow3 ≡ broken 5 (not inRow5) (rowsOfTree automata (partOf s))
       later h =
           let e = kept-by (c .actions) (partOf s) h ∙ ap (λ (A : ℕ). listsSound A [] (tokens (partOf s))) (counted .actions) in
           ap (λ (b : Bool). broken 5 (not b) (treeFault (c .automata) (partOf s))) e ∙
-          then-same 5 (not inRow5) _ _
+          same-row 5 (not inRow5) (not inRow5) _ _ refl
           (λ k. ap (λ (N : ℕ). treeFault N (partOf s)) (counted .automata) ∙ tree-rows automata (r .model .actions) (partOf s) h (not-false _ k))
 
   words-by : fault r compose (lineOf s ended) ≡ none → treeWords (c .automata) (partOf s) ≡ lineWords (entry compose (lineOf s ended))

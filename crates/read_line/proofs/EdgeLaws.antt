@@ -1,153 +1,35 @@
 -- Each way out of the code of src/edge.rt.
-use Prim.Native.Nat.{ℕ, zero, suc, _+_, _-_, _*_, _≤_, _<_}
+use Prim.Native.Nat.{ℕ, suc, _*_, _≤_}
 use mathlib.Core.Path.{_≡_, refl, sym, _∙_, ap}
-use mathlib.Core.Bool.{Bool, true, false, not, _||_}
+use mathlib.Core.Bool.{Bool, true, false, not}
 use mathlib.Core.List.{List, [], _∷_}
 use mathlib.Core.Option.{Option, none, some}
 use native.Mathlib.Omega.{arith}
-use lib.ListN.{length, getD, take, drop, length-drop}
-use lib.IntN.{pos}
-use lib.Dec.{leb, ltb, eqb}
+use lib.ListN.{length, take, drop, length-drop}
 use Rattle.model.specs.Bounds.{maxNodes}
 use Rattle.model.specs.Limits.{broken}
 use Rattle.line_order.specs.declared.Counts.{Counts}
-use Rattle.format.specs.Bytes.{Bytes, onto, parts, comma}
-use Rattle.format.specs.Number.{within, naturalOf}
-use Rattle.text_bytes.specs.Find.{firstFrom}
-use Rattle.text_bytes.specs.Number.{naturalIn}
-use Rattle.text_bytes.specs.declared.answer.Natural.{Natural}
-use Rattle.text_bytes.specs.declared.answer.Natural.the-variants.{In, Out}
-use Rattle.text_bytes.proofs.NumberLaws.{natural-said, natural-denied}
-use Rattle.text_bytes.proofs.FindLaws.{find-after}
-use Rattle.read_predicate.proofs.Parting.{partsFrom, from-start, from-past, from-step}
+use Rattle.format.specs.Bytes.{Bytes}
+use Rattle.format.specs.Number.{naturalOf}
 use Rattle.read_line.specs.declared.LineRead.{LineRead}
 use Rattle.read_line.specs.declared.LineRead.the-variants.{Sound, Fault}
 use Rattle.read_nodes.specs.declared.Nodes.the-variants as N
 use Rattle.read_nodes.specs.declared.Nodes.{Nodes}
 use Rattle.read_nodes.specs.Nodes.{codesOf, nodesAfter}
 use Rattle.read_nodes.proofs.NodesRows.{broken-hit, broken-past}
-use Rattle.read_line.specs.declared.edge.Ends.{Ends}
-use Rattle.read_line.specs.declared.edge.Ends.the-variants.{Are, Unsound}
+use Rattle.read_edge.specs.declared.Ends.{Ends}
+use Rattle.read_edge.specs.declared.Ends.the-variants.{Are, Unsound}
 use Rattle.table_append.specs.Append.{nextPlace, put}
-use Rattle.read_form.specs.Form.{valueAfter, misformed}
+use Rattle.read_form.specs.Form.{valueAfter, fieldIn, misformed}
+use Rattle.read_form.proofs.FieldLaws.{field-within}
+use Rattle.read_edge.specs.Edge.{endsSound, endsIn, astray}
+use Rattle.read_edge.proofs.EdgeLaws.{ends-none, EndsOf, ends-some}
 use Rattle.read_line.specs.Predicate.{mostWords, predicateRead, predicateFault, counted, lineTold, lineAfter}
-use Rattle.read_line.specs.Edge.{fieldIn, endsSound, endsIn, astray, thenRow, valueFault, valueWords, valueRead, afterValue, edgeName, edgeFault, edgeRead, edgeAfter}
+use Rattle.read_line.specs.Edge.{thenRow, valueFault, valueWords, valueRead, afterValue, edgeName, edgeFault, edgeRead, edgeAfter}
 use Rattle.read_line.proofs.PredicateLaws.{told-row, told-full, told-fine, told-size, told-few, told-stand, fault-same, more-next, more-put, line-row, line-kept, line-sound, line-put}
-
--- a part is no longer than the whole
-onto-long : (b : ℕ) (ss : List Bytes) (i : ℕ) → length (getD (onto b ss) i []) ≤ suc (length (getD ss i []))
-unfolding onto
-onto-long b [] zero = omega arith
-onto-long b [] (suc i) = omega arith
-onto-long b (s ∷ ss) zero = omega arith
-onto-long b (s ∷ ss) (suc i) = omega arith
-
-part-long : (c : ℕ) (s : Bytes) (i : ℕ) → length (getD (parts c s) i []) ≤ length s
-unfolding parts
-part-long c [] zero = omega arith
-part-long c [] (suc i) = omega arith
-part-long c (b ∷ t) i = go (eqb b c) i (part-long c t)
-  where
-    go : (v : Bool) (j : ℕ) → ((k : ℕ) → length (getD (parts c t) k []) ≤ length t)
-        → length (getD {A = Bytes} (elim v as (λ x. List Bytes) [ true ↦ [] ∷ parts c t | false ↦ onto b (parts c t) ]) j []) ≤ suc (length t)
-    go true zero ih = omega arith
-    go true (suc j) ih = omega (arith, ih j)
-    go false j ih = omega (arith, ih j, onto-long b (parts c t) j)
-
-field-within : (i : ℕ) (v : Bytes) → length (fieldIn i v) ≤ length v
-unfolding fieldIn
-field-within i v = part-long comma v i
 
 pub field-long : (i : ℕ) (s : Bytes) → length (fieldIn i (valueAfter edgeName s)) ≤ length s
 field-long i s = omega (arith, field-within i (valueAfter edgeName s), length-drop (length edgeName) s)
-
--- `field`: what is left of the fields, from a place on
-pub record Fields (v : Bytes) (number at left : ℕ) : Type 0 where
-  pub inside : at ≤ length v
-  pub same : getD (partsFrom comma v at) left [] ≡ fieldIn number v
-
-pub field-first : (v : Bytes) (number : ℕ) → Fields v number 0 number
-unfolding fieldIn
-field-first v number = record { inside = omega arith; same = ap (λ (l : List Bytes). getD l number []) (from-start comma v) }
-
-later : (x : Bytes) (l : List Bytes) (left : ℕ) → (left ≡ 0 → ⊥) → getD (x ∷ l) left [] ≡ getD l (left - 1) []
-later x l zero h = absurd (h refl)
-later x l (suc n) h = ap (λ (m : ℕ). getD l m []) (omega arith)
-
-module _ (v : Bytes) (number at left : ℕ) (inv : Fields v number at left) (r : ℕ) (e : r ≡ firstFrom v at 44) where
-  turn : partsFrom comma v at ≡ take (r - at) (drop at v) ∷ partsFrom comma v (r + 1)
-  turn = from-step comma v at r (inv .inside) e
-
-  pub field-after : at ≤ r
-  field-after = find-after v at 44 r (inv .inside) e
-
-  module _ (more : left ≡ 0 → ⊥) where
-    rest-is : getD (partsFrom comma v (r + 1)) (left - 1) [] ≡ fieldIn number v
-    rest-is = sym (later (take (r - at) (drop at v)) (partsFrom comma v (r + 1)) left more) ∙ ap (λ (l : List Bytes). getD l left []) (sym turn) ∙ inv .same
-
-    pub field-none : length v ≤ r → _≡_ {A = List ℕ} [] (fieldIn number v)
-    field-none h = ap (λ (l : List Bytes). getD l (left - 1) []) (sym (from-past comma v (r + 1) (omega arith))) ∙ rest-is
-
-    pub field-on : r < length v → Fields v number (r + 1) (left - 1)
-    field-on h = record { inside = omega arith; same = rest-is }
-
-  pub field-here : left ≡ 0 → take (r - at) (drop at v) ≡ fieldIn number v
-  field-here h = ap (λ (l : List Bytes). getD l 0 []) (sym turn) ∙ ap (λ (n : ℕ). getD (partsFrom comma v at) n []) (sym h) ∙ inv .same
-
-pub ruleset field-laws = (field-first, field-after, field-none, field-on, field-here)
-
--- `read_ends`
-ends-no : (v : Bytes) → endsSound v ≡ false → Unsound ≡ endsIn v
-unfolding endsIn
-ends-no v h = rw (h, endsIn)
-
-ends-yes : (v : Bytes) → endsSound v ≡ true → Are (naturalOf (fieldIn 0 v)) (naturalOf (fieldIn 1 v)) (naturalOf (fieldIn 2 v)) ≡ endsIn v
-unfolding endsIn
-ends-yes v h = rw (h, endsIn)
-
--- one number
-module _ (s f : Bytes) (hf : f ≡ s) (high : ℕ) (m : Natural) (hm : m ≡ naturalIn f high) where
-  number-is : naturalIn s high ≡ m
-  number-is = ap (λ (x : Bytes). naturalIn x high) (sym hf) ∙ sym hm
-
-  number-out : m ≡ Out → within (pos 0) (pos high) s ≡ false
-  number-out e = natural-denied s high (number-is ∙ e)
-
-  number-in : (n : ℕ) → m ≡ In n → (within (pos 0) (pos high) s ≡ true) × (naturalOf s ≡ n)
-  number-in n e = natural-said s high n (number-is ∙ e)
-
-module _ (v f : Bytes) (hf : f ≡ fieldIn 0 v) (m : Natural) (hm : m ≡ naturalIn f 31) where
-  pub ends-from : m ≡ Out → Unsound ≡ endsIn v
-  unfolding endsSound
-  ends-from e = ends-no v (rw (number-out (fieldIn 0 v) f hf 31 m hm e))
-
-  module _ (from : ℕ) (e : m ≡ In from) (g : Bytes) (hg : g ≡ fieldIn 1 v) (k : Natural) (hk : k ≡ naturalIn g 63) where
-    pub ends-action : k ≡ Out → Unsound ≡ endsIn v
-    unfolding endsSound
-    ends-action i = ends-no v (rw (number-in (fieldIn 0 v) f hf 31 m hm from e .0, number-out (fieldIn 1 v) g hg 63 k hk i))
-
-    module _ (action : ℕ) (i : k ≡ In action) (h : Bytes) (hh : h ≡ fieldIn 2 v) (l : Natural) (hl : l ≡ naturalIn h 31) where
-      pub ends-to : l ≡ Out → Unsound ≡ endsIn v
-      unfolding endsSound
-      ends-to j =
-          ends-no v
-          (rw (number-in (fieldIn 0 v) f hf 31 m hm from e .0, number-in (fieldIn 1 v) g hg 63 k hk action i .0, number-out (fieldIn 2 v) h hh 31 l hl j))
-
-      pub ends-are : (to : ℕ) → l ≡ In to → Are from action to ≡ endsIn v
-      unfolding endsSound
-      ends-are to j =
-          let a = number-in (fieldIn 0 v) f hf 31 m hm from e in
-          let b = number-in (fieldIn 1 v) g hg 63 k hk action i in
-          let d = number-in (fieldIn 2 v) h hh 31 l hl to j in
-          let all : endsSound v ≡ true = rw (a .0, b .0, d .0) in
-          rw (← a .1, ← b .1, ← d .1) (ends-yes v all)
-
-pub ruleset ends-laws = (ends-from, ends-action, ends-to, ends-are)
-
--- `astray`
-pub astray-by : (c : Counts) (from action to i j k : ℕ) → i ≡ from → j ≡ action → k ≡ to → (leb (c .locations) i || (ltb (c .actions) j || leb (c .locations) k)) ≡ astray c from action to
-unfolding astray
-astray-by c from action to i j k hi hj hk = rw (hi, hj, hk)
 
 -- `append_edge`: three words, and then those of the predicate
 module _ (at from action to n : ℕ) (l : List ℕ) (a : ℕ) (ha : a ≡ nextPlace at 1) (b : ℕ) (hb : b ≡ nextPlace a 1) (d : ℕ) (hd : d ≡ nextPlace b 1) where
@@ -162,30 +44,6 @@ module _ (at from action to n : ℕ) (l : List ℕ) (a : ℕ) (ha : a ≡ nextPl
 pub ruleset append-edge-laws = (edge-next, edge-filled)
 
 -- `read_value`
-ends-none : (v : Bytes) → endsIn v ≡ Unsound → endsSound v ≡ false
-unfolding endsIn
-ends-none v e = go (endsSound v) e
-  where
-    go : (b : Bool) → elim b as (λ x. Ends) [ true ↦ Are (naturalOf (fieldIn 0 v)) (naturalOf (fieldIn 1 v)) (naturalOf (fieldIn 2 v)) | false ↦ Unsound ] ≡ Unsound → b ≡ false
-    go true k = absurd (let q : _≡_ {A = ℕ} 0 1 = cc in omega arith)
-    go false k = refl
-
-record EndsOf (v : Bytes) (from action to : ℕ) : Type 0 where
-  sound : endsSound v ≡ true
-  first : naturalOf (fieldIn 0 v) ≡ from
-  second : naturalOf (fieldIn 1 v) ≡ action
-  third : naturalOf (fieldIn 2 v) ≡ to
-
-ends-some : (v : Bytes) (from action to : ℕ) → endsIn v ≡ Are from action to → EndsOf v from action to
-unfolding endsIn
-ends-some v from action to e = go (endsSound v) refl e
-  where
-    go : (b : Bool) → endsSound v ≡ b
-        → elim b as (λ x. Ends) [ true ↦ Are (naturalOf (fieldIn 0 v)) (naturalOf (fieldIn 1 v)) (naturalOf (fieldIn 2 v)) | false ↦ Unsound ] ≡ Are from action to
-        → EndsOf v from action to
-    go true h k = record { sound = h; first = cc; second = cc; third = cc }
-    go false h k = absurd (let q : _≡_ {A = ℕ} 0 1 = cc in omega arith)
-
 module _ (v : Bytes) (c : Counts) (t : List ℕ) (at : ℕ) (old : List ℕ) (high : ℕ) (q : Ends) (hq : q ≡ endsIn v) where
   -- a row that is broken is the answer, and the buffer is left as it was
   row-told : (row : ℕ) → valueFault c t v (length old) high ≡ some row → Fault row ≡ valueRead c t v (length old) high at

@@ -25,12 +25,13 @@ use Rattle.format.specs.Spelling.{spelling}
 use Rattle.format.specs.Tokens.{tokens, sounds}
 use Rattle.read_line.specs.declared.LineRead.the-variants.{Sound, Fault}
 use Rattle.table_append.specs.Append.{nextPlace, put}
-use Rattle.read_form.specs.Form.{lineOf, valueAfter, misformed, fieldsOf}
+use Rattle.read_form.specs.Form.{lineOf, valueAfter, fieldIn, misformed, fieldsOf}
+use Rattle.read_edge.specs.Edge.{endsSound, astray}
 use Rattle.read_nodes.specs.Nodes.{codesOf}
 use Rattle.read_nodes.specs.Text.{textPred, textFault}
 use Rattle.read_nodes.proofs.NodesRows.{same-row}
 use Rattle.read_line.specs.Predicate.{mostWords}
-use Rattle.read_line.specs.Edge.{fieldIn, endsSound, astray, thenRow, valueFault, valueWords, edgeName, edgeFault, edgeRead, edgeAfter}
+use Rattle.read_line.specs.Edge.{thenRow, valueFault, valueWords, edgeName, edgeFault, edgeRead, edgeAfter}
 use Rattle.read_form.proofs.FormLaws.{row2-by}
 use Rattle.read_line.proofs.PredicateLaws.{line-row, line-sound, line-put}
 use Rattle.read_line.proofs.PredicateRows.{predicate-rows, accepted-row, accepted-words, line-long}

@@ -5,12 +5,9 @@ use mathlib.Core.Bool.{Bool, true, false, true≢false, not, _&&_, and-true}
 use mathlib.Core.List.{List, [], _∷_}
 use mathlib.Core.Option.{Option, none, some}
 use native.Mathlib.Omega.{arith}
-use native.Mathlib.Nat.{zero-add}
-use borrow.Author.Tests.{ltb-true, ltb-false}
 use lib.IntN.{ℤ, pos}
 use lib.Signed.{leZ}
-use lib.ListN.{length, getD, take, drop}
-use lib.Dec.{ltb}
+use lib.ListN.{length, getD}
 use Rattle.model.specs.Basic.{every}
 use Rattle.model.specs.Bounds.{leastNumber, greatestNumber}
 use Rattle.model.specs.Predicate.{range}
@@ -24,35 +21,25 @@ use Rattle.format.specs.Spelling.{spelling}
 use Rattle.format.proofs.LineLaws.{Formed, formed}
 use Rattle.text_bytes.specs.declared.answer.Integer.{Integer}
 use Rattle.text_bytes.specs.declared.answer.Integer.the-variants as I
-use Rattle.text_bytes.specs.Find.{gap, firstFrom}
 use Rattle.text_bytes.specs.Number.{integerIn}
-use Rattle.text_bytes.proofs.FindLaws.{parts-step, parts-last, parts-count, first-is}
 use Rattle.read_line.specs.declared.LineRead.{LineRead}
 use Rattle.read_line.specs.declared.LineRead.the-variants.{Sound, Fault}
 use Rattle.read_numbers.specs.declared.range.Bounds.{Bounds}
 use Rattle.read_numbers.specs.declared.range.Bounds.the-variants.{Are, Unsound}
 use Rattle.table_append.specs.Append.{nextPlace, put}
-use Rattle.read_form.specs.Form.{lineOf, valueAfter, misformed, fieldsOf}
-use Rattle.read_numbers.specs.Range.{lowPart, highPart, orderedFrom, boundsOf, boundsIn}
+use Rattle.read_form.specs.Form.{lineOf, valueAfter, fieldIn, misformed, fieldsOf}
+use Rattle.read_numbers.specs.Range.{orderedFrom, boundsOf, boundsIn}
 use Rattle.read_line.specs.Number.{boundsRead, boundsAfter}
 use Rattle.read_line.proofs.Answered.{answered, left}
 use Rattle.read_form.proofs.FormLaws.{row2-by}
-use Rattle.read_line.proofs.NumberLines.{sole-part, fault-variable}
+use Rattle.read_line.proofs.NumberLines.{fault-variable}
 
--- a value of two fields
-two-parts : (v : Bytes) → length (parts comma v) ≡ 2 → parts comma v ≡ lowPart v ∷ highPart v ∷ []
-unfolding lowPart highPart
-two-parts v h = go (ltb (gap comma v) (length v)) refl
-  where
-    found : firstFrom v 0 comma ≡ gap comma v
-    found = first-is v 0 comma (omega arith) ∙ zero-add (gap comma v)
-
-    go : (b : Bool) → ltb (gap comma v) (length v) ≡ b → parts comma v ≡ take (firstFrom v 0 comma) v ∷ drop (firstFrom v 0 comma + 1) v ∷ []
-    go true e =
-        let more = parts-step comma v (ltb-true (gap comma v) (length v) e) in
-        let rest = sole-part comma (drop (gap comma v + 1) v) (omega (arith, h, ap (length {A = Bytes}) more)) in
-        more ∙ ap (λ (x : List Bytes). take (gap comma v) v ∷ x) rest ∙ rw found
-    go false e = absurd (omega (arith, h, ap (length {A = Bytes}) (parts-last comma v (ltb-false (gap comma v) (length v) e))))
+-- two fields
+two-items : (l : List Bytes) → length l ≡ 2 → l ≡ getD l 0 [] ∷ getD l 1 [] ∷ []
+two-items [] h = absurd (omega arith)
+two-items (x ∷ []) h = absurd (omega arith)
+two-items (x ∷ y ∷ []) h = refl
+two-items (x ∷ y ∷ z ∷ l) h = absurd (omega arith)
 
 -- the ends by rows 2, 3 and 4
 unfoldable byRows : (two three four : Bool) → ℤ → ℤ → Bounds
@@ -99,10 +86,9 @@ module _ (r : Reading) (s : Bytes) (ended : Bool) (at : ℕ) (words : List ℕ) 
   abbrev high : ℤ
   high = integerOf (field 1 variable l)
 
-  -- the two fields are the parts before and after the comma
-  two-fields : row2 variable l ≡ false → fields variable l ≡ lowPart (valueAfter (spelling variable) s) ∷ highPart (valueAfter (spelling variable) s) ∷ []
-  unfolding fields valueOf is place fieldCount
-  two-fields e = two-parts (valueAfter (spelling variable) s) (formed variable l e .counts)
+  two-fields : row2 variable l ≡ false → fields variable l ≡ fieldIn 0 (valueAfter (spelling variable) s) ∷ fieldIn 1 (valueAfter (spelling variable) s) ∷ []
+  unfolding fields fieldIn valueOf is place fieldCount
+  two-fields e = two-items (parts comma (valueAfter (spelling variable) s)) (formed variable l e .counts)
 
   misformed-is : misformed (spelling variable) 2 s ended ≡ row2 variable l
   unfolding fieldsOf
@@ -114,7 +100,7 @@ module _ (r : Reading) (s : Bytes) (ended : Bool) (at : ℕ) (words : List ℕ) 
 
   well : row2 variable l ≡ false → boundsIn (spelling variable) s ended ≡ byRows false (row3 variable l) (isCrossed (theRange l)) low high
   unfolding boundsIn row3 numbersSound isCrossed theRange range field every
-  well e = rw (misformed-is ∙ e, two-fields e, boundsIn) (bounds-rows (lowPart (valueAfter (spelling variable) s)) (highPart (valueAfter (spelling variable) s)))
+  well e = rw (misformed-is ∙ e, two-fields e, boundsIn) (bounds-rows (fieldIn 0 (valueAfter (spelling variable) s)) (fieldIn 1 (valueAfter (spelling variable) s)))
 
   ends : boundsIn (spelling variable) s ended ≡ byRows (row2 variable l) (row3 variable l) (isCrossed (theRange l)) low high
   ends = go (row2 variable l) refl

@@ -34,7 +34,8 @@ use Rattle.read_form.specs.Form.{lineOf, valueAfter, misformed, fieldsOf}
 use Rattle.read_line.specs.Sync.{syncListed, syncFault, syncRead, syncAfter}
 use Rattle.read_form.proofs.FormLaws.{row2-by}
 use Rattle.table_append.proofs.Joined.{next-then, put-then}
-use Rattle.read_line.proofs.Outcomes.{breaks, not-broken, then-same, answered-fault, answered-sound, written-fault, written-sound}
+use Rattle.read_nodes.proofs.NodesRows.{same-row, broken-hit, broken-past}
+use Rattle.read_line.proofs.Outcomes.{answered-fault, answered-sound, written-fault, written-sound}
 
 -- `sync`
 module _ (s : Bytes) (ended : Bool) (c : Counts) (words : List ℕ) (at : ℕ) where
@@ -51,7 +52,7 @@ module _ (s : Bytes) (ended : Bool) (c : Counts) (words : List ℕ) (at : ℕ) w
     module _ (f : m ≡ true) where
       form-fault : syncFault s ended c ≡ some 2
       unfolding syncFault
-      form-fault = breaks 2 _ _ (sym hm ∙ f)
+      form-fault = broken-hit 2 _ _ (sym hm ∙ f)
 
       pub form-read : Fault 2 ≡ syncRead s ended c at
       form-read = read-fault 2 form-fault
@@ -68,12 +69,12 @@ module _ (s : Bytes) (ended : Bool) (c : Counts) (words : List ℕ) (at : ℕ) w
       rows : syncFault s ended c ≡ broken 3 (not (l .sound)) (broken 5 (not (l .rising)) none)
       unfolding syncFault
       rows =
-          not-broken 2 _ _ (sym hm ∙ f) ∙
+          broken-past 2 _ _ (sym hm ∙ f) ∙
           ap (λ (x : Listed). broken 3 (not (x .sound)) (broken 5 (not (x .rising)) none)) listed
 
       module _ (g : l .sound ≡ false) where
         sound-fault : syncFault s ended c ≡ some 3
-        sound-fault = rows ∙ breaks 3 _ _ (ap not g)
+        sound-fault = rows ∙ broken-hit 3 _ _ (ap not g)
 
         pub sound-read : Fault 3 ≡ syncRead s ended c at
         sound-read = read-fault 3 sound-fault
@@ -84,7 +85,7 @@ module _ (s : Bytes) (ended : Bool) (c : Counts) (words : List ℕ) (at : ℕ) w
       module _ (g : l .sound ≡ true) where
         module _ (h : l .rising ≡ false) where
           rising-fault : syncFault s ended c ≡ some 5
-          rising-fault = rows ∙ not-broken 3 _ _ (ap not g) ∙ breaks 5 _ _ (ap not h)
+          rising-fault = rows ∙ broken-past 3 _ _ (ap not g) ∙ broken-hit 5 _ _ (ap not h)
 
           pub rising-read : Fault 5 ≡ syncRead s ended c at
           rising-read = read-fault 5 rising-fault
@@ -94,7 +95,7 @@ module _ (s : Bytes) (ended : Bool) (c : Counts) (words : List ℕ) (at : ℕ) w
 
         module _ (h : l .rising ≡ true) (p : ℕ) (hp : p ≡ nextPlace at 1) where
           none-broken : syncFault s ended c ≡ none
-          none-broken = rows ∙ not-broken 3 _ _ (ap not g) ∙ not-broken 5 _ none (ap not h)
+          none-broken = rows ∙ broken-past 3 _ _ (ap not g) ∙ broken-past 5 _ none (ap not h)
 
           pub set-read : (q : ℕ) → q ≡ nextPlace p 1 → Sound 0 0 q ≡ syncRead s ended c at
           unfolding syncRead
@@ -158,7 +159,7 @@ module _ (r : Reading) (c : Counts) (counted : Counted r c) (s : Bytes) (ended :
       ap (λ (b : Bool). broken 2 b (broken 3 (not (syncListed s c .sound)) afterRow3)) (row2-by sync s ended) ∙
       ap (λ (b : Bool). broken 2 (row2 sync (lineOf s ended)) (broken 3 (not b) afterRow3)) sound-by ∙
       ap (broken 2 (row2 sync (lineOf s ended)))
-      (then-same 3 (not inRow3) _ _ (λ h. ap (λ (b : Bool). broken 5 (not b) none) (rising-by (not-false inRow3 h)))) ∙
+      (same-row 3 (not inRow3) (not inRow3) _ _ refl (λ h. ap (λ (b : Bool). broken 5 (not b) none) (rising-by (not-false inRow3 h)))) ∙
       sym rows-of
 
   -- the set's words

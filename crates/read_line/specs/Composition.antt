@@ -1,5 +1,5 @@
--- The line `compose=C` as the code reads it. It breaks the rows of `fault` and says what `entry` says: the laws compose-faulty and
--- compose-sound.
+-- The line `compose=C` as the code reads it. It breaks the rows of `fault` and says what `entry` says: the laws
+-- compose-faulty and compose-sound.
 use Prim.Native.Nat.{ℕ}
 use mathlib.Core.Bool.{Bool, false, not}
 use mathlib.Core.List.{List, [], _∷_}
@@ -55,7 +55,9 @@ composeFault s ended c =
     (treeFault (c .automata) (partOf s))))
 
 unfoldable pub composeRead : Bytes → (ended : Bool) → Counts → (at : ℕ) → LineRead
-composeRead s ended c at = answered (composeFault s ended c) (nextPlace at (length (treeWords (c .automata) (partOf s))))
+composeRead s ended c at =
+    answered (composeFault s ended c) (nextPlace at (length (treeWords (c .automata) (partOf s))))
 
 unfoldable pub composeAfter : Bytes → (ended : Bool) → Counts → (words : List ℕ) (at : ℕ) → List ℕ
-composeAfter s ended c words at = written (composeFault s ended c) (put at (treeWords (c .automata) (partOf s)) words) words
+composeAfter s ended c words at =
+    written (composeFault s ended c) (put at (treeWords (c .automata) (partOf s)) words) words

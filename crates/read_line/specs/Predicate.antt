@@ -1,5 +1,5 @@
--- A predicate by the table so far, and the lines `init=P` and `inv=P`: the rows that they break, in order. Where the text
--- has at most 65,536 bytes these are the rows of Rows.antt: the laws predicate-rows and location-rows.
+-- A predicate by the table so far, and the lines `init=P` and `inv=P`: the rows that they break, in order. Where the
+-- text has at most 65,536 bytes these are the rows of Rows.antt: the laws predicate-rows and location-rows.
 use Prim.Native.Nat.{ℕ}
 use mathlib.Core.Bool.{Bool, true}
 use mathlib.Core.List.{List, _∷_}
@@ -23,7 +23,8 @@ mostWords = 32768
 
 -- what is read of the bytes, with room for so many nodes and sorts; the ranges stand in the table
 unfoldable pub predicateRead : (part : Bytes) (oldOnly : Bool) → Counts → (words : List ℕ) (room high : ℕ) → Nodes
-predicateRead part oldOnly c words room high = nodesRead part oldOnly (c .variables) (rangesIn words (c .variables)) (c .nodes) room high
+predicateRead part oldOnly c words room high =
+    nodesRead part oldOnly (c .variables) (rangesIn words (c .variables)) (c .nodes) room high
 
 -- and the row that it breaks; where there is no room, it has more words than a text can have
 unfoldable pub rowIn : Nodes → Option ℕ
@@ -61,7 +62,8 @@ module _ (name s : Bytes) (ended : Bool) (c : Counts) (words : List ℕ) (room h
   locationFault = broken 2 (misformed name 1 s ended) (predicateFault (valueAfter name s) true c words room high)
 
   unfoldable pub locationRead : (at : ℕ) → LineRead
-  locationRead at = lineTold locationFault (length (codesOf (valueAfter name s))) at (counted (codesOf (valueAfter name s)))
+  locationRead at =
+      lineTold locationFault (length (codesOf (valueAfter name s))) at (counted (codesOf (valueAfter name s)))
 
   unfoldable pub locationAfter : (at : ℕ) → List ℕ
   locationAfter at = lineAfter locationFault at (counted (codesOf (valueAfter name s))) words

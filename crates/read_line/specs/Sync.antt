@@ -1,4 +1,5 @@
--- The line `sync=LIST` as the code reads it. It breaks the rows of `fault` and says what `entry` says: the laws sync-faulty and sync-sound.
+-- The line `sync=LIST` as the code reads it. It breaks the rows of `fault` and says what `entry` says: the laws
+-- sync-faulty and sync-sound.
 use Prim.Native.Nat.{ℕ}
 use mathlib.Core.Bool.{Bool, not}
 use mathlib.Core.List.{List, [], _∷_}
@@ -30,4 +31,5 @@ unfoldable pub syncRead : Bytes → (ended : Bool) → Counts → (at : ℕ) →
 syncRead s ended c at = answered (syncFault s ended c) (nextPlace at 2)
 
 unfoldable pub syncAfter : Bytes → (ended : Bool) → Counts → (words : List ℕ) (at : ℕ) → List ℕ
-syncAfter s ended c words at = written (syncFault s ended c) (put at (syncListed s c .low ∷ syncListed s c .high ∷ []) words) words
+syncAfter s ended c words at =
+    written (syncFault s ended c) (put at (syncListed s c .low ∷ syncListed s c .high ∷ []) words) words

@@ -14,14 +14,16 @@ ghost use Rattle.read_line.specs.Composition.{treeRead, treeAfter, compo
 
 // The first n words of the nodes that were read. An array of a known length, since `append` asks how long a slice is.
 fn append_nodes(words: &mut [u32; Model::WORDS], at: usize, memory: &[u32; 192], n: usize) -> usize
-    ensures { λ r. ⌜ (r ≡ nextPlace at (length (take n (now (memory .entry))))) × (now (words .exit) ≡ put at (take n (now (memory .entry))) (now (words .entry))) ⌝ }
+    ensures { λ r. ⌜ (r ≡ nextPlace at (length (take n (now (memory .entry)))))
+        × (now (words .exit) ≡ put at (take n (now (memory .entry))) (now (words .entry))) ⌝ }
 {
     append(words, at, memory, n)
 }
 
 // Rows 13, 14 and 16; then the count of the nodes, and their words.
 fn tree(part: &[u8], automata: usize, words: &mut [u32; Model::WORDS], at: usize) -> LineRead
-    ensures { λ r. ⌜ (r ≡ treeRead automata (now (part .entry)) at) × (now (words .exit) ≡ treeAfter automata (now (part .entry)) (now (words .entry)) at) ⌝ }
+    ensures { λ r. ⌜ (r ≡ treeRead automata (now (part .entry)) at)
+        × (now (words .exit) ≡ treeAfter automata (now (part .entry)) (now (words .entry)) at) ⌝ }
 {
     let mut memory = [0u32; 192];
     let c = read_composition::read(part, automata, &mut memory);
@@ -48,7 +50,8 @@ pub fn composition(
     words: &mut [u32; Model::WORDS],
     at: usize,
 ) -> LineRead
-    ensures { λ r. ⌜ (r ≡ composeRead (now (line .entry)) ended counts at) × (now (words .exit) ≡ composeAfter (now (line .entry)) ended counts (now (words .entry)) at) ⌝ }
+    ensures { λ r. ⌜ (r ≡ composeRead (now (line .entry)) ended counts at)
+        × (now (words .exit) ≡ composeAfter (now (line .entry)) ended counts (now (words .entry)) at) ⌝ }
 {
     if read_form::misformed(line, ended, b"compose=", 0) {
         return LineRead::Fault(2);

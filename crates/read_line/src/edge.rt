@@ -3,65 +3,18 @@ use crate::LineRead;
 use crate::predicates::{self};
 use line_order::Counts;
 use model::Model;
+use read_edge::Ends;
+use read_edge::astray;
+use read_edge::read_ends;
+use read_form::field;
 use read_nodes::Nodes;
-use text_bytes::Natural;
 ghost use mathlib.Core.Path.{_≡_};
 ghost use mathlib.Core.List.{_∷_};
 ghost use Prim.Native.Nat.{suc, _≤_};
 ghost use lib.ListN.{length, take};
 ghost use Rattle.model.specs.Bounds.{maxNodes};
 ghost use Rattle.table_append.specs.Append.{nextPlace, put};
-ghost use Rattle.read_line.specs.Edge.{fieldIn, endsIn, astray, valueRead, afterValue, edgeRead, edgeAfter};
-
-// FROM, ACT and TO, or that one of them is no number in its range.
-pub enum Ends {
-    Are(u32, u32, u32),
-    Unsound,
-}
-
-// The field with this number, of those that commas part; empty where there are fewer.
-fn field(value: &[u8], number: usize) -> &[u8]
-    ensures { λ r. ⌜ now r ≡ fieldIn number (now (value .entry)) ⌝ }
-{
-    let mut at = 0;
-    let mut left = number;
-    while left != 0 {
-        let end = text_bytes::find(value, at, 44);
-        if value.len() <= end {
-            return &value[..0];
-        }
-        at = end + 1;
-        left -= 1;
-    }
-    let end = text_bytes::find(value, at, 44);
-    &value[at..end]
-}
-
-// Row 3 of the first three fields.
-fn read_ends(value: &[u8]) -> Ends
-    ensures { λ r. ⌜ r ≡ endsIn (now (value .entry)) ⌝ }
-{
-    let Natural::In(from) = text_bytes::natural(field(value, 0), Model::LAST_LOCATION as u32) else {
-        return Ends::Unsound;
-    };
-    let Natural::In(action) = text_bytes::natural(field(value, 1), Model::LAST_ACTION as u32) else {
-        return Ends::Unsound;
-    };
-    let Natural::In(to) = text_bytes::natural(field(value, 2), Model::LAST_LOCATION as u32) else {
-        return Ends::Unsound;
-    };
-    Ends::Are(from, action, to)
-}
-
-// Row 12.
-fn astray(counts: Counts, from: u32, action: u32, to: u32) -> bool
-    ensures { λ r. ⌜ r ≡ astray counts from action to ⌝ }
-{
-    let l = counts.locations;
-    let a = counts.actions;
-    (l <= arithmetic::index(from))
-        | ((a < arithmetic::index(action)) | (l <= arithmetic::index(to)))
-}
+ghost use Rattle.read_line.specs.Edge.{valueRead, afterValue, edgeRead, edgeAfter};
 
 // FROM, ACT, TO, and then a predicate's words.
 fn append_edge(
@@ -74,7 +27,8 @@ fn append_edge(
     n: usize,
 ) -> usize
     requires { ⌜ n ≤ maxNodes ⌝ }
-    ensures { λ r. ⌜ (r ≡ nextPlace at (suc (suc (suc (suc (length (take n (now (nodes .entry))))))))) × (now (words .exit) ≡ put at (from ∷ action ∷ to ∷ n ∷ take n (now (nodes .entry))) (now (words .entry))) ⌝ }
+    ensures { λ r. ⌜ (r ≡ nextPlace at (suc (suc (suc (suc (length (take n (now (nodes .entry)))))))))
+        × (now (words .exit) ≡ put at (from ∷ action ∷ to ∷ n ∷ take n (now (nodes .entry))) (now (words .entry))) ⌝ }
 {
     let second = table_append::append_one(words, at, from);
     let third = table_append::append_one(words, second, action);

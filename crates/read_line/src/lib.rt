@@ -1,4 +1,5 @@
-// One line of the sheet text: which row it breaks, or what it says, with its words put into the table that is being read.
+// One line of the sheet text: which row it breaks, or what it says, with its words put into the table that is being
+// read.
 mod composition;
 mod edge;
 mod number;
@@ -12,8 +13,8 @@ ghost use mathlib.Core.Path.{_≡_};
 ghost use lib.ListN.{length};
 ghost use Rattle.read_line.specs.Line.{lineWith, lineWithAfter, lineRead, lineAfter};
 
-// Sound: the line's number if it counts something or is the format's, the nodes of its predicate, and the place of the next
-// word. Fault: the smallest row that it breaks.
+// Sound: the line's number if it counts something or is the format's, the nodes of its predicate, and the place of the
+// next word. Fault: the smallest row that it breaks.
 pub enum LineRead {
     Sound(usize, usize, usize),
     Fault(u32),

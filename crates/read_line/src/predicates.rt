@@ -13,7 +13,8 @@ ghost use Rattle.format.specs.Spelling.{spelling};
 ghost use Rattle.read_predicate.specs.Scratch.{Scratch};
 ghost use Rattle.read_nodes.specs.Nodes.{nodesAfter};
 ghost use Rattle.table_append.specs.Append.{nextPlace, put};
-ghost use Rattle.read_line.specs.Predicate.{predicateRead, locatedRead, locatedAfter, locationRead, locationAfter};
+ghost use Rattle.read_line.specs.Predicate.{predicateRead, locatedRead, locatedAfter};
+ghost use Rattle.read_line.specs.Predicate.{locationRead, locationAfter};
 
 // The predicate that the bytes spell, by the table so far; where `old`, it may name only old values.
 pub(crate) fn predicate(
@@ -43,7 +44,8 @@ pub(crate) fn append_nodes(
     n: usize,
 ) -> usize
     requires { ⌜ n ≤ maxNodes ⌝ }
-    ensures { λ r. ⌜ (r ≡ nextPlace at (suc (length (take n (now (from .entry)))))) × (now (words .exit) ≡ put at (n ∷ take n (now (from .entry))) (now (words .entry))) ⌝ }
+    ensures { λ r. ⌜ (r ≡ nextPlace at (suc (length (take n (now (from .entry))))))
+        × (now (words .exit) ≡ put at (n ∷ take n (now (from .entry))) (now (words .entry))) ⌝ }
 {
     let next = table_append::append_one(words, at, n as u32);
     table_append::append(words, next, from, n)

@@ -26,7 +26,8 @@ pub fn sync(
     words: &mut [u32; Model::WORDS],
     at: usize,
 ) -> LineRead
-    ensures { λ r. ⌜ (r ≡ syncRead (now (line .entry)) ended counts at) × (now (words .exit) ≡ syncAfter (now (line .entry)) ended counts (now (words .entry)) at) ⌝ }
+    ensures { λ r. ⌜ (r ≡ syncRead (now (line .entry)) ended counts at)
+        × (now (words .exit) ≡ syncAfter (now (line .entry)) ended counts (now (words .entry)) at) ⌝ }
 {
     if read_form::misformed(line, ended, b"sync=", 0) {
         return LineRead::Fault(2);

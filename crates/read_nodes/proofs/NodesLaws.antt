@@ -116,15 +116,6 @@ module _ (nodes ranges : List ℕ) (o : Bool) (variables before high : ℕ) wher
 
 pub ruleset judged-laws = (judged-full, judged-ill, judged-outside, judged-new, judged-rest)
 
--- `first`
-pub first-all : (from : List ℕ) (n : ℕ) → length from < n → from ≡ take n from
-first-all from n h = sym (take-all n from (omega arith))
-
-pub first-long : (from : List ℕ) (n : ℕ) → n ≤ length from → n ≡ length (take n from)
-first-long from n h = sym (length-take-le n from h)
-
-pub ruleset first-laws = (first-all, first-long)
-
 -- `read`: where all words were read, their codes stand in front
 pub read-front : (part old new : List ℕ) (n : ℕ) → Reads part old new (Words.Read n) → (take n new ≡ codesOf part) × (length (codesOf part) ≡ n)
 unfolding codesOf written count

@@ -59,7 +59,8 @@ unfoldable pub codesOf : Bytes → List ℕ
 codesOf part = codes Word (tokens part)
 
 -- with room for so many nodes, and for so many sorts
-unfoldable pub nodesRead : (part : Bytes) (oldOnly : Bool) (variables : ℕ) (ranges : List ℕ) (before room high : ℕ) → Nodes
+unfoldable pub nodesRead :
+    (part : Bytes) (oldOnly : Bool) (variables : ℕ) (ranges : List ℕ) (before room high : ℕ) → Nodes
 nodesRead part oldOnly variables ranges before room high =
     elim (sounds [] (tokens part)) [
       | true ↦ onWords oldOnly variables ranges before high (codesOf part) (answer (codesOf part) room)

@@ -1,26 +1,20 @@
 -- Each way out of the code of src/range.rt.
-use Prim.Native.Nat.{ℕ, _+_, _-_, _≤_}
 use mathlib.Core.Path.{_≡_, sym, _∙_}
 use mathlib.Core.Bool.{Bool, true, false}
-use mathlib.Core.List.{List, []}
-use native.Mathlib.Omega.{arith}
 use lib.IntN.{ℤ}
 use lib.Signed.{leZ}
-use lib.ListN.{length, take, drop, drop-of-length-le}
 use mir.Syntax.{w32}
 use mir.Val.{SFits, toZ, ofZ}
 use mir.ValLaws.{toZ-ofZ}
 use Rattle.model.specs.Bounds.{leastNumber, greatestNumber}
-use Rattle.format.specs.Bytes.{Bytes, comma}
+use Rattle.format.specs.Bytes.{Bytes}
 use Rattle.text_bytes.specs.Number.{integerIn}
 use Rattle.text_bytes.specs.declared.answer.Integer.{Integer}
 use Rattle.text_bytes.specs.declared.answer.Integer.the-variants as I
-use Rattle.text_bytes.specs.Find.{firstFrom}
-use Rattle.text_bytes.proofs.Places.{take-rest}
-use Rattle.read_form.specs.Form.{valueAfter, misformed}
+use Rattle.read_form.specs.Form.{valueAfter, fieldIn, misformed}
 use Rattle.read_numbers.specs.declared.range.Bounds.{Bounds}
 use Rattle.read_numbers.specs.declared.range.Bounds.the-variants as Bounds
-use Rattle.read_numbers.specs.Range.{lowPart, highPart, orderedFrom, boundsOf, boundsIn}
+use Rattle.read_numbers.specs.Range.{orderedFrom, boundsOf, boundsIn}
 
 -- `ordered`
 pub ordered-yes : (low high : ℤ) → leZ (toZ w32 (ofZ w32 low)) (toZ w32 (ofZ w32 high)) ≡ true → SFits w32 low → SFits w32 high → Bounds.Are (toZ w32 (ofZ w32 low)) (toZ w32 (ofZ w32 high)) ≡ orderedFrom low high
@@ -48,28 +42,13 @@ module _ (low high : Integer) where
 
 pub ruleset both-laws = (both-low, both-high, both-are)
 
--- the parts before and after the comma
-pub low-is : (v : Bytes) (end : ℕ) → end ≡ firstFrom v 0 comma → take (end - 0) (drop 0 v) ≡ lowPart v
-unfolding lowPart
-low-is v end e = let z : end - 0 ≡ end = omega arith in rw (z, e)
-
-pub high-is : (v : Bytes) (end : ℕ) → end ≡ firstFrom v 0 comma → take (length v - (end + 1)) (drop (end + 1) v) ≡ highPart v
-unfolding highPart
-high-is v end e = take-rest v (end + 1) ∙ rw e
-
-pub high-none : (v : Bytes) (end : ℕ) → end ≡ firstFrom v 0 comma → length v ≤ end → _≡_ {A = List ℕ} [] (highPart v)
-unfolding highPart
-high-none v end e h = sym (rw (← e) (drop-of-length-le v {i = end + 1} (omega arith)))
-
-pub ruleset part-laws = (low-is, high-is, high-none)
-
 -- `two_numbers`
 module _ (name s : Bytes) (ended : Bool) (b : Bool) (hb : b ≡ misformed name 2 s ended) where
   pub bounds-form : b ≡ true → Bounds.Unsound 2 ≡ boundsIn name s ended
   unfolding boundsIn
   bounds-form h = rw (sym hb ∙ h, boundsIn)
 
-  module _ (k : b ≡ false) (v : Bytes) (hv : v ≡ valueAfter name s) (p q : Bytes) (hp : p ≡ lowPart v) (hq : q ≡ highPart v) (x y : Integer)
+  module _ (k : b ≡ false) (v : Bytes) (hv : v ≡ valueAfter name s) (p q : Bytes) (hp : p ≡ fieldIn 0 v) (hq : q ≡ fieldIn 1 v) (x y : Integer)
       (hx : x ≡ integerIn p leastNumber greatestNumber) (hy : y ≡ integerIn q leastNumber greatestNumber) where
     pub bounds-by : (r : Bounds) → r ≡ boundsOf x y → r ≡ boundsIn name s ended
     unfolding boundsIn

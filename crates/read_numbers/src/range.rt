@@ -1,9 +1,10 @@
 // A variable's line with the two ends of its range: rows 2, 3 and 4.
+use read_form::field;
 use text_bytes::Integer;
 ghost use mathlib.Core.Path.{_≡_};
 ghost use Rattle.model.specs.Bounds.{leastNumber, greatestNumber};
 ghost use Rattle.text_bytes.specs.Number.{integerIn};
-ghost use Rattle.read_numbers.specs.Range.{orderedFrom, boundsOf, boundsIn, lowPart, highPart};
+ghost use Rattle.read_numbers.specs.Range.{orderedFrom, boundsOf, boundsIn};
 
 // A range's ends, or the smallest row that the line breaks.
 pub enum Bounds {
@@ -41,26 +42,6 @@ fn both(low: Integer, high: Integer) -> Bounds
     ordered(least, most)
 }
 
-// What stands before the first comma, and after it.
-fn low_part(value: &[u8]) -> &[u8]
-    ensures { λ r. ⌜ now r ≡ lowPart (now (value .entry)) ⌝ }
-{
-    let start = 0;
-    let end = text_bytes::find(value, start, b',');
-    &value[start..end]
-}
-
-fn high_part(value: &[u8]) -> &[u8]
-    ensures { λ r. ⌜ now r ≡ highPart (now (value .entry)) ⌝ }
-{
-    let end = text_bytes::find(value, 0, b',');
-    if end < value.len() {
-        let start = end + 1;
-        return &value[start..];
-    }
-    &value[..0]
-}
-
 // Rows 2, 3 and 4 of a variable's line.
 pub fn two_numbers(line: &[u8], ended: bool, name: &[u8]) -> Bounds
     ensures { λ r. ⌜ r ≡ boundsIn (now (name .entry)) (now (line .entry)) ended ⌝ }
@@ -69,5 +50,5 @@ pub fn two_numbers(line: &[u8], ended: bool, name: &[u8]) -> Bounds
         return Bounds::Unsound(2);
     }
     let value = read_form::value(line, name);
-    both(end_of(low_part(value)), end_of(high_part(value)))
+    both(end_of(field(value, 0)), end_of(field(value, 1)))
 }

@@ -28,7 +28,8 @@ use Rattle.read_predicate.specs.declared.reading.Due.the-variants as Due
 use Rattle.read_predicate.specs.declared.reading.Words.{Words}
 use Rattle.read_predicate.specs.declared.reading.Words.the-variants.{Read, Stray, Full}
 use Rattle.read_predicate.proofs.Agree.{Agree, done, halt, next, agree}
-use Rattle.read_predicate.proofs.ReadLaws.{gap-stop, gap-on, gap-nil}
+use Rattle.text_bytes.proofs.FindLaws.{gap-on}
+use Rattle.read_predicate.proofs.ReadLaws.{gap-stop, gap-nil}
 
 -- no code is stray: the codes are those of the words
 agree-all : (cs : List ℕ) (ws : List Word) → Agree cs ws → Free strayCode cs → (cs ≡ map code ws) × Free stray ws

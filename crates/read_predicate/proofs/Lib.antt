@@ -1,4 +1,3 @@
-pub mod Parting
 pub mod ShapeLaws
 pub mod NumbersLaws
 pub mod CodeLaws

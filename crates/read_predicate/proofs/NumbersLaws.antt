@@ -19,7 +19,7 @@ use Rattle.read_predicate.specs.declared.tokens.Shape.{Shape}
 use Rattle.read_predicate.specs.declared.tokens.Shape.the-variants.{Bare, Lettered, Plain}
 use Rattle.read_predicate.specs.declared.numbers.Before.{Before}
 use Rattle.read_predicate.specs.declared.numbers.Before.the-variants.{Count, Items, Other}
-use Rattle.read_predicate.proofs.Parting.{partsFrom, from-start, from-past, from-step}
+use Rattle.text_bytes.proofs.Parting.{partsFrom, from-start, from-past, from-step}
 use Rattle.read_predicate.proofs.ShapeLaws.{fromShape, numeral-is}
 
 -- `kind_of`

@@ -14,6 +14,7 @@ use Rattle.format.specs.Bytes.{Bytes, bytes, space}
 use Rattle.format.specs.Tokens.{tokens}
 use Rattle.format.proofs.BytesLaws.{Free, free-append}
 use Rattle.text_bytes.specs.Find.{gap, firstFrom}
+use Rattle.text_bytes.proofs.FindLaws.{gap-on}
 use Rattle.read_predicate.specs.declared.codes.Numbered.the-variants as N
 use Rattle.read_predicate.specs.Codes.{strayCode, wordCode, countCode}
 use Rattle.read_predicate.specs.Read.{isWord, dueAfter, codeAs, codes, count, answer, written, Reads}
@@ -21,7 +22,7 @@ use Rattle.read_predicate.specs.declared.reading.Due.{Due}
 use Rattle.read_predicate.specs.declared.reading.Due.the-variants.{Word, AllCount, AnyCount}
 use Rattle.read_predicate.specs.declared.reading.Words.{Words}
 use Rattle.read_predicate.specs.declared.reading.Words.the-variants.{Read, Stray, Full}
-use Rattle.read_predicate.proofs.Parting.{partsFrom, from-start, from-past, from-step}
+use Rattle.text_bytes.proofs.Parting.{partsFrom, from-start, from-past, from-step}
 
 -- the small functions
 module _ (d : Due) where
@@ -110,10 +111,6 @@ gap-append c (b ∷ p) q f = rw (ne-eqb b c (f .0), gap) (omega (arith, gap-appe
 pub gap-stop : (c : ℕ) (q : List ℕ) → gap c (c ∷ q) ≡ 0
 unfolding gap
 gap-stop c q = rw (eq-eqb c c refl, gap)
-
-pub gap-on : (c b : ℕ) (q : List ℕ) → (b ≡ c → ⊥) → gap c (b ∷ q) ≡ suc (gap c q)
-unfolding gap
-gap-on c b q h = rw (ne-eqb b c h, gap)
 
 pub gap-nil : (c : ℕ) → gap c [] ≡ 0
 unfolding gap

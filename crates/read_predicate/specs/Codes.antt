@@ -26,7 +26,8 @@ unfoldable pub numberCode : Bytes → ℕ
 numberCode s = elim (within leastNumber greatestNumber s) [ true ↦ code (numWord (integerOf s)) | false ↦ strayCode ]
 
 unfoldable pub argumentCode : Numbered → (high : ℕ) → Bytes → ℕ
-argumentCode which high s = elim (within (pos 0) (pos high) s) [ true ↦ code (wordWith which (naturalOf s)) | false ↦ strayCode ]
+argumentCode which high s =
+    elim (within (pos 0) (pos high) s) [ true ↦ code (wordWith which (naturalOf s)) | false ↦ strayCode ]
 
 unfoldable pub variableCode : (letter : ℕ) → Bytes → ℕ
 variableCode letter s =
@@ -45,4 +46,9 @@ wordCode t =
 
 -- the K after `all` or `any`, with it
 unfoldable pub countCode : Numbered → Bytes → ℕ
-countCode which t = elim (numeral t) [ unjudged ↦ strayCode | bare s ↦ argumentCode which maxOperands s | lettered b s ↦ strayCode ]
+countCode which t =
+    elim (numeral t) [
+      | unjudged ↦ strayCode
+      | bare s ↦ argumentCode which maxOperands s
+      | lettered b s ↦ strayCode
+    ]

@@ -15,7 +15,10 @@ unfoldable pub beforeOf : Bytes → Before
 beforeOf t =
     elim (same t (bytes "all")) [
       | true ↦ Count
-      | false ↦ elim (same t (bytes "any")) [ true ↦ Count | false ↦ elim (same t (bytes "syn")) [ true ↦ Items | false ↦ Other ] ]
+      | false ↦ elim (same t (bytes "any")) [
+        | true ↦ Count
+        | false ↦ elim (same t (bytes "syn")) [ true ↦ Items | false ↦ Other ]
+      ]
     ]
 
 -- a number as its kind asks: an operand count, a list of actions, or from low to high

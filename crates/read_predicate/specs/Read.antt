@@ -25,7 +25,10 @@ isWord AnyCount = false
 -- what the next token is read as
 unfoldable pub dueAfter : Due → Bytes → Due
 dueAfter Word t =
-    elim (same t (bytes "all")) [ true ↦ AllCount | false ↦ elim (same t (bytes "any")) [ true ↦ AnyCount | false ↦ Word ] ]
+    elim (same t (bytes "all")) [
+      | true ↦ AllCount
+      | false ↦ elim (same t (bytes "any")) [ true ↦ AnyCount | false ↦ Word ]
+    ]
 dueAfter AllCount t = Word
 dueAfter AnyCount t = Word
 
@@ -38,7 +41,10 @@ codeAs AnyCount t = countCode N.Any t
 unfoldable pub codes : Due → List Bytes → List ℕ
 codes due [] = elim (isWord due) [ true ↦ [] | false ↦ strayCode ∷ [] ]
 codes due (t ∷ ts) =
-    elim (isWord (dueAfter due t)) [ true ↦ codeAs due t ∷ codes (dueAfter due t) ts | false ↦ codes (dueAfter due t) ts ]
+    elim (isWord (dueAfter due t)) [
+      | true ↦ codeAs due t ∷ codes (dueAfter due t) ts
+      | false ↦ codes (dueAfter due t) ts
+    ]
 
 -- how many of them come before the first stray one
 unfoldable pub count : List ℕ → ℕ
@@ -46,7 +52,10 @@ count cs = gap strayCode cs
 
 unfoldable pub answer : List ℕ → (room : ℕ) → Words
 answer cs room =
-    elim (leb (count cs) room) [ true ↦ elim (ltb (count cs) (length cs)) [ true ↦ Stray | false ↦ Read (count cs) ] | false ↦ Full ]
+    elim (leb (count cs) room) [
+      | true ↦ elim (ltb (count cs) (length cs)) [ true ↦ Stray | false ↦ Read (count cs) ]
+      | false ↦ Full
+    ]
 
 -- these stand in the first places, as far as there is room; the rest is as it was
 unfoldable pub written : List ℕ → (old : List ℕ) → List ℕ

@@ -11,7 +11,8 @@ ghost use Rattle.model.specs.Predicate.{stray};
 ghost use Rattle.model.specs.Table as Table;
 ghost use Rattle.node_words.specs.Nodes.{nodeFor};
 ghost use Rattle.format.specs.Tokens as T;
-ghost use Rattle.read_predicate.specs.Codes.{strayCode, wordWith, argumentCode, numberCode, variableCode, wordCode, countCode};
+ghost use Rattle.read_predicate.specs.Codes.{strayCode, wordWith, argumentCode, numberCode, variableCode};
+ghost use Rattle.read_predicate.specs.Codes.{wordCode, countCode};
 
 // The words that have a number of their own: K of `all`, `any`, `vK` and `nK`.
 pub enum Numbered {
@@ -116,10 +117,10 @@ fn argument_code(which: Numbered, high: u32, s: &[u8]) -> u32
 fn variable_code(letter: u8, s: &[u8]) -> u32
     ensures { λ r. ⌜ r ≡ variableCode letter (now (s .entry)) ⌝ }
 {
-    if letter == 118 {
+    if letter == b'v' {
         return argument_code(Numbered::Old, Model::LAST_VARIABLE, s);
     }
-    if letter == 110 {
+    if letter == b'n' {
         return argument_code(Numbered::New, Model::LAST_VARIABLE, s);
     }
     stray_code()

@@ -12,7 +12,8 @@ ghost use Rattle.format.specs.Number.{within};
 ghost use Rattle.format.specs.Tokens as T;
 ghost use Rattle.read_predicate.specs.Numbers.{beforeOf, soundAs, soundAfter};
 
-// How the token before makes a number be judged: as an operand count, as a list of actions, or by the number's own letter.
+// How the token before makes a number be judged: as an operand count, as a list of actions, or by the number's own
+// letter.
 pub enum Before {
     Count,
     Items,
@@ -40,7 +41,7 @@ pub fn list_sound(part: &[u8]) -> bool
 {
     let mut at = 0;
     while at <= part.len() {
-        let end = text_bytes::find(part, at, 44);
+        let end = text_bytes::find(part, at, b',');
         if !tokens::natural_fits(&part[at..end], Model::ACTIONS) {
             return false;
         }
@@ -63,7 +64,7 @@ fn bare_sound(before: Before, s: &[u8]) -> bool
 fn last_after(letter: u8) -> u32
     ensures { λ r. ⌜ pos r ≡ T.lastAfter letter ⌝ }
 {
-    if letter == 97 {
+    if letter == b'a' {
         15
     } else {
         Model::LAST_VARIABLE
@@ -99,7 +100,7 @@ pub fn numbers_sound(part: &[u8]) -> bool
     let mut kind = Before::Other;
     let mut at = 0;
     while at <= part.len() {
-        let end = text_bytes::find(part, at, 32);
+        let end = text_bytes::find(part, at, b' ');
         let token = &part[at..end];
         if !sound(kind, token) {
             return false;

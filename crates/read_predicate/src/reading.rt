@@ -61,8 +61,8 @@ fn code_as(due: Due, token: &[u8]) -> u32
     }
 }
 
-// The codes of the words, from the front of `out` on, up to the first token that spells none. Row 3 is tested before: a number
-// out of its range is read as no word.
+// The codes of the words, from the front of `out` on, up to the first token that spells none. Row 3 is tested before: a
+// number out of its range is read as no word.
 pub fn read(part: &[u8], out: &mut [u32]) -> Words
     ensures { λ r. ⌜ Reads (now (part .entry)) (now (out .entry)) (now (out .exit)) r ⌝ }
 {
@@ -70,7 +70,7 @@ pub fn read(part: &[u8], out: &mut [u32]) -> Words
     let mut n = 0;
     let mut at = 0;
     while at <= part.len() {
-        let end = text_bytes::find(part, at, 32);
+        let end = text_bytes::find(part, at, b' ');
         let token = &part[at..end];
         let read_as = due;
         due = due_after(read_as, token);

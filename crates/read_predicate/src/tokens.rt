@@ -1,10 +1,7 @@
 // One token: which bytes of it, if any, are judged as a number?
 ghost use mathlib.Core.Path.{_≡_};
-ghost use mathlib.Core.Bool.{_||_};
 ghost use lib.IntN.{pos};
-ghost use lib.Dec.{eqb};
 ghost use Rattle.model.specs.Bounds.{leastNumber, greatestNumber};
-ghost use Rattle.format.specs.Bytes.{minus};
 ghost use Rattle.format.specs.Number as N;
 ghost use Rattle.read_predicate.specs.Shape.{letter, shapeOf};
 
@@ -15,22 +12,10 @@ pub enum Shape {
     Plain,
 }
 
-fn digit(b: u8) -> bool
-    ensures { λ r. ⌜ r ≡ N.digit b ⌝ }
-{
-    (48 <= b) & (b <= 57)
-}
-
-fn starts_number(b: u8) -> bool
-    ensures { λ r. ⌜ r ≡ (N.digit b || eqb b minus) ⌝ }
-{
-    digit(b) | (b == 45)
-}
-
 fn letter(b: u8) -> bool
     ensures { λ r. ⌜ r ≡ letter b ⌝ }
 {
-    (b == 118) | ((b == 110) | (b == 97))
+    (b == b'v') | ((b == b'n') | (b == b'a'))
 }
 
 pub fn numeral(token: &[u8]) -> Shape
@@ -40,13 +25,13 @@ pub fn numeral(token: &[u8]) -> Shape
         return Shape::Plain;
     }
     let b = token[0];
-    if starts_number(b) {
+    if text_bytes::starts_number(b) {
         return Shape::Bare;
     }
     if token.len() == 1 {
         return Shape::Plain;
     }
-    if letter(b) & digit(token[1]) {
+    if letter(b) & text_bytes::digit(token[1]) {
         return Shape::Lettered(b);
     }
     Shape::Plain

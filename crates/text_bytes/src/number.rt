@@ -44,7 +44,7 @@ pub fn natural(s: &[u8], high: u32) -> Natural
     if s.len() == 0 {
         return Natural::Out;
     }
-    if s[0] == 48 {
+    if s[0] == b'0' {
         if s.len() <= 1 {
             return Natural::In(0);
         }
@@ -90,7 +90,7 @@ pub fn integer(s: &[u8], low: i32, high: i32) -> Integer
     if s.len() == 0 {
         return Integer::Out;
     }
-    if s[0] == 45 {
+    if s[0] == b'-' {
         let m = natural(&s[1..], 4294967295);
         match m {
             Natural::In(n) => negate(n, low, high),

@@ -9,7 +9,7 @@ begins-requires : tie.Need-begins-requires
 begins-requires c κs = search needs
 
 returns : tie.Need-returns
-returns c = search (needs, misformed-laws, not-true, not-false)
+returns c = search (needs, misformed-laws, not-true)
 
 value-requires : tie.Need-value-requires
 value-requires c κs = search needs
@@ -24,7 +24,7 @@ printable-requires : tie.Need-printable-requires
 printable-requires c κs = search needs
 
 returns-3 : tie.Need-returns-3
-returns-3 c = search (needs, misformed-laws, not-true, not-false)
+returns-3 c = search (needs, misformed-laws, not-false)
 
 pub misformed-spec : {M : Type 1} → statement M
 misformed-spec =

@@ -1,5 +1,5 @@
 -- `value` meets its contract.
-use Rattle.read_form.proofs.FormLaws.{value-laws}
+use Rattle.text_bytes.proofs.Places.{rest-laws}
 use borrow.Author.Needs.{needs}
 use Rattle.read_form.proofs.value.Statement.{statement}
 use Rattle.read_form.proofs.value.Tie as tie
@@ -8,7 +8,7 @@ slice-aggregate-result : tie.Need-slice-aggregate-result
 slice-aggregate-result c = search needs
 
 returns : tie.Need-returns
-returns c = search (needs, value-laws)
+returns c = search (needs, rest-laws)
 
 sub-result : tie.Need-sub-result
 sub-result c = search needs
@@ -20,7 +20,7 @@ part-result-end : tie.Need-part-result-end
 part-result-end c = search needs
 
 returns-2 : tie.Need-returns-2
-returns-2 c = search (needs, value-laws)
+returns-2 c = search (needs, rest-laws)
 
 pub value-spec : {M : Type 1} → statement M
 value-spec =

@@ -13,14 +13,14 @@ returns c = search (needs, bounds-laws)
 value-requires : tie.Need-value-requires
 value-requires c κs = search needs
 
-low-part-requires : tie.Need-low-part-requires
-low-part-requires c κs = search needs
+field-requires : tie.Need-field-requires
+field-requires c κs = search needs
 
 end-of-requires : tie.Need-end-of-requires
 end-of-requires c κs = search needs
 
-high-part-requires : tie.Need-high-part-requires
-high-part-requires c κs = search needs
+field-requires-2 : tie.Need-field-requires-2
+field-requires-2 c κs = search needs
 
 end-of-requires-2 : tie.Need-end-of-requires-2
 end-of-requires-2 c κs = search needs
@@ -38,9 +38,9 @@ two-numbers-spec =
     misformed-requires
     returns
     value-requires
-    low-part-requires
+    field-requires
     end-of-requires
-    high-part-requires
+    field-requires-2
     end-of-requires-2
     both-requires
     returns-2)

@@ -7,7 +7,7 @@ use Rattle.model.specs.Basic.{every}
 use Rattle.model.specs.Bounds.{maxActions}
 use Rattle.format.specs.Bytes.{parts, comma}
 use Rattle.format.specs.Number.{within}
-use Rattle.read_predicate.proofs.Parting.{partsFrom, turn-laws}
+use Rattle.text_bytes.proofs.Parting.{partsFrom, turn-laws}
 use Rattle.read_predicate.proofs.NumbersLaws.{list-laws}
 use borrow.Author.Needs.{needs}
 use Rattle.read_predicate.proofs.numbers.list_sound.Statement.{statement}

@@ -6,7 +6,7 @@ use lib.ListN.{length}
 use Rattle.format.specs.Bytes.{space}
 use Rattle.format.specs.Tokens.{tokens, sounds}
 use Rattle.read_predicate.specs.Numbers.{soundsAfter}
-use Rattle.read_predicate.proofs.Parting.{partsFrom, turn-laws}
+use Rattle.text_bytes.proofs.Parting.{partsFrom, turn-laws}
 use Rattle.read_predicate.proofs.NumbersLaws.{numbers-laws}
 use borrow.Author.Needs.{needs}
 use Rattle.read_predicate.proofs.numbers.numbers_sound.Statement.{statement}

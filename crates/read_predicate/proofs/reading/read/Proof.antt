@@ -1,7 +1,7 @@
 -- What stands in front of `out` and what is still to be read make up the codes. The measure is what is left of the bytes.
 use Prim.Native.Nat.{_+_, _-_, _≤_}
 use lib.ListN.{length}
-use Rattle.read_predicate.proofs.Parting.{turn-laws}
+use Rattle.text_bytes.proofs.Parting.{turn-laws}
 use Rattle.read_predicate.proofs.ReadLaws.{Reading, read-laws}
 use borrow.Author.Needs.{needs}
 use Rattle.read_predicate.proofs.reading.read.Statement.{statement}

@@ -1,8 +1,8 @@
 -- `field` meets its contract: the fields that are left begin at a place.
-use Rattle.read_line.proofs.EdgeLaws.{Fields, field-laws}
+use Rattle.read_form.proofs.FieldLaws.{Fields, field-laws}
 use borrow.Author.Needs.{needs}
-use Rattle.read_line.proofs.edge.field.Statement.{statement}
-use Rattle.read_line.proofs.edge.field.Tie as tie
+use Rattle.read_form.proofs.field.Statement.{statement}
+use Rattle.read_form.proofs.field.Tie as tie
 
 abbrev Inv-loop : tie.InvT-loop
 Inv-loop value number at₀ left₀ at left = Fields value number at left

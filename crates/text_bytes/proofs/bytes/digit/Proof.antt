@@ -1,7 +1,8 @@
+-- `digit` meets its contract.
 use mathlib.Core.Path.{refl}
 use Rattle.format.specs.Number.{digit}
-use Rattle.read_predicate.proofs.tokens.digit.Statement.{statement}
-use Rattle.read_predicate.proofs.tokens.digit.Tie as tie
+use Rattle.text_bytes.proofs.bytes.digit.Statement.{statement}
+use Rattle.text_bytes.proofs.bytes.digit.Tie as tie
 
 returns : tie.Need-returns
 unfolding digit

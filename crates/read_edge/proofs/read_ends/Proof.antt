@@ -1,8 +1,8 @@
 -- `read_ends` meets its contract: each way out is a law of EdgeLaws.
-use Rattle.read_line.proofs.EdgeLaws.{ends-laws}
+use Rattle.read_edge.proofs.EdgeLaws.{ends-laws}
 use borrow.Author.Needs.{needs}
-use Rattle.read_line.proofs.edge.read_ends.Statement.{statement}
-use Rattle.read_line.proofs.edge.read_ends.Tie as tie
+use Rattle.read_edge.proofs.read_ends.Statement.{statement}
+use Rattle.read_edge.proofs.read_ends.Tie as tie
 
 field-requires : tie.Need-field-requires
 field-requires c κs = search needs

@@ -1,8 +1,8 @@
 -- `astray` meets its contract: each way out is a law of EdgeLaws.
-use Rattle.read_line.proofs.EdgeLaws.{astray-by}
+use Rattle.read_edge.proofs.EdgeLaws.{astray-by}
 use borrow.Author.Needs.{needs}
-use Rattle.read_line.proofs.edge.astray.Statement.{statement}
-use Rattle.read_line.proofs.edge.astray.Tie as tie
+use Rattle.read_edge.proofs.astray.Statement.{statement}
+use Rattle.read_edge.proofs.astray.Tie as tie
 
 index-requires : tie.Need-index-requires
 index-requires c κs = search needs

@@ -1,6 +1,7 @@
+-- `starts_number` meets its contract.
 use borrow.Author.Needs.{needs}
-use Rattle.read_predicate.proofs.tokens.starts_number.Statement.{statement}
-use Rattle.read_predicate.proofs.tokens.starts_number.Tie as tie
+use Rattle.text_bytes.proofs.bytes.starts_number.Statement.{statement}
+use Rattle.text_bytes.proofs.bytes.starts_number.Tie as tie
 
 digit-requires : tie.Need-digit-requires
 digit-requires c κs = search needs
