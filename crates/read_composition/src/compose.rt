@@ -14,8 +14,8 @@ pub struct Composition {
     pub next: usize,
 }
 
-// So far: how many subtrees are still to come, how many leaves there were and whether each was in order, how many nodes,
-// and where the next words go.
+// So far: how many subtrees are still to come, how many leaves there were and whether each was in order, how many
+// nodes, and where the next words go.
 pub struct Walk {
     pub owed: usize,
     pub leaves: usize,
