@@ -4,7 +4,7 @@ use crate::sync::cap;
 use line_order::Counts;
 use model::Model;
 use model::Tree;
-use read_predicate::numbers_sound;
+use read_tokens::numbers_sound;
 use table_append::append;
 use table_append::append_one;
 ghost use mathlib.Core.Path.{_≡_};

@@ -7,7 +7,7 @@ use read_numbers::Count;
 use read_numbers::few_edges;
 use read_numbers::one_number;
 use read_numbers::two_numbers;
-use read_predicate::biased;
+use read_words::biased;
 use table_append::append_one;
 use table_append::append_two;
 ghost use mathlib.Core.Path.{_≡_};

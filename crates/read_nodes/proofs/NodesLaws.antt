@@ -21,11 +21,11 @@ use Rattle.table_predicate.specs.Walk.{walkAt}
 use Rattle.format.specs.Tokens.{tokens, sounds}
 use Rattle.text_bytes.specs.Find.{gap}
 use Rattle.text_bytes.proofs.FindLaws.{gap-within}
-use Rattle.read_predicate.specs.Codes.{strayCode}
-use Rattle.read_predicate.specs.declared.reading.Words.{Words}
-use Rattle.read_predicate.specs.declared.reading.Words.the-variants as Words
-use Rattle.read_predicate.specs.Read.{answer, count, written, Reads}
-use Rattle.read_predicate.proofs.Answers.{said-read}
+use Rattle.read_words.specs.Codes.{strayCode}
+use Rattle.read_words.specs.declared.reading.Words.{Words}
+use Rattle.read_words.specs.declared.reading.Words.the-variants as Words
+use Rattle.read_words.specs.Read.{answer, count, written, Reads}
+use Rattle.read_words.proofs.Answers.{said-read}
 use Rattle.read_nodes.specs.declared.Nodes.{Nodes}
 use Rattle.read_nodes.specs.declared.Nodes.the-variants.{Are, Unsound, Full}
 use Rattle.read_nodes.specs.Nodes.{told, extentFault, nodesFault, judgedIn, onWords, codesOf, nodesRead, nodesAfter}

@@ -26,11 +26,11 @@ use Rattle.format.specs.Bytes.{Bytes}
 use Rattle.format.specs.Tokens.{tokens, sounds, readWords}
 use Rattle.text_bytes.specs.Find.{gap}
 use Rattle.text_bytes.proofs.FindLaws.{gap-within}
-use Rattle.read_predicate.specs.Codes.{strayCode}
-use Rattle.read_predicate.specs.declared.reading.Words.{Words}
-use Rattle.read_predicate.specs.declared.reading.Words.the-variants as Words
-use Rattle.read_predicate.specs.Read.{answer, count, written, Reads}
-use Rattle.read_predicate.proofs.Answers.{read-all-words, read-stray-word, never-full, words-read, half-as-many, said-read}
+use Rattle.read_words.specs.Codes.{strayCode}
+use Rattle.read_words.specs.declared.reading.Words.{Words}
+use Rattle.read_words.specs.declared.reading.Words.the-variants as Words
+use Rattle.read_words.specs.Read.{answer, count, written, Reads}
+use Rattle.read_words.proofs.Answers.{read-all-words, read-stray-word, never-full, words-read, half-as-many, said-read}
 use Rattle.read_nodes.specs.declared.Nodes.{Nodes}
 use Rattle.read_nodes.specs.declared.Nodes.the-variants.{Are, Unsound, Full}
 use Rattle.read_nodes.specs.Nodes.{told, extentFault, nodesFault, judgedIn, onWords, codesOf, nodesRead, nodesAfter}

@@ -15,10 +15,10 @@ use Rattle.model.specs.Table.{wordOf}
 use Rattle.table_predicate.specs.Walk.{walkAt}
 use Rattle.format.specs.Bytes.{Bytes}
 use Rattle.format.specs.Tokens.{tokens, sounds}
-use Rattle.read_predicate.specs.declared.reading.Due.the-variants.{Word}
-use Rattle.read_predicate.specs.declared.reading.Words.{Words}
-use Rattle.read_predicate.specs.declared.reading.Words.the-variants as Words
-use Rattle.read_predicate.specs.Read.{codes, answer, written}
+use Rattle.read_words.specs.declared.reading.Due.the-variants.{Word}
+use Rattle.read_words.specs.declared.reading.Words.{Words}
+use Rattle.read_words.specs.declared.reading.Words.the-variants as Words
+use Rattle.read_words.specs.Read.{codes, answer, written}
 use Rattle.read_nodes.specs.declared.Nodes.{Nodes}
 use Rattle.read_nodes.specs.declared.Nodes.the-variants.{Are, Unsound, Full}
 
