@@ -1,7 +1,14 @@
 // The form of a line: what stands after its key, its fields, and row 2: is this the line that is due, with its fields,
-// in printable bytes, up to an LF?
+// in printable bytes, up to an LF? And what reading a line answers.
 ghost use mathlib.Core.Path.{_≡_};
 ghost use Rattle.read_form.specs.Form.{valueAfter, fieldIn, misparted, misformed};
+
+// Sound: the line's number if it counts something or is the format's, the nodes of its predicate, and the place of the
+// next word. Fault: the smallest row that it breaks.
+pub enum LineRead {
+    Sound(usize, usize, usize),
+    Fault(u32),
+}
 
 // What stands after the key.
 pub fn value<'a>(line: &'a [u8], name: &[u8]) -> &'a [u8]

@@ -16,8 +16,8 @@ use Rattle.line_order.specs.Counts.{nodesOf, Counted}
 use Rattle.table_check.specs.Scan.{Declared}
 use Rattle.format.specs.Bytes.{Bytes}
 use Rattle.format.specs.Rows.{fault, entry}
-use Rattle.read_line.specs.declared.LineRead.{LineRead}
-use Rattle.read_line.specs.declared.LineRead.the-variants.{Sound, Fault}
+use Rattle.read_form.specs.declared.LineRead.{LineRead}
+use Rattle.read_form.specs.declared.LineRead.the-variants.{Sound, Fault}
 use Rattle.table_append.specs.Append.{nextPlace, put}
 use Rattle.read_form.specs.Form.{lineOf}
 

@@ -12,15 +12,15 @@ use Rattle.line_order.specs.declared.Key.the-variants.{Locations, Init, Inv, Ed
 use Rattle.line_order.specs.declared.Counts.{Counts}
 use Rattle.format.specs.Bytes.{Bytes}
 use Rattle.format.specs.Spelling.{spelling}
-use Rattle.read_line.specs.declared.LineRead.{LineRead}
-use Rattle.read_line.specs.declared.LineRead.the-variants.{Fault}
+use Rattle.read_form.specs.declared.LineRead.{LineRead}
+use Rattle.read_form.specs.declared.LineRead.the-variants.{Fault}
 use Rattle.read_numbers.specs.Number.{countIn, fewEdges}
 use Rattle.read_numbers.specs.Range.{boundsIn}
-use Rattle.read_line.specs.Number.{numberRead, numberAfter, boundsRead, boundsAfter}
-use Rattle.read_line.specs.Sync.{syncRead, syncAfter}
-use Rattle.read_line.specs.Predicate.{mostWords, locationRead, locationAfter}
-use Rattle.read_line.specs.Edge.{edgeRead, edgeAfter}
-use Rattle.read_line.specs.Composition.{composeRead, composeAfter}
+use Rattle.read_number_line.specs.Number.{numberRead, numberAfter, boundsRead, boundsAfter}
+use Rattle.read_composition_line.specs.Sync.{syncRead, syncAfter}
+use Rattle.read_predicate_line.specs.Predicate.{mostWords, locationRead, locationAfter}
+use Rattle.read_predicate_line.specs.Edge.{edgeRead, edgeAfter}
+use Rattle.read_composition_line.specs.Composition.{composeRead, composeAfter}
 
 -- with room for so many nodes and sorts of a predicate
 unfoldable pub lineWith : Bytes → (ended : Bool) → Key → Counts → (words : List ℕ) (at room high : ℕ) → LineRead

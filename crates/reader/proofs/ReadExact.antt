@@ -37,8 +37,8 @@ use Rattle.format.proofs.LineLaws.{Formed, formed, broken-inv, entry-key}
 use Rattle.format.proofs.Exact.{read-case, entry-fault, no-refusal}
 use Rattle.text_bytes.specs.Find.{firstFrom}
 use Rattle.text_bytes.proofs.FindLaws.{find-after, lines-found, lines-ended, lines-none}
-use Rattle.read_line.specs.declared.LineRead.{LineRead}
-use Rattle.read_line.specs.declared.LineRead.the-variants as LineRead
+use Rattle.read_form.specs.declared.LineRead.{LineRead}
+use Rattle.read_form.specs.declared.LineRead.the-variants as LineRead
 use Rattle.table_append.specs.Append.{nextPlace, put}
 use Rattle.read_form.specs.Form.{lineOf}
 use Rattle.read_line.specs.Exact.{ReadsLines}

@@ -13,8 +13,8 @@ use Rattle.format.specs.Bytes.{Bytes, LF}
 use Rattle.format.specs.Reader as Reader
 use Rattle.format.specs.Reader.{row1}
 use Rattle.text_bytes.specs.Find.{firstFrom}
-use Rattle.read_line.specs.declared.LineRead.{LineRead}
-use Rattle.read_line.specs.declared.LineRead.the-variants as LineRead
+use Rattle.read_form.specs.declared.LineRead.{LineRead}
+use Rattle.read_form.specs.declared.LineRead.the-variants as LineRead
 use Rattle.read_line.specs.Line.{lineRead, lineAfter}
 use Rattle.reader.specs.declared.ReadAnswer.{ReadAnswer}
 use Rattle.reader.specs.declared.ReadAnswer.the-variants.{Accepted, Refused}
