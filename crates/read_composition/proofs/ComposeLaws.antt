@@ -20,12 +20,12 @@ use Rattle.read_composition.specs.declared.compose.Composition.{Composit
 use Rattle.read_composition.specs.declared.compose.Walk.{Walk}
 use Rattle.model.proofs.Tests.{or-none-left}
 use Rattle.format.proofs.ReadLaws.{number-of}
-use Rattle.text_bytes.specs.declared.answer.Natural.{Natural}
-use Rattle.text_bytes.specs.declared.answer.Natural.the-variants as N
+use Rattle.text_numbers.specs.declared.answer.Natural.{Natural}
+use Rattle.text_numbers.specs.declared.answer.Natural.the-variants as N
 use Rattle.text_bytes.specs.Find.{firstFrom}
-use Rattle.text_bytes.specs.Number.{naturalIn}
+use Rattle.text_numbers.specs.Number.{naturalIn}
 use Rattle.text_bytes.proofs.FindLaws.{find-after}
-use Rattle.text_bytes.proofs.NumberLaws.{natural-said}
+use Rattle.text_numbers.proofs.NumberLaws.{natural-said}
 use Rattle.model.specs.Basic.{same}
 use Rattle.format.specs.Bytes.{bytes}
 use Rattle.read_composition.specs.Token.{startsNumber, leafOf, leafKind, wordKind, setKind, kindOf, isSyn, isStray, kindsOf}

@@ -16,10 +16,10 @@ use Rattle.format.specs.Bytes.{Bytes, parts, comma}
 use Rattle.format.specs.Number.{within, naturalOf}
 use Rattle.format.specs.Rows.{listItems}
 use Rattle.text_bytes.specs.Find.{firstFrom}
-use Rattle.text_bytes.specs.Number.{naturalIn}
-use Rattle.text_bytes.specs.declared.answer.Natural.{Natural}
-use Rattle.text_bytes.specs.declared.answer.Natural.the-variants as N
-use Rattle.text_bytes.proofs.NumberLaws.{natural-said, natural-denied}
+use Rattle.text_numbers.specs.Number.{naturalIn}
+use Rattle.text_numbers.specs.declared.answer.Natural.{Natural}
+use Rattle.text_numbers.specs.declared.answer.Natural.the-variants as N
+use Rattle.text_numbers.proofs.NumberLaws.{natural-said, natural-denied}
 use Rattle.read_composition.specs.List.{withLow, withHigh, withItem, noNumbers, unsound, listFrom, listOf}
 use Rattle.read_composition.specs.declared.list.Listed.{Listed}
 use Rattle.read_composition.specs.declared.list.Numbers.{Numbers}

@@ -10,9 +10,9 @@ use lib.Dec.{eqb, leb}
 use Rattle.model.specs.Basic.{same}
 use Rattle.format.specs.Bytes.{Bytes, bytes, parts, comma, minus}
 use Rattle.format.specs.Number.{digit}
-use Rattle.text_bytes.specs.Number.{naturalIn}
-use Rattle.text_bytes.specs.declared.answer.Natural.{Natural}
-use Rattle.text_bytes.specs.declared.answer.Natural.the-variants as N
+use Rattle.text_numbers.specs.Number.{naturalIn}
+use Rattle.text_numbers.specs.declared.answer.Natural.{Natural}
+use Rattle.text_numbers.specs.declared.answer.Natural.the-variants as N
 use Rattle.text_bytes.proofs.Places.{take-rest}
 use Rattle.read_composition.specs.declared.list.Listed.{Listed}
 use Rattle.read_composition.specs.declared.token.Kind.{Kind}

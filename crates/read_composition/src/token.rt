@@ -1,6 +1,6 @@
 // What a token of a composition is.
 use crate::list::list_of;
-use text_bytes::Natural;
+use text_numbers::Natural;
 ghost use mathlib.Core.Path.{_≡_};
 ghost use Rattle.model.specs.Basic.{same};
 ghost use Rattle.format.specs.Bytes.{bytes};
@@ -35,7 +35,7 @@ fn leaf(token: &[u8]) -> Kind
     if token[0] != b'a' {
         return Kind::Stray;
     }
-    let n = text_bytes::natural(&token[1..], 15);
+    let n = text_numbers::natural(&token[1..], 15);
     match n {
         Natural::In(k) => Kind::Leaf(k),
         Natural::Out => Kind::Stray,

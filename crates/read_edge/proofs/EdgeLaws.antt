@@ -8,10 +8,10 @@ use lib.Dec.{leb, ltb}
 use Rattle.line_order.specs.declared.Counts.{Counts}
 use Rattle.format.specs.Bytes.{Bytes}
 use Rattle.format.specs.Number.{within, naturalOf}
-use Rattle.text_bytes.specs.Number.{naturalIn}
-use Rattle.text_bytes.specs.declared.answer.Natural.{Natural}
-use Rattle.text_bytes.specs.declared.answer.Natural.the-variants.{In, Out}
-use Rattle.text_bytes.proofs.NumberLaws.{natural-said, natural-denied}
+use Rattle.text_numbers.specs.Number.{naturalIn}
+use Rattle.text_numbers.specs.declared.answer.Natural.{Natural}
+use Rattle.text_numbers.specs.declared.answer.Natural.the-variants.{In, Out}
+use Rattle.text_numbers.proofs.NumberLaws.{natural-said, natural-denied}
 use Rattle.read_form.specs.Form.{fieldIn}
 use Rattle.read_edge.specs.declared.Ends.{Ends}
 use Rattle.read_edge.specs.declared.Ends.the-variants.{Are, Unsound}

@@ -2,7 +2,7 @@
 use line_order::Counts;
 use model::Model;
 use read_form::field;
-use text_bytes::Natural;
+use text_numbers::Natural;
 ghost use mathlib.Core.Path.{_≡_};
 ghost use Rattle.read_edge.specs.Edge.{endsIn, astray};
 
@@ -16,13 +16,15 @@ pub enum Ends {
 pub fn read_ends(value: &[u8]) -> Ends
     ensures { λ r. ⌜ r ≡ endsIn (now (value .entry)) ⌝ }
 {
-    let Natural::In(from) = text_bytes::natural(field(value, 0), Model::LAST_LOCATION as u32) else {
+    let Natural::In(from) = text_numbers::natural(field(value, 0), Model::LAST_LOCATION as u32)
+    else {
         return Ends::Unsound;
     };
-    let Natural::In(action) = text_bytes::natural(field(value, 1), Model::LAST_ACTION as u32) else {
+    let Natural::In(action) = text_numbers::natural(field(value, 1), Model::LAST_ACTION as u32)
+    else {
         return Ends::Unsound;
     };
-    let Natural::In(to) = text_bytes::natural(field(value, 2), Model::LAST_LOCATION as u32) else {
+    let Natural::In(to) = text_numbers::natural(field(value, 2), Model::LAST_LOCATION as u32) else {
         return Ends::Unsound;
     };
     Ends::Are(from, action, to)

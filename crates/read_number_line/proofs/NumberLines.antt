@@ -22,9 +22,9 @@ use Rattle.format.specs.Number.{number, within, naturalOf, integerOf}
 use Rattle.format.specs.Rows.{Line, place, is, valueOf, fields, fieldCount, field, hasPred, numbersSound, theRange, row2, row3, row4, row5, row6, row7, row8, row9, row10, row11, row12, row13, row14, row15, row16, fault}
 use Rattle.format.specs.Spelling.{spelling}
 use Rattle.format.proofs.LineLaws.{Formed, formed}
-use Rattle.text_bytes.specs.declared.answer.Integer.the-variants as I
+use Rattle.text_numbers.specs.declared.answer.Integer.the-variants as I
 use Rattle.text_bytes.specs.Find.{gap, countOf, firstFrom}
-use Rattle.text_bytes.specs.Number.{integerIn}
+use Rattle.text_numbers.specs.Number.{integerIn}
 use Rattle.text_bytes.proofs.FindLaws.{parts-step, parts-last, parts-count, first-is}
 use Rattle.read_form.specs.declared.LineRead.{LineRead}
 use Rattle.read_form.specs.declared.LineRead.the-variants.{Sound, Fault}

@@ -19,9 +19,9 @@ use Rattle.format.specs.Number.{within, integerOf}
 use Rattle.format.specs.Rows.{Line, place, is, valueOf, fields, fieldCount, field, numbersSound, theRange, row2, row3, fault}
 use Rattle.format.specs.Spelling.{spelling}
 use Rattle.format.proofs.LineLaws.{Formed, formed}
-use Rattle.text_bytes.specs.declared.answer.Integer.{Integer}
-use Rattle.text_bytes.specs.declared.answer.Integer.the-variants as I
-use Rattle.text_bytes.specs.Number.{integerIn}
+use Rattle.text_numbers.specs.declared.answer.Integer.{Integer}
+use Rattle.text_numbers.specs.declared.answer.Integer.the-variants as I
+use Rattle.text_numbers.specs.Number.{integerIn}
 use Rattle.read_form.specs.declared.LineRead.{LineRead}
 use Rattle.read_form.specs.declared.LineRead.the-variants.{Sound, Fault}
 use Rattle.read_numbers.specs.declared.range.Bounds.{Bounds}

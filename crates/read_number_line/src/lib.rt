@@ -1,5 +1,5 @@
-// The lines that have one number, and the line of a variable's range: the row that one breaks, or its words put into the
-// table that is being read.
+// The lines that have one number, and the line of a variable's range: the row that one breaks, or its words put into
+// the table that is being read.
 mod number;
 
 pub use number::actions;

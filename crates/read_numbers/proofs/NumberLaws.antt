@@ -13,10 +13,10 @@ use Rattle.model.specs.Bounds.{maxEdges}
 use Rattle.model.proofs.Tests.{and-right}
 use Rattle.format.specs.Bytes.{Bytes}
 use Rattle.format.specs.Number.{natural, unsigned, negative, number, isBetween, within, naturalOf}
-use Rattle.text_bytes.specs.declared.answer.Natural.{Natural}
-use Rattle.text_bytes.specs.declared.answer.Natural.the-variants as N
-use Rattle.text_bytes.specs.Number.{naturalIn}
-use Rattle.text_bytes.proofs.NumberLaws.{natural-said, natural-denied}
+use Rattle.text_numbers.specs.declared.answer.Natural.{Natural}
+use Rattle.text_numbers.specs.declared.answer.Natural.the-variants as N
+use Rattle.text_numbers.specs.Number.{naturalIn}
+use Rattle.text_numbers.proofs.NumberLaws.{natural-said, natural-denied}
 use Rattle.read_form.specs.Form.{valueAfter, misformed}
 use Rattle.read_numbers.specs.declared.number.Count.{Count}
 use Rattle.read_numbers.specs.declared.number.Count.the-variants.{Is, Unsound}

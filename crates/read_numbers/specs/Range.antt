@@ -4,9 +4,9 @@ use lib.IntN.{ℤ}
 use lib.Signed.{leZ}
 use Rattle.model.specs.Bounds.{leastNumber, greatestNumber}
 use Rattle.format.specs.Bytes.{Bytes}
-use Rattle.text_bytes.specs.Number.{integerIn}
-use Rattle.text_bytes.specs.declared.answer.Integer.{Integer}
-use Rattle.text_bytes.specs.declared.answer.Integer.the-variants as I
+use Rattle.text_numbers.specs.Number.{integerIn}
+use Rattle.text_numbers.specs.declared.answer.Integer.{Integer}
+use Rattle.text_numbers.specs.declared.answer.Integer.the-variants as I
 use Rattle.read_form.specs.Form.{valueAfter, fieldIn, misformed}
 use Rattle.read_numbers.specs.declared.range.Bounds.{Bounds}
 use Rattle.read_numbers.specs.declared.range.Bounds.the-variants as Bounds

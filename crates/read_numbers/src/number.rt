@@ -1,6 +1,6 @@
 // A line with one number: rows 2 and 3, and row 15 of the number of edges.
 use model::Model;
-use text_bytes::Natural;
+use text_numbers::Natural;
 ghost use mathlib.Core.Path.{_≡_};
 ghost use Prim.Native.Nat.{_+_};
 ghost use lib.Dec.{ltb};
@@ -20,7 +20,7 @@ pub fn one_number(line: &[u8], ended: bool, name: &[u8], low: u32, high: u32) ->
     if read_form::misformed(line, ended, name, 1) {
         return Count::Unsound(2);
     }
-    let n = text_bytes::natural(read_form::value(line, name), high);
+    let n = text_numbers::natural(read_form::value(line, name), high);
     match n {
         Natural::In(k) => {
             if k < low {

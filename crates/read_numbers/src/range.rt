@@ -1,9 +1,9 @@
 // A variable's line with the two ends of its range: rows 2, 3 and 4.
 use read_form::field;
-use text_bytes::Integer;
+use text_numbers::Integer;
 ghost use mathlib.Core.Path.{_≡_};
 ghost use Rattle.model.specs.Bounds.{leastNumber, greatestNumber};
-ghost use Rattle.text_bytes.specs.Number.{integerIn};
+ghost use Rattle.text_numbers.specs.Number.{integerIn};
 ghost use Rattle.read_numbers.specs.Range.{orderedFrom, boundsOf, boundsIn};
 
 // A range's ends, or the smallest row that the line breaks.
@@ -16,7 +16,7 @@ pub enum Bounds {
 fn end_of(part: &[u8]) -> Integer
     ensures { λ r. ⌜ r ≡ integerIn (now (part .entry)) leastNumber greatestNumber ⌝ }
 {
-    text_bytes::integer(part, -32768, 32767)
+    text_numbers::integer(part, -32768, 32767)
 }
 
 // Row 4: the ends are in order.

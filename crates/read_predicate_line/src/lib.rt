@@ -1,5 +1,5 @@
-// The lines that have a predicate, `init=P`, `inv=P` and `edge=FROM,ACT,TO,P`: the row that one breaks, or its words put
-// into the table that is being read.
+// The lines that have a predicate, `init=P`, `inv=P` and `edge=FROM,ACT,TO,P`: the row that one breaks, or its words
+// put into the table that is being read.
 mod edges;
 mod predicates;
 

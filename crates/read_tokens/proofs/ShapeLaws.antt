@@ -10,12 +10,12 @@ use lib.Dec.{eqb}
 use Rattle.format.specs.Bytes.{Bytes, minus}
 use Rattle.format.specs.Number.{digit, within}
 use Rattle.format.specs.Tokens.{Numeral, unjudged, bare, lettered, numeral}
-use Rattle.text_bytes.specs.Number.{integerIn, naturalIn}
-use Rattle.text_bytes.specs.declared.answer.Integer.{Integer}
-use Rattle.text_bytes.specs.declared.answer.Integer.the-variants as I
-use Rattle.text_bytes.specs.declared.answer.Natural.{Natural}
-use Rattle.text_bytes.specs.declared.answer.Natural.the-variants as N
-use Rattle.text_bytes.proofs.NumberLaws.{integer-said, integer-denied, natural-said, natural-denied}
+use Rattle.text_numbers.specs.Number.{integerIn, naturalIn}
+use Rattle.text_numbers.specs.declared.answer.Integer.{Integer}
+use Rattle.text_numbers.specs.declared.answer.Integer.the-variants as I
+use Rattle.text_numbers.specs.declared.answer.Natural.{Natural}
+use Rattle.text_numbers.specs.declared.answer.Natural.the-variants as N
+use Rattle.text_numbers.proofs.NumberLaws.{integer-said, integer-denied, natural-said, natural-denied}
 use Rattle.read_tokens.specs.Shape.{letter, shaped, shapeOf}
 use Rattle.read_tokens.specs.declared.tokens.Shape.{Shape}
 use Rattle.read_tokens.specs.declared.tokens.Shape.the-variants.{Bare, Lettered, Plain}

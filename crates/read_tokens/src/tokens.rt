@@ -41,10 +41,10 @@ pub fn numeral(token: &[u8]) -> Shape
 pub fn number_fits(s: &[u8]) -> bool
     ensures { λ r. ⌜ r ≡ N.within leastNumber greatestNumber (now (s .entry)) ⌝ }
 {
-    let m = text_bytes::integer(s, -32768, 32767);
+    let m = text_numbers::integer(s, -32768, 32767);
     match m {
-        text_bytes::Integer::In(_) => true,
-        text_bytes::Integer::Out => false,
+        text_numbers::Integer::In(_) => true,
+        text_numbers::Integer::Out => false,
     }
 }
 
@@ -52,9 +52,9 @@ pub fn number_fits(s: &[u8]) -> bool
 pub fn natural_fits(s: &[u8], high: u32) -> bool
     ensures { λ r. ⌜ r ≡ N.within (pos 0) (pos high) (now (s .entry)) ⌝ }
 {
-    let m = text_bytes::natural(s, high);
+    let m = text_numbers::natural(s, high);
     match m {
-        text_bytes::Natural::In(_) => true,
-        text_bytes::Natural::Out => false,
+        text_numbers::Natural::In(_) => true,
+        text_numbers::Natural::Out => false,
     }
 }

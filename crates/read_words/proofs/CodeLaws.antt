@@ -22,12 +22,13 @@ use Rattle.format.specs.Bytes.{Bytes, 'n, 'v}
 use Rattle.format.specs.Number.{within, isBetween, natural}
 use Rattle.format.specs.Tokens.{numeral, find, spellings}
 use Rattle.format.proofs.NumberLaws.{false-true}
-use Rattle.text_bytes.specs.Number.{integerIn, naturalIn, upTo}
-use Rattle.text_bytes.specs.declared.answer.Integer.{Integer}
-use Rattle.text_bytes.specs.declared.answer.Integer.the-variants as I
-use Rattle.text_bytes.specs.declared.answer.Natural.{Natural}
-use Rattle.text_bytes.specs.declared.answer.Natural.the-variants as N
-use Rattle.text_bytes.proofs.NumberLaws.{natural-in, integer-said, integer-denied, natural-said, natural-denied, widened}
+use Rattle.arithmetic.proofs.Signed.{widened}
+use Rattle.text_numbers.specs.Number.{integerIn, naturalIn, upTo}
+use Rattle.text_numbers.specs.declared.answer.Integer.{Integer}
+use Rattle.text_numbers.specs.declared.answer.Integer.the-variants as I
+use Rattle.text_numbers.specs.declared.answer.Natural.{Natural}
+use Rattle.text_numbers.specs.declared.answer.Natural.the-variants as N
+use Rattle.text_numbers.proofs.NumberLaws.{natural-in, integer-said, integer-denied, natural-said, natural-denied}
 use Rattle.text_bytes.proofs.Places.{take-rest}
 use Rattle.node_words.specs.declared.Node.{Node}
 use Rattle.node_words.specs.declared.Node.the-variants.{All, Any, Number, Old, New, Stray}

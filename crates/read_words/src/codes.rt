@@ -84,10 +84,10 @@ pub fn biased(z: i32) -> u32
 fn number_code(s: &[u8]) -> u32
     ensures { λ r. ⌜ r ≡ numberCode (now (s .entry)) ⌝ }
 {
-    let m = text_bytes::integer(s, -32768, 32767);
+    let m = text_numbers::integer(s, -32768, 32767);
     match m {
-        text_bytes::Integer::In(z) => node_words::word_of(Node::Number(biased(z))),
-        text_bytes::Integer::Out => stray_code(),
+        text_numbers::Integer::In(z) => node_words::word_of(Node::Number(biased(z))),
+        text_numbers::Integer::Out => stray_code(),
     }
 }
 
@@ -107,10 +107,10 @@ fn argument_code(which: Numbered, high: u32, s: &[u8]) -> u32
     requires { ⌜ high ≤ 512 ⌝ }
     ensures { λ r. ⌜ r ≡ argumentCode which high (now (s .entry)) ⌝ }
 {
-    let m = text_bytes::natural(s, high);
+    let m = text_numbers::natural(s, high);
     match m {
-        text_bytes::Natural::In(k) => node_words::word_of(node_with(which, k)),
-        text_bytes::Natural::Out => stray_code(),
+        text_numbers::Natural::In(k) => node_words::word_of(node_with(which, k)),
+        text_numbers::Natural::Out => stray_code(),
     }
 }
 

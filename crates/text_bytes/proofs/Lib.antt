@@ -1,5 +1,4 @@
 pub mod Places
-pub mod NumberLaws
 pub mod FindLaws
 pub mod Parting
 pub mod BytesLaws

@@ -1,6 +1,6 @@
 use mir.Syntax.{w32}
 use mir.ValLaws.{toZ-ofZ}
-use Rattle.text_bytes.proofs.NumberLaws.{wider}
+use Rattle.arithmetic.proofs.Signed.{wider}
 use Rattle.read_words.proofs.CodeLaws.{biased-least, moved-fits, moved-cast, moved-is}
 use Rattle.read_words.proofs.codes.biased.Statement.{statement}
 use Rattle.read_words.proofs.codes.biased.Tie as tie

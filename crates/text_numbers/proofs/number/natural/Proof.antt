@@ -1,7 +1,7 @@
-use Rattle.text_bytes.proofs.NumberLaws.{natural-laws}
+use Rattle.text_numbers.proofs.NumberLaws.{natural-laws}
 use borrow.Author.Needs.{needs}
-use Rattle.text_bytes.proofs.number.natural.Statement.{statement}
-use Rattle.text_bytes.proofs.number.natural.Tie as tie
+use Rattle.text_numbers.proofs.number.natural.Statement.{statement}
+use Rattle.text_numbers.proofs.number.natural.Tie as tie
 
 returns : tie.Need-returns
 returns c = search (needs, natural-laws)

@@ -7,10 +7,10 @@ use lib.IntN.{ℤ, pos, negsuc}
 use lib.Dec.{leb}
 use Rattle.model.specs.Basic.{between}
 use Rattle.format.specs.Number.{within, naturalOf, integerOf}
-use Rattle.text_bytes.specs.declared.answer.Natural.{Natural}
-use Rattle.text_bytes.specs.declared.answer.Natural.the-variants as N
-use Rattle.text_bytes.specs.declared.answer.Integer.{Integer}
-use Rattle.text_bytes.specs.declared.answer.Integer.the-variants as I
+use Rattle.text_numbers.specs.declared.answer.Natural.{Natural}
+use Rattle.text_numbers.specs.declared.answer.Natural.the-variants as N
+use Rattle.text_numbers.specs.declared.answer.Integer.{Integer}
+use Rattle.text_numbers.specs.declared.answer.Integer.the-variants as I
 
 -- what `natural` and `integer` answer
 unfoldable pub naturalIn : List ℕ → ℕ → Natural

@@ -4,9 +4,10 @@ use lib.Signed.{ltZ}
 use mir.Syntax.{w32, w64}
 use mir.Val.{SFits}
 use mir.ValLaws.{toZ-ofZ}
-use Rattle.text_bytes.proofs.NumberLaws.{wider, widened, keep-low, keep-high, keep-in, keep-fits}
-use Rattle.text_bytes.proofs.number.keep.Statement.{statement}
-use Rattle.text_bytes.proofs.number.keep.Tie as tie
+use Rattle.arithmetic.proofs.Signed.{wider, widened}
+use Rattle.text_numbers.proofs.NumberLaws.{keep-low, keep-high, keep-in, keep-fits}
+use Rattle.text_numbers.proofs.number.keep.Statement.{statement}
+use Rattle.text_numbers.proofs.number.keep.Tie as tie
 
 cast-if1 : tie.Need-cast-if1
 cast-if1 c = rw (toZ-ofZ w32 _ (c .fits .low)) (wider (c .fits .low))

@@ -1,7 +1,7 @@
-use Rattle.text_bytes.proofs.NumberLaws.{integer-laws}
+use Rattle.text_numbers.proofs.NumberLaws.{integer-laws}
 use borrow.Author.Needs.{needs}
-use Rattle.text_bytes.proofs.number.integer.Statement.{statement}
-use Rattle.text_bytes.proofs.number.integer.Tie as tie
+use Rattle.text_numbers.proofs.number.integer.Statement.{statement}
+use Rattle.text_numbers.proofs.number.integer.Tie as tie
 
 returns : tie.Need-returns
 returns c = search (needs, integer-laws)

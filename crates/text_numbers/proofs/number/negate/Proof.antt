@@ -3,9 +3,9 @@ use borrow.Author.Needs.{needs}
 use native.Mathlib.Omega.{arith}
 use mir.Syntax.{w32, w64}
 use mir.ValLaws.{toZ-ofZ, toZ-pos}
-use Rattle.text_bytes.proofs.NumberLaws.{half, minus-fits, zero-minus, negate-zero, negate-more}
-use Rattle.text_bytes.proofs.number.negate.Statement.{statement}
-use Rattle.text_bytes.proofs.number.negate.Tie as tie
+use Rattle.text_numbers.proofs.NumberLaws.{half, minus-fits, zero-minus, negate-zero, negate-more}
+use Rattle.text_numbers.proofs.number.negate.Statement.{statement}
+use Rattle.text_numbers.proofs.number.negate.Tie as tie
 
 cast-keep : tie.Need-cast-keep
 cast-keep c = search needs

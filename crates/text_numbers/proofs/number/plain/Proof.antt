@@ -1,9 +1,9 @@
 use borrow.Author.Needs.{needs}
 use mir.Syntax.{w32, w64}
 use mir.ValLaws.{toZ-ofZ, toZ-pos}
-use Rattle.text_bytes.proofs.NumberLaws.{half}
-use Rattle.text_bytes.proofs.number.plain.Statement.{statement}
-use Rattle.text_bytes.proofs.number.plain.Tie as tie
+use Rattle.text_numbers.proofs.NumberLaws.{half}
+use Rattle.text_numbers.proofs.number.plain.Statement.{statement}
+use Rattle.text_numbers.proofs.number.plain.Tie as tie
 
 cast-keep : tie.Need-cast-keep
 cast-keep c = search needs

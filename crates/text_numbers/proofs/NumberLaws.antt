@@ -15,30 +15,25 @@ use lib.Signed.{ltZ, leZ}
 use mir.Syntax.{w32, w64}
 use mir.Val.{SFits, Fits, toZ, ofZ}
 use mir.ValLaws.{toZ-ofZ, toZ-pos}
-use mir.Facts.{sfits-widen}
 use Rattle.model.specs.Basic.{between, orElse}
 use Rattle.model.proofs.Tests.{and-left, and-right, and-intro}
 use Rattle.format.specs.Number.{digit, digits, natural, number, negative, unsigned, within, isBetween, naturalOf, integerOf}
 use Rattle.format.proofs.NumberLaws.{is-digit, false-true}
 use Rattle.text_bytes.proofs.Places.{at-place, take-rest}
-use Rattle.text_bytes.specs.Number.{naturalIn, integerIn, upTo, kept, negated}
-use Rattle.text_bytes.specs.declared.answer.Natural.{Natural}
-use Rattle.text_bytes.specs.declared.answer.Natural.the-variants as N
-use Rattle.text_bytes.specs.declared.answer.Integer.{Integer}
-use Rattle.text_bytes.specs.declared.answer.Integer.the-variants as I
+use Rattle.text_numbers.specs.Number.{naturalIn, integerIn, upTo, kept, negated}
+use Rattle.text_numbers.specs.declared.answer.Natural.{Natural}
+use Rattle.text_numbers.specs.declared.answer.Natural.the-variants as N
+use Rattle.text_numbers.specs.declared.answer.Integer.{Integer}
+use Rattle.text_numbers.specs.declared.answer.Integer.the-variants as I
 
 -- one digit
 no-digit-low : (b : ℕ) → b < 48 → digit b ≡ false
 unfolding digit
 no-digit-low b h = rw (lt-leb 48 b h)
 
-no-digit-high : (b : ℕ) → 57 < b → digit b ≡ false
-unfolding digit
-no-digit-high b h = rw (le-leb 48 b (omega arith), lt-leb b 57 h)
-
-digits-yes : (n b : ℕ) (t : List ℕ) → 48 ≤ b → b ≤ 57 → digits n (b ∷ t) ≡ digits (n * 10 + (b - 48)) t
+digits-yes : (n b : ℕ) (t : List ℕ) → digit b ≡ true → digits n (b ∷ t) ≡ digits (n * 10 + (b - 48)) t
 unfolding digits
-digits-yes n b t h l = rw (is-digit b h l, digits)
+digits-yes n b t h = rw (h, digits)
 
 digits-no : (n b : ℕ) (t : List ℕ) → digit b ≡ false → digits n (b ∷ t) ≡ none
 unfolding digits
@@ -63,24 +58,16 @@ unfolding upTo
 up-to n high h = rw (le-leb n high h, upTo)
 
 -- each way out of a turn of `digits`
-module _ (s : List ℕ) (i n b high : ℕ) (inv : upTo high (digits 0 s) ≡ upTo high (digits n (drop i s))) (h : i < length s) (e : b ≡ getD s i 0) where
-  here : drop i s ≡ b ∷ drop (i + 1) s
-  here = rw e (at-place s i h)
+module _ (s : List ℕ) (i n high : ℕ) (inv : upTo high (digits 0 s) ≡ upTo high (digits n (drop i s))) (h : i < length s) (p : Bool) (e : p ≡ digit (getD s i 0)) where
+  pub digits-out : p ≡ false → N.Out ≡ upTo high (digits 0 s)
+  digits-out k = sym (inv ∙ rw (at-place s i h, digits-no n (getD s i 0) (drop (i + 1) s) (sym e ∙ k)) (up-none high))
 
-  none-here : digit b ≡ false → N.Out ≡ upTo high (digits 0 s)
-  none-here d = sym (inv ∙ rw (here, digits-no n b (drop (i + 1) s) d) (up-none high))
+  module _ (k : p ≡ true) (d : ℕ) (w : d ≡ getD s i 0 - 48) where
+    pub digits-go : upTo high (digits 0 s) ≡ upTo high (digits (n * 10 + d) (drop (i + 1) s))
+    digits-go = inv ∙ rw (at-place s i h, digits-yes n (getD s i 0) (drop (i + 1) s) (sym e ∙ k), w)
 
-  pub digits-low : b < 48 → N.Out ≡ upTo high (digits 0 s)
-  digits-low t = none-here (no-digit-low b t)
-
-  pub digits-high : 57 < b → N.Out ≡ upTo high (digits 0 s)
-  digits-high t = none-here (no-digit-high b t)
-
-  pub digits-go : 48 ≤ b → b ≤ 57 → upTo high (digits 0 s) ≡ upTo high (digits (n * 10 + (b - 48)) (drop (i + 1) s))
-  digits-go t u = inv ∙ rw (here, digits-yes n b (drop (i + 1) s) t u)
-
-  pub digits-over : 48 ≤ b → b ≤ 57 → high < n * 10 + (b - 48) → N.Out ≡ upTo high (digits 0 s)
-  digits-over t u v = sym (digits-go t u ∙ over (drop (i + 1) s) (n * 10 + (b - 48)) high v)
+    pub digits-over : high < n * 10 + d → N.Out ≡ upTo high (digits 0 s)
+    digits-over v = sym (digits-go ∙ over (drop (i + 1) s) (n * 10 + d) high v)
 
 pub digits-all : (s : List ℕ) (i n high : ℕ) → upTo high (digits 0 s) ≡ upTo high (digits n (drop i s)) → i ≤ length s → length s ≤ i → n ≤ high → N.In n ≡ upTo high (digits 0 s)
 unfolding digits
@@ -88,7 +75,7 @@ digits-all s i n high inv h t l =
     let e : i ≡ length s = omega arith in
     sym (inv ∙ rw (e, drop-length s) (up-to n high l))
 
-pub ruleset digits-laws = (digits-low, digits-high, digits-over, digits-go, digits-all)
+pub ruleset digits-laws = (digits-out, digits-over, digits-go, digits-all)
 
 -- `natural`: within 0 and high is at most high
 by-number : (o : Option ℕ) (high : ℕ) → elim (isBetween (pos 0) (pos high) (unsigned o)) [ true ↦ N.In (orElse 0 o) | false ↦ N.Out ] ≡ upTo high o
@@ -138,7 +125,7 @@ natural-zeros (b ∷ c ∷ t) h l = rw (eq-eqb b 48 h, natural)
 natural-one : (s : List ℕ) → getD s 0 0 ≡ 48 → length s ≤ 1 → natural s ≡ some 0
 unfolding natural digits
 natural-one [] h l = absurd (omega arith)
-natural-one (b ∷ []) h l = rw h (digits-yes 0 48 [] (omega arith) (omega arith))
+natural-one (b ∷ []) h l = rw h (digits-yes 0 48 [] (is-digit 48 (omega arith) (omega arith)))
 natural-one (b ∷ c ∷ t) h l = absurd (omega arith)
 
 module _ (s : List ℕ) (high : ℕ) where
@@ -173,13 +160,6 @@ not-lt-le (pos a) (pos b) h = le-leb a b (ltb-false b a h)
 not-lt-le (pos a) (negsuc b) h = sym h
 not-lt-le (negsuc a) (pos b) h = refl
 not-lt-le (negsuc a) (negsuc b) h = le-leb b a (ltb-false a b h)
-
-pub wider : {z : ℤ} → SFits w32 z → SFits w64 z
-wider h = sfits-widen tt h
-
--- an i32 that went to an i64 by its bits is the same number
-pub widened : (z : ℤ) → SFits w32 z → toZ w64 (ofZ w64 (toZ w32 (ofZ w32 z))) ≡ z
-widened z f = rw (toZ-ofZ w32 z f) (toZ-ofZ w64 z (wider f))
 
 -- what lies between two i32 is one
 between-fits : (low high z : ℤ) → SFits w32 low → SFits w32 high → leZ low z ≡ true → leZ z high ≡ true → SFits w32 z

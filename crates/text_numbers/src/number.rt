@@ -1,15 +1,21 @@
 // Numbers: one spelling each, and in a range.
 use crate::answer::Integer;
 use crate::answer::Natural;
+use text_bytes::digit;
 ghost use mathlib.Core.Path.{_≡_};
+ghost use Prim.Native.Nat.{_-_, _≤_};
 ghost use lib.IntN.{pos};
 ghost use Rattle.format.specs.Number as N;
-ghost use Rattle.text_bytes.specs.Number.{upTo, kept, negated, naturalIn, integerIn};
+ghost use Rattle.text_numbers.specs.Number.{upTo, kept, negated, naturalIn, integerIn};
 
-pub fn wide(x: u8) -> u64
-    ensures { λ r. ⌜ r ≡ x ⌝ }
+// What a digit is worth.
+fn worth(b: u8) -> u64
+    ensures { λ r. ⌜ (r ≡ b - 48) × (r ≤ 255) ⌝ }
 {
-    x as u64
+    if b < b'0' {
+        return 0;
+    }
+    (b - b'0') as u64
 }
 
 // The number that the digits of `s` make, if it is at most `high`.
@@ -20,14 +26,11 @@ fn digits(s: &[u8], high: u32) -> Natural
     let mut acc: u64 = 0;
     let mut i = 0;
     while i < s.len() {
-        let b = wide(s[i]);
-        if b < 48 {
+        let b = s[i];
+        if !digit(b) {
             return Natural::Out;
         }
-        if 57 < b {
-            return Natural::Out;
-        }
-        let next = acc * 10 + (b - 48);
+        let next = acc * 10 + worth(b);
         if cap < next {
             return Natural::Out;
         }
