@@ -20,17 +20,16 @@ use Rattle.read_composition.specs.declared.compose.Composition.{Composit
 use Rattle.read_composition.specs.declared.compose.Walk.{Walk}
 use Rattle.model.proofs.Tests.{or-none-left}
 use Rattle.format.proofs.ReadLaws.{number-of}
-use Rattle.text_bytes.specs.declared.answer.Natural.{Natural}
-use Rattle.text_bytes.specs.declared.answer.Natural.the-variants as N
+use Rattle.text_numbers.specs.declared.answer.Natural.{Natural}
+use Rattle.text_numbers.specs.declared.answer.Natural.the-variants as N
 use Rattle.text_bytes.specs.Find.{firstFrom}
-use Rattle.text_bytes.specs.Number.{naturalIn}
+use Rattle.text_numbers.specs.Number.{naturalIn}
 use Rattle.text_bytes.proofs.FindLaws.{find-after}
-use Rattle.text_bytes.proofs.NumberLaws.{natural-said}
+use Rattle.text_numbers.proofs.NumberLaws.{natural-said}
 use Rattle.model.specs.Basic.{same}
 use Rattle.format.specs.Bytes.{bytes}
-use Rattle.read_composition.specs.Parts.{partsFrom}
 use Rattle.read_composition.specs.Token.{startsNumber, leafOf, leafKind, wordKind, setKind, kindOf, isSyn, isStray, kindsOf}
-use Rattle.read_composition.proofs.PartsLaws.{from-past, from-start, from-next}
+use Rattle.text_bytes.proofs.Parting.{partsFrom, from-past, from-start, from-step}
 use Rattle.read_composition.specs.Read.{kindWords, IsSmall, placed, nextAfter, putAfter, stepped, atFirst, illFormed, ending, Outcome, walk, outcome, compositionOf, memoryOf}
 
 -- `put`
@@ -252,7 +251,7 @@ module _ (s : Bytes) (N : ℕ) (first : List ℕ) where
       here : outcome N s first ≡ walk N w out (k ∷ kindsOf (isSyn k) (partsFrom space s (r + 1)))
       unfolding kindsOf
       here =
-          inv ∙ ap (λ ts. walk N w out (kindsOf due ts)) (from-next space s at r h e l) ∙
+          inv ∙ ap (λ ts. walk N w out (kindsOf due ts)) (from-step space s at r h e) ∙
           ap (λ x. walk N w out (x ∷ kindsOf (isSyn x) (partsFrom space s (r + 1)))) (sym q)
 
       module _ (g : (eqb (w .owed) 0 || p) ≡ true) where

@@ -1,4 +1,3 @@
-pub mod PartsLaws
 pub mod ListLaws
 pub mod TokenLaws
 pub mod ListsLaws

@@ -16,15 +16,14 @@ use Rattle.format.specs.Bytes.{Bytes, parts, comma}
 use Rattle.format.specs.Number.{within, naturalOf}
 use Rattle.format.specs.Rows.{listItems}
 use Rattle.text_bytes.specs.Find.{firstFrom}
-use Rattle.text_bytes.specs.Number.{naturalIn}
-use Rattle.text_bytes.specs.declared.answer.Natural.{Natural}
-use Rattle.text_bytes.specs.declared.answer.Natural.the-variants as N
-use Rattle.text_bytes.proofs.NumberLaws.{natural-said, natural-denied}
-use Rattle.read_composition.specs.Parts.{partsFrom}
+use Rattle.text_numbers.specs.Number.{naturalIn}
+use Rattle.text_numbers.specs.declared.answer.Natural.{Natural}
+use Rattle.text_numbers.specs.declared.answer.Natural.the-variants as N
+use Rattle.text_numbers.proofs.NumberLaws.{natural-said, natural-denied}
 use Rattle.read_composition.specs.List.{withLow, withHigh, withItem, noNumbers, unsound, listFrom, listOf}
 use Rattle.read_composition.specs.declared.list.Listed.{Listed}
 use Rattle.read_composition.specs.declared.list.Numbers.{Numbers}
-use Rattle.read_composition.proofs.PartsLaws.{from-past, from-start, from-next}
+use Rattle.text_bytes.proofs.Parting.{partsFrom, from-past, from-start, from-step}
 
 -- `with_low` and `with_high`
 module _ (word k : ℕ) where
@@ -77,12 +76,12 @@ module _ (s : Bytes) (A : ℕ) where
     module _ (r : ℕ) (n : Natural) (h : at ≤ length s) (e : r ≡ firstFrom s at 44) (l : r ≤ length s)
         (q : n ≡ naturalIn (take (r - at) (drop at s)) 63) where
       pub list-no : n ≡ N.Out → unsound ≡ listOf A (parts comma s)
-      list-no z = sym (inv ∙ ap (listFrom A x) (from-next comma s at r h e l) ∙ next-no A x _ _ (natural-denied _ 63 (sym q ∙ z)))
+      list-no z = sym (inv ∙ ap (listFrom A x) (from-step comma s at r h e) ∙ next-no A x _ _ (natural-denied _ 63 (sym q ∙ z)))
 
       pub list-go : (k : ℕ) (y : Numbers) → n ≡ N.In k → y ≡ withItem A x k → listOf A (parts comma s) ≡ listFrom A y (partsFrom comma s (r + 1))
       list-go k y z w =
           let said = natural-said _ 63 k (sym q ∙ z) in
-          inv ∙ ap (listFrom A x) (from-next comma s at r h e l) ∙ next-yes A x _ _ (said .0) ∙
+          inv ∙ ap (listFrom A x) (from-step comma s at r h e) ∙ next-yes A x _ _ (said .0) ∙
           ap (λ i. listFrom A (withItem A x i) (partsFrom comma s (r + 1))) (said .1) ∙
           ap (λ u. listFrom A u (partsFrom comma s (r + 1))) (sym w)
 

@@ -9,12 +9,11 @@ use Rattle.model.specs.Basic.{same}
 use Rattle.format.specs.Bytes.{Bytes, bytes, parts, comma, space}
 use Rattle.format.specs.Tokens.{tokens}
 use Rattle.text_bytes.specs.Find.{firstFrom}
-use Rattle.read_composition.specs.Parts.{partsFrom}
 use Rattle.read_composition.specs.declared.list.Listed.{Listed}
 use Rattle.read_composition.specs.List.{listOf}
 use Rattle.read_composition.specs.Token.{startsNumber}
 use Rattle.read_composition.specs.Lists.{listKept, listsKept}
-use Rattle.read_composition.proofs.PartsLaws.{from-past, from-start, from-next}
+use Rattle.text_bytes.proofs.Parting.{partsFrom, from-past, from-start, from-step}
 
 -- `list_kept`
 module _ (A : ℕ) (due : Bool) (t : Bytes) (p : Bool) (e : p ≡ startsNumber t) where
@@ -51,12 +50,12 @@ module _ (s : Bytes) (A : ℕ) where
     module _ (r : ℕ) (p : Bool) (h : at ≤ length s) (e : r ≡ firstFrom s at 32) (l : r ≤ length s)
         (q : p ≡ listKept A due (take (r - at) (drop at s))) where
       pub lists-no : p ≡ false → false ≡ listsKept A false (tokens s)
-      lists-no z = sym (inv ∙ ap (listsKept A due) (from-next space s at r h e l) ∙ next-no A due _ _ (sym q ∙ z))
+      lists-no z = sym (inv ∙ ap (listsKept A due) (from-step space s at r h e) ∙ next-no A due _ _ (sym q ∙ z))
 
       pub lists-go : (d : Bool) → p ≡ true → d ≡ same (take (r - at) (drop at s)) (bytes "syn")
           → listsKept A false (tokens s) ≡ listsKept A d (partsFrom space s (r + 1))
       lists-go d z w =
-          inv ∙ ap (listsKept A due) (from-next space s at r h e l) ∙ next-yes A due _ _ (sym q ∙ z) ∙
+          inv ∙ ap (listsKept A due) (from-step space s at r h e) ∙ next-yes A due _ _ (sym q ∙ z) ∙
           ap (λ x. listsKept A x (partsFrom space s (r + 1))) (sym w)
 
 pub ruleset lists-laws = (lists-start, lists-end, lists-no, lists-go, not-true, not-false)

@@ -8,11 +8,11 @@ use borrow.Author.Tests.{eq-eqb, ne-eqb, not-true, not-false}
 use lib.ListN.{length, getD, take, drop}
 use lib.Dec.{eqb, leb}
 use Rattle.model.specs.Basic.{same}
-use Rattle.format.specs.Bytes.{Bytes, bytes, parts, comma}
+use Rattle.format.specs.Bytes.{Bytes, bytes, parts, comma, minus}
 use Rattle.format.specs.Number.{digit}
-use Rattle.text_bytes.specs.Number.{naturalIn}
-use Rattle.text_bytes.specs.declared.answer.Natural.{Natural}
-use Rattle.text_bytes.specs.declared.answer.Natural.the-variants as N
+use Rattle.text_numbers.specs.Number.{naturalIn}
+use Rattle.text_numbers.specs.declared.answer.Natural.{Natural}
+use Rattle.text_numbers.specs.declared.answer.Natural.the-variants as N
 use Rattle.text_bytes.proofs.Places.{take-rest}
 use Rattle.read_composition.specs.declared.list.Listed.{Listed}
 use Rattle.read_composition.specs.declared.token.Kind.{Kind}
@@ -26,10 +26,10 @@ unfolding startsNumber
 starts-none [] h = refl
 starts-none (b ∷ t) h = absurd (omega arith)
 
-pub starts-first : (t : Bytes) → (length t ≡ 0 → ⊥) → ((leb 48 (getD t 0 0) && leb (getD t 0 0) 57) || eqb (getD t 0 0) 45) ≡ startsNumber t
-unfolding startsNumber digit
-starts-first [] h = absurd (h refl)
-starts-first (b ∷ t) h = refl
+pub starts-first : (t : Bytes) (r : Bool) → (length t ≡ 0 → ⊥) → r ≡ (digit (getD t 0 0) || eqb (getD t 0 0) minus) → r ≡ startsNumber t
+unfolding startsNumber
+starts-first [] r h e = absurd (h refl)
+starts-first (b ∷ t) r h e = e
 
 pub ruleset starts-laws = (starts-none, starts-first)
 

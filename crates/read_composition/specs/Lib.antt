@@ -1,4 +1,3 @@
-pub mod Parts
 pub mod List
 pub mod Token
 pub mod Lists

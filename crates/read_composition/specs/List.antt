@@ -1,5 +1,5 @@
--- A list of actions as the code reads it: item after item. What it says of sound and rising lists is in the laws list-sound,
--- list-rising and list-set.
+-- A list of actions as the code reads it: item after item. What it says of sound and rising lists is in the laws
+-- list-sound, list-rising and list-set.
 use Prim.Native.Nat.{ℕ, _-_, _^_}
 use mathlib.Core.Bool.{true, false, _&&_}
 use mathlib.Core.List.{List, [], _∷_}
@@ -38,7 +38,8 @@ unsound = record { sound = false; rising = false; low = 0; high = 0 }
 -- the items after the numbers x
 unfoldable pub listFrom : (A : ℕ) → Numbers → List Bytes → Listed
 listFrom A x [] = record { sound = true; rising = x .rising; low = x .low; high = x .high }
-listFrom A x (s ∷ ss) = elim (within (pos 0) (pos maxActions) s) [ true ↦ listFrom A (withItem A x (naturalOf s)) ss | false ↦ unsound ]
+listFrom A x (s ∷ ss) =
+    elim (within (pos 0) (pos maxActions) s) [ true ↦ listFrom A (withItem A x (naturalOf s)) ss | false ↦ unsound ]
 
 unfoldable pub listOf : (A : ℕ) → List Bytes → Listed
 listOf A items = listFrom A noNumbers items

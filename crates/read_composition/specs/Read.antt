@@ -46,9 +46,11 @@ putAfter k nodes next out = elim (leb maxTreeNodes nodes) [ true ↦ out | false
 
 -- `par` owes two subtrees for the one that it is, a leaf none; leaf K is in order after K others
 unfoldable pub stepped : Kind → (next : ℕ) → Walk → Walk
-stepped Par next w = record { owed = w .owed + 1; leaves = w .leaves; ordered = w .ordered; nodes = w .nodes + 1; next = next }
+stepped Par next w =
+    record { owed = w .owed + 1; leaves = w .leaves; ordered = w .ordered; nodes = w .nodes + 1; next = next }
 stepped Syn next w = w
-stepped (Set low high) next w = record { owed = w .owed; leaves = w .leaves; ordered = w .ordered; nodes = w .nodes + 1; next = next }
+stepped (Set low high) next w =
+    record { owed = w .owed; leaves = w .leaves; ordered = w .ordered; nodes = w .nodes + 1; next = next }
 stepped (Leaf k) next w =
     record {
       owed = w .owed - 1;

@@ -7,9 +7,9 @@ use Rattle.model.specs.Basic.{same}
 use Rattle.model.specs.Bounds.{lastAutomaton, maxActions}
 use Rattle.format.specs.Bytes.{Bytes, bytes, parts, comma, minus, 'a}
 use Rattle.format.specs.Number.{digit}
-use Rattle.text_bytes.specs.declared.answer.Natural.{Natural}
-use Rattle.text_bytes.specs.declared.answer.Natural.the-variants as N
-use Rattle.text_bytes.specs.Number.{naturalIn}
+use Rattle.text_numbers.specs.declared.answer.Natural.{Natural}
+use Rattle.text_numbers.specs.declared.answer.Natural.the-variants as N
+use Rattle.text_numbers.specs.Number.{naturalIn}
 use Rattle.read_composition.specs.declared.token.Kind.{Kind}
 use Rattle.read_composition.specs.declared.token.Kind.the-variants.{Par, Syn, Set, Leaf, Stray}
 use Rattle.read_composition.specs.List.{listOf}

@@ -5,8 +5,8 @@ ghost use mathlib.Core.Path.{_≡_};
 ghost use Prim.Native.Nat.{_*_, _^_, _≤_};
 ghost use Rattle.read_composition.specs.Read.{IsSmall, stepped, illFormed, ending, nextAfter, putAfter, HasRead};
 
-// Whether the tokens make one tree, and of such a tree: whether its leaves are the automata in order, how many nodes it has,
-// and where its words end.
+// Whether the tokens make one tree, and of such a tree: whether its leaves are the automata in order, how many nodes it
+// has, and where its words end.
 pub struct Composition {
     pub formed: bool,
     pub ordered: bool,
@@ -14,20 +14,14 @@ pub struct Composition {
     pub next: usize,
 }
 
-// So far: how many subtrees are still to come, how many leaves there were and whether each was in order, how many nodes, and
-// where the next words go.
+// So far: how many subtrees are still to come, how many leaves there were and whether each was in order, how many
+// nodes, and where the next words go.
 pub struct Walk {
     pub owed: usize,
     pub leaves: usize,
     pub ordered: bool,
     pub nodes: usize,
     pub next: usize,
-}
-
-fn index(x: u32) -> usize
-    ensures { λ r. ⌜ r ≡ x ⌝ }
-{
-    x as usize
 }
 
 // The words of a node: `par` is 0; `syn` is 1 and its set; leaf K is 2 + K. The words of a 65th node are not written.
@@ -82,7 +76,7 @@ fn step(w: Walk, k: Kind, next: usize) -> Walk
         Kind::Leaf(a) => Walk {
             owed: w.owed - 1,
             leaves: w.leaves + 1,
-            ordered: w.ordered & (index(a) == w.leaves),
+            ordered: w.ordered & (arithmetic::index(a) == w.leaves),
             nodes: w.nodes + 1,
             next,
         },
@@ -129,7 +123,7 @@ pub fn read(part: &[u8], automata: usize, out: &mut [u32; 192]) -> Composition
         next: 0,
     };
     while at <= part.len() {
-        let end = text_bytes::find(part, at, 32);
+        let end = text_bytes::find(part, at, b' ');
         let k = token::kind_of(&part[at..end], due);
         if (w.owed == 0) | token::is_stray(k) {
             return ill_formed();

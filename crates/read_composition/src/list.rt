@@ -1,5 +1,6 @@
-// A list of actions with commas: whether its numbers are sound (row 3) and rise (row 5), and its set as two words of bits.
-use text_bytes::Natural;
+// A list of actions with commas: whether its numbers are sound (row 3) and rise (row 5), and its set as two words of
+// bits.
+use text_numbers::Natural;
 ghost use mathlib.Core.Path.{_≡_};
 ghost use Rattle.format.specs.Bytes.{parts, comma};
 ghost use Rattle.format.specs.Rows.{listItems};
@@ -63,8 +64,8 @@ pub fn list_of(part: &[u8], actions: u32) -> Listed
     };
     let mut at = 0;
     while at <= part.len() {
-        let end = text_bytes::find(part, at, 44);
-        let n = text_bytes::natural(&part[at..end], model::Model::ACTIONS);
+        let end = text_bytes::find(part, at, b',');
+        let n = text_numbers::natural(&part[at..end], model::Model::ACTIONS);
         let Natural::In(k) = n else {
             return Listed {
                 sound: false,

@@ -25,7 +25,7 @@ pub fn lists_sound(part: &[u8], actions: u32) -> bool
     let mut at = 0;
     let mut due = false;
     while at <= part.len() {
-        let end = text_bytes::find(part, at, 32);
+        let end = text_bytes::find(part, at, b' ');
         if !list_kept(&part[at..end], actions, due) {
             return false;
         }

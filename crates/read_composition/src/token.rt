@@ -1,6 +1,6 @@
 // What a token of a composition is.
 use crate::list::list_of;
-use text_bytes::Natural;
+use text_numbers::Natural;
 ghost use mathlib.Core.Path.{_≡_};
 ghost use Rattle.model.specs.Basic.{same};
 ghost use Rattle.format.specs.Bytes.{bytes};
@@ -22,8 +22,7 @@ pub fn starts_number(token: &[u8]) -> bool
     if token.len() == 0 {
         return false;
     }
-    let b = token[0];
-    ((48 <= b) & (b <= 57)) | (b == 45)
+    text_bytes::starts_number(token[0])
 }
 
 // `aK`, of the automata 0 to 15.
@@ -33,10 +32,10 @@ fn leaf(token: &[u8]) -> Kind
     if token.len() == 0 {
         return Kind::Stray;
     }
-    if token[0] != 97 {
+    if token[0] != b'a' {
         return Kind::Stray;
     }
-    let n = text_bytes::natural(&token[1..], 15);
+    let n = text_numbers::natural(&token[1..], 15);
     match n {
         Natural::In(k) => Kind::Leaf(k),
         Natural::Out => Kind::Stray,

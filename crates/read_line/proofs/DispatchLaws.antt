@@ -11,11 +11,11 @@ use Rattle.line_order.specs.declared.Key.the-variants.{Format, Actions, Variabl
 use Rattle.line_order.specs.declared.Counts.{Counts}
 use Rattle.format.specs.Bytes.{Bytes}
 use Rattle.format.specs.Spelling.{spelling}
-use Rattle.read_line.specs.declared.LineRead.{LineRead}
-use Rattle.read_line.specs.Predicate.{mostWords}
+use Rattle.read_form.specs.declared.LineRead.{LineRead}
+use Rattle.read_predicate_line.specs.Predicate.{mostWords}
 use Rattle.read_line.specs.Line.{lineWith, lineWithAfter, lineRead, lineAfter}
-use Rattle.read_line.proofs.PredicateLaws.{location-room, location-room-after}
-use Rattle.read_line.proofs.EdgeLaws.{edge-room, edge-room-after}
+use Rattle.read_predicate_line.proofs.PredicateLaws.{location-room, location-room-after}
+use Rattle.read_predicate_line.proofs.EdgeLaws.{edge-room, edge-room-after}
 
 -- what is read with one key is read with the key that it equals
 module _ (s : Bytes) (ended : Bool) (k : Key) (c : Counts) (words : List ℕ) (at room high : ℕ) where

@@ -3,7 +3,6 @@ use Prim.Native.Nat.{ℕ}
 use mathlib.Core.Path.{_≡_, refl}
 use mathlib.Core.Bool.{Bool}
 use mathlib.Core.List.{List, [], _∷_}
-use mathlib.Core.Option.{Option, none, some}
 use lib.ListN.{length}
 use Rattle.model.specs.Bounds.{maxActions, maxVariables, maxAutomata, maxLocations, maxEdges}
 use Rattle.model.specs.Lines as Lines
@@ -13,20 +12,20 @@ use Rattle.line_order.specs.declared.Key.the-variants.{Format, Actions, Variabl
 use Rattle.line_order.specs.declared.Counts.{Counts}
 use Rattle.format.specs.Bytes.{Bytes}
 use Rattle.format.specs.Spelling.{spelling}
-use Rattle.read_line.specs.declared.number.Count.{Count}
-use Rattle.read_line.specs.declared.number.Count.the-variants as Count
-use Rattle.read_line.specs.declared.number.Bounds.{Bounds}
-use Rattle.read_line.specs.declared.number.Bounds.the-variants as Bounds
+use Rattle.read_numbers.specs.declared.number.Count.{Count}
+use Rattle.read_numbers.specs.declared.number.Count.the-variants as Count
+use Rattle.read_numbers.specs.declared.range.Bounds.{Bounds}
+use Rattle.read_numbers.specs.declared.range.Bounds.the-variants as Bounds
 use Rattle.table_append.specs.Append.{put}
-use Rattle.read_line.specs.Outcome.{written}
-use Rattle.read_line.specs.Number.{countIn, numberAfter, fewEdges, boundsIn, boundsAfter}
-use Rattle.read_line.specs.Sync.{syncFault, syncAfter}
-use Rattle.read_line.specs.Composition.{composeFault, composeAfter}
-use Rattle.read_line.specs.Predicate.{mostWords}
+use Rattle.read_form.proofs.Outcomes.{written-long}
+use Rattle.read_number_line.specs.Number.{numberAfter, boundsAfter}
+use Rattle.read_composition_line.specs.Sync.{syncFault, syncAfter}
+use Rattle.read_composition_line.specs.Composition.{composeFault, composeAfter}
+use Rattle.read_predicate_line.specs.Predicate.{mostWords}
 use Rattle.read_line.specs.Line.{lineWithAfter, lineAfter}
 use Rattle.table_append.proofs.AppendLaws.{put-kept}
-use Rattle.read_line.proofs.PredicateRows.{location-kept}
-use Rattle.read_line.proofs.EdgeRows.{edge-kept}
+use Rattle.read_predicate_line.proofs.PredicateRows.{location-kept}
+use Rattle.read_predicate_line.proofs.EdgeRows.{edge-kept}
 
 number-kept : (c : Count) (at : ℕ) (words : List ℕ) → length (numberAfter c at words) ≡ length words
 unfolding numberAfter
@@ -38,20 +37,14 @@ unfolding boundsAfter
 bounds-kept (Bounds.Are low high) at words = put-kept (biased low ∷ biased high ∷ []) at words
 bounds-kept (Bounds.Unsound row) at words = refl
 
--- the buffer after a line
-written-kept : (o : Option ℕ) (at : ℕ) (ws words : List ℕ) → length (written o (put at ws words) words) ≡ length words
-unfolding written
-written-kept none at ws words = put-kept ws at words
-written-kept (some row) at ws words = refl
-
 module _ (s : Bytes) (ended : Bool) (c : Counts) (words : List ℕ) (at : ℕ) where
   pub sync-kept : length (syncAfter s ended c words at) ≡ length words
   unfolding syncAfter
-  sync-kept = written-kept (syncFault s ended c) at _ words
+  sync-kept = written-long (syncFault s ended c) _ words (put-kept _ at words)
 
   pub compose-kept : length (composeAfter s ended c words at) ≡ length words
   unfolding composeAfter
-  compose-kept = written-kept (composeFault s ended c) at _ words
+  compose-kept = written-long (composeFault s ended c) _ words (put-kept _ at words)
 
 pub line-kept : (s : Bytes) (ended : Bool) (k : Key) (c : Counts) (words : List ℕ) (at : ℕ) → length (lineAfter s ended k c words at) ≡ length words
 unfolding lineAfter lineWithAfter

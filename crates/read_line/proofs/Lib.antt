@@ -1,15 +1,3 @@
-pub mod FormLaws
-pub mod Answered
-pub mod Outcomes
-pub mod NumberLaws
-pub mod NumberLines
-pub mod RangeLines
-pub mod SyncLaws
-pub mod CompositionLaws
-pub mod PredicateLaws
-pub mod PredicateRows
-pub mod EdgeLaws
-pub mod EdgeRows
 pub mod Kept
 pub mod DispatchLaws
 pub mod ReadsLines

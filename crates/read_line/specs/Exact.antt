@@ -1,4 +1,5 @@
--- What the reader of one line is to say: exactly the row that `fault` gives, or what the line says, with its words put into the buffer.
+-- What the reader of one line is to say: exactly the row that `fault` gives, or what the line says, with its words put
+-- into the buffer.
 use Prim.Native.Nat.{ℕ, _≤_}
 use mathlib.Core.Path.{_≡_}
 use mathlib.Core.Bool.{Bool}
@@ -14,20 +15,23 @@ use Rattle.line_order.specs.Due.{codeOf, numberOf}
 use Rattle.line_order.specs.Counts.{nodesOf, Counted}
 use Rattle.table_check.specs.Scan.{Declared}
 use Rattle.format.specs.Bytes.{Bytes}
-use Rattle.format.specs.Rows.{Line, fault, entry}
-use Rattle.read_line.specs.declared.LineRead.{LineRead}
-use Rattle.read_line.specs.declared.LineRead.the-variants.{Sound, Fault}
+use Rattle.format.specs.Rows.{fault, entry}
+use Rattle.read_form.specs.declared.LineRead.{LineRead}
+use Rattle.read_form.specs.declared.LineRead.the-variants.{Sound, Fault}
 use Rattle.table_append.specs.Append.{nextPlace, put}
+use Rattle.read_form.specs.Form.{lineOf}
 
-abbrev pub lineOf : Bytes → Bool → Line
-lineOf s ended = record { bytes = s; ended = ended }
-
--- `read` answers for a line's bytes, whether an LF ended it, the key that is due, what was counted, the buffer and the place of its next word;
--- `after` is the buffer then
-pub record ReadsLines (read : Bytes → Bool → Key → Counts → List ℕ → ℕ → LineRead) (after : Bytes → Bool → Key → Counts → List ℕ → ℕ → List ℕ) : Type 0 where
-  pub faulty : (r : Reading) (c : Counts) (words : List ℕ) (at : ℕ) (k : LineKey) (s : Bytes) (ended : Bool) (row : ℕ) → Counted r c → Declared words r
-      → length s ≤ maxBytes → fault r k (lineOf s ended) ≡ some row → read s ended (codeOf k) c words at ≡ Fault row
-  pub sound : (r : Reading) (c : Counts) (words : List ℕ) (at : ℕ) (k : LineKey) (s : Bytes) (ended : Bool) → Counted r c → Declared words r
-      → length s ≤ maxBytes → fault r k (lineOf s ended) ≡ none
-      → (read s ended (codeOf k) c words at ≡ Sound (numberOf (entry k (lineOf s ended))) (nodesOf (entry k (lineOf s ended))) (nextPlace at (length (lineWords (entry k (lineOf s ended))))))
+-- `read` answers for a line's bytes, whether an LF ended it, the key that is due, what was counted, the buffer and the
+-- place of its next word; `after` is the buffer then
+pub record ReadsLines
+    (read : Bytes → Bool → Key → Counts → List ℕ → ℕ → LineRead)
+    (after : Bytes → Bool → Key → Counts → List ℕ → ℕ → List ℕ) : Type 0 where
+  pub faulty : (r : Reading) (c : Counts) (words : List ℕ) (at : ℕ) (k : LineKey) (s : Bytes) (ended : Bool) (row : ℕ)
+      → Counted r c → Declared words r → length s ≤ maxBytes → fault r k (lineOf s ended) ≡ some row
+      → read s ended (codeOf k) c words at ≡ Fault row
+  pub sound : (r : Reading) (c : Counts) (words : List ℕ) (at : ℕ) (k : LineKey) (s : Bytes) (ended : Bool)
+      → Counted r c → Declared words r → length s ≤ maxBytes → fault r k (lineOf s ended) ≡ none
+      → (read s ended (codeOf k) c words at ≡
+      Sound (numberOf (entry k (lineOf s ended))) (nodesOf (entry k (lineOf s ended)))
+      (nextPlace at (length (lineWords (entry k (lineOf s ended))))))
       × (after s ended (codeOf k) c words at ≡ put at (lineWords (entry k (lineOf s ended))) words)

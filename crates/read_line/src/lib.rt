@@ -1,24 +1,12 @@
-// One line of the sheet text: which row it breaks, or what it says, with its words put into the table that is being read.
-mod composition;
-mod edge;
-mod form;
-mod number;
-mod predicates;
-mod sync;
-
+// One line of the sheet text: which row it breaks, or what it says, with its words put into the table that is being
+// read.
 use line_order::Counts;
 use line_order::Key;
 use model::Model;
+pub use read_form::LineRead;
 ghost use mathlib.Core.Path.{_≡_};
 ghost use lib.ListN.{length};
 ghost use Rattle.read_line.specs.Line.{lineWith, lineWithAfter, lineRead, lineAfter};
-
-// Sound: the line's number if it counts something or is the format's, the nodes of its predicate, and the place of the next
-// word. Fault: the smallest row that it breaks.
-pub enum LineRead {
-    Sound(usize, usize, usize),
-    Fault(u32),
-}
 
 // The line that the key says, with memory for a predicate's nodes and their sorts.
 fn read_with(
@@ -37,53 +25,18 @@ fn read_with(
         (length (now (nodes .entry))) (length (now (sorts .entry))) ⌝ }
 {
     match key {
-        Key::Format => number::format(line, ended, words, at),
-        Key::Actions => number::counting_line(
-            line,
-            ended,
-            b"actions=",
-            0,
-            Model::ACTIONS,
-            words,
-            at,
-        ),
-        Key::Variables => number::counting_line(
-            line,
-            ended,
-            b"variables=",
-            0,
-            Model::VARIABLES as u32,
-            words,
-            at,
-        ),
-        Key::Variable => number::variable(line, ended, words, at),
-        Key::Automata => number::counting_line(
-            line,
-            ended,
-            b"automata=",
-            1,
-            Model::AUTOMATA as u32,
-            words,
-            at,
-        ),
-        Key::Sync => sync::sync(line, ended, counts, words, at),
-        Key::Locations => number::counting_line(
-            line,
-            ended,
-            b"locations=",
-            1,
-            Model::LOCATIONS as u32,
-            words,
-            at,
-        ),
-        Key::Init => predicates::location(line, ended, b"init=", counts, words, at, nodes, sorts),
-        Key::Inv => predicates::location(line, ended, b"inv=", counts, words, at, nodes, sorts),
-        Key::Edges => {
-            let before = counts.edges;
-            number::edges(line, ended, before, words, at)
-        }
-        Key::Edge => edge::edge(line, ended, counts, words, at, nodes, sorts),
-        Key::Compose => composition::composition(line, ended, counts, words, at),
+        Key::Format => read_number_line::format(line, ended, words, at),
+        Key::Actions => read_number_line::actions(line, ended, words, at),
+        Key::Variables => read_number_line::variables(line, ended, words, at),
+        Key::Variable => read_number_line::variable(line, ended, words, at),
+        Key::Automata => read_number_line::automata(line, ended, words, at),
+        Key::Sync => read_composition_line::sync(line, ended, counts, words, at),
+        Key::Locations => read_number_line::locations(line, ended, words, at),
+        Key::Init => read_predicate_line::init(line, ended, counts, words, at, nodes, sorts),
+        Key::Inv => read_predicate_line::inv(line, ended, counts, words, at, nodes, sorts),
+        Key::Edges => read_number_line::edges(line, ended, counts, words, at),
+        Key::Edge => read_predicate_line::edge(line, ended, counts, words, at, nodes, sorts),
+        Key::Compose => read_composition_line::composition(line, ended, counts, words, at),
         Key::End => LineRead::Fault(2),
     }
 }

@@ -21,11 +21,11 @@ use Rattle.table_predicate.specs.Walk.{walkAt}
 use Rattle.format.specs.Tokens.{tokens, sounds}
 use Rattle.text_bytes.specs.Find.{gap}
 use Rattle.text_bytes.proofs.FindLaws.{gap-within}
-use Rattle.read_predicate.specs.Codes.{strayCode}
-use Rattle.read_predicate.specs.declared.reading.Words.{Words}
-use Rattle.read_predicate.specs.declared.reading.Words.the-variants as Words
-use Rattle.read_predicate.specs.Read.{answer, count, written, Reads}
-use Rattle.read_predicate.proofs.Answers.{said-read}
+use Rattle.read_words.specs.Codes.{strayCode}
+use Rattle.read_words.specs.declared.reading.Words.{Words}
+use Rattle.read_words.specs.declared.reading.Words.the-variants as Words
+use Rattle.read_words.specs.Read.{answer, count, written, Reads}
+use Rattle.read_words.proofs.Answers.{said-read}
 use Rattle.read_nodes.specs.declared.Nodes.{Nodes}
 use Rattle.read_nodes.specs.declared.Nodes.the-variants.{Are, Unsound, Full}
 use Rattle.read_nodes.specs.Nodes.{told, extentFault, nodesFault, judgedIn, onWords, codesOf, nodesRead, nodesAfter}
@@ -115,15 +115,6 @@ module _ (nodes ranges : List ℕ) (o : Bool) (variables before high : ℕ) wher
               (pass (length nodes) 7 _ _ r (outside-is ∙ g) (pass (length nodes) 8 _ _ r (new-is ∙ i) e)))
 
 pub ruleset judged-laws = (judged-full, judged-ill, judged-outside, judged-new, judged-rest)
-
--- `first`
-pub first-all : (from : List ℕ) (n : ℕ) → length from < n → from ≡ take n from
-first-all from n h = sym (take-all n from (omega arith))
-
-pub first-long : (from : List ℕ) (n : ℕ) → n ≤ length from → n ≡ length (take n from)
-first-long from n h = sym (length-take-le n from h)
-
-pub ruleset first-laws = (first-all, first-long)
 
 -- `read`: where all words were read, their codes stand in front
 pub read-front : (part old new : List ℕ) (n : ℕ) → Reads part old new (Words.Read n) → (take n new ≡ codesOf part) × (length (codesOf part) ≡ n)

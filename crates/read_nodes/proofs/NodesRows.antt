@@ -26,33 +26,17 @@ use Rattle.format.specs.Bytes.{Bytes}
 use Rattle.format.specs.Tokens.{tokens, sounds, readWords}
 use Rattle.text_bytes.specs.Find.{gap}
 use Rattle.text_bytes.proofs.FindLaws.{gap-within}
-use Rattle.read_predicate.specs.Codes.{strayCode}
-use Rattle.read_predicate.specs.declared.reading.Words.{Words}
-use Rattle.read_predicate.specs.declared.reading.Words.the-variants as Words
-use Rattle.read_predicate.specs.Read.{answer, count, written, Reads}
-use Rattle.read_predicate.proofs.Answers.{read-all-words, read-stray-word, never-full, words-read, half-as-many, said-read}
+use Rattle.read_words.specs.Codes.{strayCode}
+use Rattle.read_words.specs.declared.reading.Words.{Words}
+use Rattle.read_words.specs.declared.reading.Words.the-variants as Words
+use Rattle.read_words.specs.Read.{answer, count, written, Reads}
+use Rattle.read_words.proofs.Answers.{read-all-words, read-stray-word, never-full, words-read, half-as-many, said-read}
+use Rattle.read_form.proofs.Outcomes.{same-row, broken-hit, broken-past}
 use Rattle.read_nodes.specs.declared.Nodes.{Nodes}
 use Rattle.read_nodes.specs.declared.Nodes.the-variants.{Are, Unsound, Full}
 use Rattle.read_nodes.specs.Nodes.{told, extentFault, nodesFault, judgedIn, onWords, codesOf, nodesRead, nodesAfter}
 use Rattle.read_nodes.specs.Text.{textPred, textFault}
 use Rattle.read_nodes.proofs.NodesLaws.{read-front}
-
--- two rows with the same test, where the later ones need be the same only if it does not hold
-pub same-row : (row : ℕ) (b d : Bool) (x y : Option ℕ) → b ≡ d → (d ≡ false → x ≡ y) → broken row b x ≡ broken row d y
-unfolding broken
-same-row row b d x y e h = ap (λ (v : Bool). broken row v x) e ∙ go d h
-  where
-    go : (v : Bool) → (v ≡ false → x ≡ y) → broken row v x ≡ broken row v y
-    go true g = refl
-    go false g = g refl
-
-pub broken-hit : (row : ℕ) (b : Bool) (rest : Option ℕ) → b ≡ true → broken row b rest ≡ some row
-unfolding broken
-broken-hit row b rest h = rw h
-
-pub broken-past : (row : ℕ) (b : Bool) (rest : Option ℕ) → b ≡ false → broken row b rest ≡ rest
-unfolding broken
-broken-past row b rest h = rw h
 
 not-leb : (a b : ℕ) → not (leb a b) ≡ ltb b a
 not-leb a b = go (leb a b) refl

@@ -15,10 +15,10 @@ use Rattle.model.specs.Table.{wordOf}
 use Rattle.table_predicate.specs.Walk.{walkAt}
 use Rattle.format.specs.Bytes.{Bytes}
 use Rattle.format.specs.Tokens.{tokens, sounds}
-use Rattle.read_predicate.specs.declared.reading.Due.the-variants.{Word}
-use Rattle.read_predicate.specs.declared.reading.Words.{Words}
-use Rattle.read_predicate.specs.declared.reading.Words.the-variants as Words
-use Rattle.read_predicate.specs.Read.{codes, answer, written}
+use Rattle.read_words.specs.declared.reading.Due.the-variants.{Word}
+use Rattle.read_words.specs.declared.reading.Words.{Words}
+use Rattle.read_words.specs.declared.reading.Words.the-variants as Words
+use Rattle.read_words.specs.Read.{codes, answer, written}
 use Rattle.read_nodes.specs.declared.Nodes.{Nodes}
 use Rattle.read_nodes.specs.declared.Nodes.the-variants.{Are, Unsound, Full}
 
@@ -59,7 +59,8 @@ unfoldable pub codesOf : Bytes → List ℕ
 codesOf part = codes Word (tokens part)
 
 -- with room for so many nodes, and for so many sorts
-unfoldable pub nodesRead : (part : Bytes) (oldOnly : Bool) (variables : ℕ) (ranges : List ℕ) (before room high : ℕ) → Nodes
+unfoldable pub nodesRead :
+    (part : Bytes) (oldOnly : Bool) (variables : ℕ) (ranges : List ℕ) (before room high : ℕ) → Nodes
 nodesRead part oldOnly variables ranges before room high =
     elim (sounds [] (tokens part)) [
       | true ↦ onWords oldOnly variables ranges before high (codesOf part) (answer (codesOf part) room)

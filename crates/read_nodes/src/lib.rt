@@ -1,7 +1,7 @@
 // A predicate P from its bytes to node words, with every row that P can break: 3 and 6 to 11. P stands alone here: no
 // line, no key and no table is known but the words of the variables' ranges.
 use model::Model;
-use read_predicate::Words;
+use read_words::Words;
 ghost use mathlib.Core.Path.{_≡_};
 ghost use lib.ListN.{length, take};
 ghost use Rattle.read_predicate.specs.Scratch.{Scratch};
@@ -91,10 +91,10 @@ pub fn read(
     ensures { λ _. ⌜ (now (nodes .exit) ≡ nodesAfter (now (part .entry)) (now (nodes .entry)))
         × Scratch (now (sorts .entry)) (now (sorts .exit)) ⌝ }
 {
-    if !read_predicate::numbers_sound(part) {
+    if !read_tokens::numbers_sound(part) {
         return Nodes::Unsound(3);
     }
-    let read = read_predicate::read(part, nodes);
+    let read = read_words::read(part, nodes);
     match read {
         Words::Read(n) => judged(first(nodes, n), old, variables, ranges, before, sorts),
         Words::Stray => Nodes::Unsound(6),

@@ -1,10 +1,3 @@
-pub mod Parting
-pub mod ShapeLaws
-pub mod NumbersLaws
-pub mod CodeLaws
-pub mod ReadLaws
 pub mod SortLaws
 pub mod ScratchLaws
 pub mod FormedLaws
-pub mod Agree
-pub mod Answers

@@ -6,7 +6,8 @@ use mathlib.Core.List.{List, [], _∷_}
 use mathlib.Core.Option.{Option, none, some}
 use lib.ListN.{getD}
 use Rattle.model.specs.Basic.{onSome}
-use Rattle.model.specs.Predicate.{Word, allOf, anyOf, notWord, impWord, eqWord, leWord, numWord, oldWord, newWord, addWord, subWord, mulWord, ifWord, stray}
+use Rattle.model.specs.Predicate.{Word, allOf, anyOf, notWord, impWord, eqWord, leWord, numWord}
+use Rattle.model.specs.Predicate.{oldWord, newWord, addWord, subWord, mulWord, ifWord, stray}
 use Rattle.read_predicate.specs.declared.formed.Arity.{Arity}
 use Rattle.read_predicate.specs.declared.formed.Arity.the-variants.{Takes, Stray}
 use Rattle.read_predicate.specs.declared.formed.Height.{Height}
@@ -63,7 +64,8 @@ stackAt sorts Off = none
 unfoldable pub takenFrom : List Bool → (sort : Bool) (count height : ℕ) → Height
 takenFrom sorts sort zero h = Of h
 takenFrom sorts sort (suc k) zero = Off
-takenFrom sorts sort (suc k) (suc h) = elim (Bool·beq (getD sorts h false) sort) [ true ↦ takenFrom sorts sort k h | false ↦ Off ]
+takenFrom sorts sort (suc k) (suc h) =
+    elim (Bool·beq (getD sorts h false) sort) [ true ↦ takenFrom sorts sort k h | false ↦ Off ]
 
 -- at most so high
 unfoldable pub Below : ℕ → Height → Type 0

@@ -1,5 +1,6 @@
-// Row 6: do the words make one predicate? They are read from the right, with a stack of sorts in place of trees: each word takes
-// its operands' sorts off and puts its own on. What is taken off was put on once, so the work is linear in the words.
+// Row 6: do the words make one predicate? They are read from the right, with a stack of sorts in place of trees: each
+// word takes its operands' sorts off and puts its own on. What is taken off was put on once, so the work is linear in
+// the words.
 use node_words::Node;
 ghost use mathlib.Core.Path.{_≡_};
 ghost use mathlib.Core.Bool.{not, _&&_};

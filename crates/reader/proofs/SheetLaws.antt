@@ -16,8 +16,8 @@ use Rattle.line_order.specs.Counts.{countsNone, countsAfter}
 use Rattle.format.specs.Bytes.{Bytes, LF}
 use Rattle.text_bytes.specs.Find.{firstFrom}
 use Rattle.text_bytes.proofs.FindLaws.{first-is}
-use Rattle.read_line.specs.declared.LineRead.{LineRead}
-use Rattle.read_line.specs.declared.LineRead.the-variants as LineRead
+use Rattle.read_form.specs.declared.LineRead.{LineRead}
+use Rattle.read_form.specs.declared.LineRead.the-variants as LineRead
 use Rattle.read_line.specs.Line.{lineRead, lineAfter}
 use Rattle.read_line.proofs.Kept.{line-kept}
 use Rattle.reader.specs.declared.ReadAnswer.{ReadAnswer}

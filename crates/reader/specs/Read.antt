@@ -13,8 +13,8 @@ use Rattle.format.specs.Bytes.{Bytes, LF}
 use Rattle.format.specs.Reader as Reader
 use Rattle.format.specs.Reader.{row1}
 use Rattle.text_bytes.specs.Find.{firstFrom}
-use Rattle.read_line.specs.declared.LineRead.{LineRead}
-use Rattle.read_line.specs.declared.LineRead.the-variants as LineRead
+use Rattle.read_form.specs.declared.LineRead.{LineRead}
+use Rattle.read_form.specs.declared.LineRead.the-variants as LineRead
 use Rattle.read_line.specs.Line.{lineRead, lineAfter}
 use Rattle.reader.specs.declared.ReadAnswer.{ReadAnswer}
 use Rattle.reader.specs.declared.ReadAnswer.the-variants.{Accepted, Refused}
@@ -33,7 +33,12 @@ placeFirst = record { due = dueFirst; counts = countsNone; at = 0; byte = 0 }
 -- after a line with this number and so many nodes, which ended before byte `stop`
 unfoldable pub placeAfter : Place → (number nodes next stop : ℕ) → Place
 placeAfter p number nodes next stop =
-    record { due = dueAfter (p .due) number; counts = countsAfter (p .counts) (p .due .key) number nodes; at = next; byte = stop + 1 }
+    record {
+      due = dueAfter (p .due) number;
+      counts = countsAfter (p .counts) (p .due .key) number nodes;
+      at = next;
+      byte = stop + 1;
+    }
 
 -- the answer, and the buffer with the words of the lines so far
 pub record Outcome : Type 0 where
@@ -57,7 +62,8 @@ module _ (text : Bytes) where
   onLine line p (LineRead.Sound number nodes next) = On (placeAfter p number nodes next (stopAt p))
 
   unfoldable pub lineRound : (line : ℕ) → Place → List ℕ → Round
-  lineRound line p words = onLine line p (lineRead (lineAt p) (ltb (stopAt p) (length text)) (p .due .key) (p .counts) words (p .at))
+  lineRound line p words =
+      onLine line p (lineRead (lineAt p) (ltb (stopAt p) (length text)) (p .due .key) (p .counts) words (p .at))
 
   unfoldable pub lineRoundAfter : Place → List ℕ → List ℕ
   lineRoundAfter p words = lineAfter (lineAt p) (ltb (stopAt p) (length text)) (p .due .key) (p .counts) words (p .at)
@@ -84,7 +90,8 @@ module _ (text : Bytes) where
 
   unfoldable pub readFrom : (left line : ℕ) → Place → List ℕ → Outcome
   readFrom zero line p words = outcome (Refused 2 0) words
-  readFrom (suc n) line p words = onRound (λ q ws. readFrom n (line + 1) q ws) (roundAt line p words) (roundAfter p words)
+  readFrom (suc n) line p words =
+      onRound (λ q ws. readFrom n (line + 1) q ws) (roundAt line p words) (roundAfter p words)
 
   -- each line takes a byte at least, and the last round finds the end
   unfoldable pub sheetRead : List ℕ → Outcome
@@ -92,7 +99,8 @@ module _ (text : Bytes) where
 
 -- the words into the first places of a table that has as many
 unfoldable pub stored : (words table : List ℕ) → List ℕ
-stored words table = elim (leb (length words) (length table)) [ true ↦ words ++ drop (length words) table | false ↦ table ]
+stored words table =
+    elim (leb (length words) (length table)) [ true ↦ words ++ drop (length words) table | false ↦ table ]
 
 unfoldable pub storedIf : Outcome → List ℕ → List ℕ
 storedIf o table = elim (o .answer) [ Accepted ↦ stored (o .words) table | Refused row line ↦ table ]

@@ -16,8 +16,8 @@ pub enum ReadAnswer {
     Refused(u32, usize),
 }
 
-// Where the reader stands: the key that is due with what comes after it, what was counted, the place of the next word in the table and of
-// the next byte in the text.
+// Where the reader stands: the key that is due with what comes after it, what was counted, the place of the next word
+// in the table and of the next byte in the text.
 pub struct Place {
     pub due: line_order::Due,
     pub counts: line_order::Counts,
@@ -33,7 +33,8 @@ pub enum Round {
 
 // Reads a text into the table's first words. A refused text leaves the table as it was.
 pub fn read(text: &[u8], table: &mut [u32]) -> ReadAnswer
-    ensures { λ r. ⌜ (r ≡ readOf (readAnswer (now (text .entry)) (length (now (table .entry))))) × (now (table .exit) ≡ tableAfter (now (text .entry)) (now (table .entry))) ⌝ }
+    ensures { λ r. ⌜ (r ≡ readOf (readAnswer (now (text .entry)) (length (now (table .entry)))))
+        × (now (table .exit) ≡ tableAfter (now (text .entry)) (now (table .entry))) ⌝ }
 {
     if table.len() < Model::WORDS {
         return ReadAnswer::Refused(18, 0);

@@ -12,7 +12,8 @@ ghost use lib.ListN.{length};
 ghost use Rattle.model.specs.Bounds.{maxBytes, tableWords};
 ghost use Rattle.format.specs.Bytes.{LF};
 ghost use Rattle.text_bytes.specs.Find.{firstFrom};
-ghost use Rattle.reader.specs.Read.{placeFirst, placeAfter, lineRound, lineRoundAfter, roundAt, roundAfter, sheetRead};
+ghost use Rattle.reader.specs.Read.{placeFirst, placeAfter, lineRound, lineRoundAfter};
+ghost use Rattle.reader.specs.Read.{roundAt, roundAfter, sheetRead};
 
 impl Place {
     fn first() -> Place
@@ -48,13 +49,14 @@ fn stop_from(text: &[u8], byte: usize) -> usize
     requires { ⌜ byte < length (now text) ⌝ }
     ensures { λ r. ⌜ (r ≡ firstFrom (now (text .entry)) byte LF) × (byte ≤ r) × (r ≤ length (now (text .entry))) ⌝ }
 {
-    text_bytes::find(text, byte, 10)
+    text_bytes::find(text, byte, b'\n')
 }
 
 // The line at a place, which has this number.
 fn line(text: &[u8], number: usize, place: Place, words: &mut [u32; Model::WORDS]) -> Round
     requires { ⌜ (place .byte < length (now text)) × (length (now text) ≤ maxBytes) ⌝ }
-    ensures { λ r. ⌜ (r ≡ lineRound (now (text .entry)) number place (now (words .entry))) × (now (words .exit) ≡ lineRoundAfter (now (text .entry)) place (now (words .entry))) ⌝ }
+    ensures { λ r. ⌜ (r ≡ lineRound (now (text .entry)) number place (now (words .entry)))
+        × (now (words .exit) ≡ lineRoundAfter (now (text .entry)) place (now (words .entry))) ⌝ }
 {
     let byte = place.byte;
     let at = place.at;
@@ -73,7 +75,8 @@ fn line(text: &[u8], number: usize, place: Place, words: &mut [u32; Model::WORDS
 // One round: no line is left, or none is due, or a line is read.
 fn round(text: &[u8], number: usize, place: Place, words: &mut [u32; Model::WORDS]) -> Round
     requires { ⌜ (length (now text) ≤ maxBytes) ⌝ }
-    ensures { λ r. ⌜ (r ≡ roundAt (now (text .entry)) number place (now (words .entry))) × (now (words .exit) ≡ roundAfter (now (text .entry)) place (now (words .entry))) ⌝ }
+    ensures { λ r. ⌜ (r ≡ roundAt (now (text .entry)) number place (now (words .entry)))
+        × (now (words .exit) ≡ roundAfter (now (text .entry)) place (now (words .entry))) ⌝ }
 {
     let byte = place.byte;
     let due = place.due;
@@ -94,7 +97,8 @@ fn round(text: &[u8], number: usize, place: Place, words: &mut [u32; Model::WORD
 // The text's lines into `words`, one after the other.
 pub(crate) fn sheet(text: &[u8], words: &mut [u32; Model::WORDS]) -> ReadAnswer
     requires { ⌜ length (now text) ≤ maxBytes ⌝ }
-    ensures { λ r. ⌜ (r ≡ sheetRead (now (text .entry)) (now (words .entry)) .answer) × (now (words .exit) ≡ sheetRead (now (text .entry)) (now (words .entry)) .words) ⌝ }
+    ensures { λ r. ⌜ (r ≡ sheetRead (now (text .entry)) (now (words .entry)) .answer)
+        × (now (words .exit) ≡ sheetRead (now (text .entry)) (now (words .entry)) .words) ⌝ }
 {
     let mut place = Place::first();
     // Each line takes a byte at least, so the text has been read before the rounds are over; the last finds the end.

@@ -19,7 +19,7 @@ gap-at : (c b : ℕ) (t : List ℕ) → b ≡ c → gap c (b ∷ t) ≡ 0
 unfolding gap
 gap-at c b t h = rw (eq-eqb b c h, gap)
 
-gap-on : (c b : ℕ) (t : List ℕ) → (b ≡ c → ⊥) → gap c (b ∷ t) ≡ suc (gap c t)
+pub gap-on : (c b : ℕ) (t : List ℕ) → (b ≡ c → ⊥) → gap c (b ∷ t) ≡ suc (gap c t)
 unfolding gap
 gap-on c b t h = rw (ne-eqb b c h, gap)
 

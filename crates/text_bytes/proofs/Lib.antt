@@ -1,5 +1,5 @@
 pub mod Places
-pub mod NumberLaws
 pub mod FindLaws
+pub mod Parting
 pub mod BytesLaws
 pub mod WriteLaws

@@ -16,7 +16,7 @@ use mir.Val.{SFits, Fits, toZ, ofZ}
 use mir.ValLaws.{toZ-ofZ}
 use Rattle.format.specs.Number.{decimal, signed}
 use Rattle.format.proofs.NumberLaws.{decimal-small, decimal-step}
-use Rattle.text_bytes.proofs.NumberLaws.{widened}
+use Rattle.arithmetic.proofs.Signed.{widened}
 use Rattle.text_bytes.specs.Write.{fits, writtenTo, after, Wrote, Spells}
 use Rattle.text_bytes.specs.declared.answer.Written.{Written}
 use Rattle.text_bytes.specs.declared.answer.Written.the-variants.{To, Full}

@@ -1,16 +1,32 @@
 // Bytes: tests, comparing and counting.
 ghost use mathlib.Core.Path.{_≡_};
+ghost use mathlib.Core.Bool.{_||_};
 ghost use lib.ListN.{length};
+ghost use lib.Dec.{eqb};
 ghost use Prim.Native.Nat.{_≤_};
 ghost use Rattle.model.specs.Basic as Basic;
 ghost use Rattle.format.specs.Bytes as Bytes;
+ghost use Rattle.format.specs.Number as Number;
 ghost use Rattle.format.specs.Rows as Rows;
 ghost use Rattle.text_bytes.specs.Find.{tally, countOf};
 
 fn shown(b: u8) -> bool
     ensures { λ r. ⌜ r ≡ Rows.printable b ⌝ }
 {
-    (32 <= b) & (b <= 126)
+    (b' ' <= b) & (b <= b'~')
+}
+
+pub fn digit(b: u8) -> bool
+    ensures { λ r. ⌜ r ≡ Number.digit b ⌝ }
+{
+    (b'0' <= b) & (b <= b'9')
+}
+
+// Does a token that begins so begin like a number?
+pub fn starts_number(b: u8) -> bool
+    ensures { λ r. ⌜ r ≡ (Number.digit b || eqb b Bytes.minus) ⌝ }
+{
+    digit(b) | (b == b'-')
 }
 
 // Is every byte printable?

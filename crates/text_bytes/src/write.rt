@@ -33,14 +33,14 @@ pub struct Spelled {
 fn last_digit(n: u32) -> u8
     ensures { λ r. ⌜ r ≡ 48 + n % 10 ⌝ }
 {
-    48 + (n % 10) as u8
+    b'0' + (n % 10) as u8
 }
 
 // The digits of `n`, from the right; at most ten.
 fn spell(n: u32) -> Spelled
     ensures { λ r. ⌜ Spells 1 (N.decimal n) r ⌝ }
 {
-    let mut bytes = [48u8; 11];
+    let mut bytes = [b'0'; 11];
     let mut i: usize = 11;
     let mut rest = n;
     while 10 <= rest {
@@ -71,7 +71,7 @@ fn spell_signed(z: i32) -> Spelled
     }
     let mut bytes = t.bytes;
     let from = t.from - 1;
-    bytes[from] = 45;
+    bytes[from] = b'-';
     Spelled { bytes, from }
 }
 

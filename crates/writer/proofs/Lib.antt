@@ -1,8 +1,3 @@
-pub mod GrowingLaws
-pub mod ReadLaws
-pub mod JoinLaws
-pub mod WordLaws
-pub mod NodeLaws
 pub mod LineLaws
 pub mod SheetLaws
 pub mod TextLaws

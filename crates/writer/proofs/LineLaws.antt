@@ -1,7 +1,6 @@
 -- Each way out of the code of src/line.rt.
 use Prim.Native.Nat.{ℕ, _+_, _-_, _≤_}
 use mathlib.Core.Path.{_≡_, refl, sym, ap, subst, _∙_}
-use native.Mathlib.Omega.{arith}
 use mathlib.Core.List.{List, [], _∷_, _++_, append-assoc}
 use lib.ListN.{getD, take, drop}
 use Rattle.format.specs.Bytes.{Bytes, bytes, joined, space}
@@ -10,12 +9,13 @@ use Rattle.format.specs.Number.{decimal, signed}
 use Rattle.model.specs.Table.{unbiased}
 use Rattle.line_order.specs.declared.Key.{Key}
 use Rattle.line_order.specs.declared.Key.the-variants.{Format, Actions, Variables, Variable, Automata, Sync, Locations, Init, Inv, Edges, Edge, Compose, End}
-use Rattle.writer.specs.declared.growing.Part.{Part}
+use Rattle.write_nodes.specs.declared.growing.Part.{Part}
 use Rattle.writer.specs.declared.line.Shape.{Shape}
 use Rattle.text_bytes.specs.declared.answer.Written.{Written}
-use Rattle.writer.specs.Growing.{Grew}
-use Rattle.writer.specs.Text.{setText, wordsText, nodeTexts, rangeText, predicateText, fieldText, edgeText, treeText, shapeOf, valueBy, valueOf, keyPart, keyText, lineOf, sizeOf}
-use Rattle.writer.proofs.GrowingLaws.{grew-none, grew-then}
+use Rattle.write_nodes.specs.Growing.{Grew, partText}
+use Rattle.write_nodes.specs.Text.{setText, wordsText, nodeTexts}
+use Rattle.writer.specs.Text.{rangeText, predicateText, fieldText, edgeText, treeText, shapeOf, valueBy, valueOf, keyPart, keyText, lineOf, sizeOf}
+use Rattle.write_nodes.proofs.GrowingLaws.{grew-none, grew-then, part-grew}
 
 -- `range`
 pub range-is : (ws : List ℕ) (at a b r : Written) (old cur mid new : Bytes) (x y : ℕ) → x ≡ getD ws 0 0 → y ≡ getD ws 1 0 →
@@ -102,10 +102,10 @@ pub ruleset value-laws = (value-by, value-number, value-set, value-none)
 
 -- the row of all keys has each at its part
 unfoldable pub inKeys : Part → Bytes
-inKeys p = take (p .to - p .from) (drop (p .from) (bytes "format=actions=variables=variable=automata=sync=locations=init=inv=edges=edge=compose="))
+inKeys p = partText (bytes "format=actions=variables=variable=automata=sync=locations=init=inv=edges=edge=compose=") p
 
 pub key-part : (key : Key) → inKeys (keyPart key) ≡ keyText key
-unfolding inKeys keyPart keyText spelling
+unfolding inKeys partText keyPart keyText spelling
 key-part Format = refl
 key-part Actions = refl
 key-part Variables = refl
@@ -120,37 +120,13 @@ key-part Edge = refl
 key-part Compose = refl
 key-part End = refl
 
-key-within : (key : Key) → (keyPart key .from ≤ keyPart key .to) × (keyPart key .to ≤ 86)
-unfolding keyPart
-key-within Format = (omega arith, omega arith)
-key-within Actions = (omega arith, omega arith)
-key-within Variables = (omega arith, omega arith)
-key-within Variable = (omega arith, omega arith)
-key-within Automata = (omega arith, omega arith)
-key-within Sync = (omega arith, omega arith)
-key-within Locations = (omega arith, omega arith)
-key-within Init = (omega arith, omega arith)
-key-within Inv = (omega arith, omega arith)
-key-within Edges = (omega arith, omega arith)
-key-within Edge = (omega arith, omega arith)
-key-within Compose = (omega arith, omega arith)
-key-within End = (omega arith, omega arith)
-
-module _ (key : Key) (p : Part) (e : p ≡ keyPart key) where
-  pub name-rises : p .from ≤ p .to
-  name-rises = rw e (key-within key .0)
-
-  pub name-inside : p .to ≤ 86
-  name-inside = rw e (key-within key .1)
-
-  pub name-grew : (at r : Written) (old new : Bytes) → Grew (inKeys p) at old new r → Grew (keyText key) at old new r
-  name-grew at r old new g = subst (λ (t : Bytes). Grew t at old new r) (ap inKeys e ∙ key-part key) g
+pub name-grew : (key : Key) (p : Part) → p ≡ keyPart key → (at r : Written) (old new : Bytes) → Grew (inKeys p) at old new r → Grew (keyText key) at old new r
+unfolding inKeys
+name-grew key p e = part-grew (bytes "format=actions=variables=variable=automata=sync=locations=init=inv=edges=edge=compose=") (keyText key) p (keyPart key) e (key-part key)
 
 pub ruleset part-laws = (part-by)
 
 pub ruleset shape-laws = (shape-by)
-
-pub ruleset name-laws = (name-rises, name-inside, name-grew)
 
 -- `line`
 pub line-is : (key : Key) (ws : List ℕ) (at a b r : Written) (old cur mid new : Bytes) → Grew (keyText key) at old cur a → Grew (valueOf key ws) a cur mid b → Grew (10 ∷ []) b mid new r → Grew (lineOf key ws) at old new r

@@ -1,3 +1,2 @@
-pub mod Growing
 pub mod Text
 pub mod Answer

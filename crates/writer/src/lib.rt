@@ -1,10 +1,6 @@
 // The writer of sheets: from a table to the text.
-mod growing;
 mod line;
-mod nodes;
-mod read;
 mod sheet;
-mod words;
 
 use model::Checked;
 use text_bytes::Written;
@@ -25,7 +21,8 @@ const BYTES: usize = model::Model::BYTES;
 // What the words spell, by way of a buffer for the text: row 35 where that or the lent one has no room for it. The text
 // is copied as the last act.
 fn deliver(table: &[u32], text: &mut [u8], out: &mut [u8]) -> WriteAnswer
-    ensures { λ r. ⌜ Answered (wordsAnswer (length (now (text .entry))) (now (table .entry)) (length (now (out .entry))))
+    ensures { λ r. ⌜ Answered
+        (wordsAnswer (length (now (text .entry))) (now (table .entry)) (length (now (out .entry))))
         (now (out .entry)) (now (out .exit)) r ⌝ }
 {
     let Written::To(n) = sheet::spell(table, text) else {
@@ -42,7 +39,8 @@ fn deliver(table: &[u32], text: &mut [u8], out: &mut [u8]) -> WriteAnswer
 // since no sheet's text is longer than that buffer. Other words may spell more, and row 35 then refuses them whatever
 // is lent.
 pub fn write_words(table: &[u32], out: &mut [u8]) -> WriteAnswer
-    ensures { λ r. ⌜ Answered (wordsAnswer maxBytes (now (table .entry)) (length (now (out .entry)))) (now (out .entry)) (now (out .exit)) r ⌝ }
+    ensures { λ r. ⌜ Answered (wordsAnswer maxBytes (now (table .entry)) (length (now (out .entry))))
+        (now (out .entry)) (now (out .exit)) r ⌝ }
 {
     let mut text = [0u8; BYTES];
     deliver(table, &mut text, out)
@@ -50,7 +48,8 @@ pub fn write_words(table: &[u32], out: &mut [u8]) -> WriteAnswer
 
 // The text of the model whose table this is. Rows 18, 19 and 35; a refusal has written nothing.
 pub fn write(table: &[u32], out: &mut [u8]) -> WriteAnswer
-    ensures { λ r. ⌜ Answered (writeAnswer (now (table .entry)) (length (now (out .entry)))) (now (out .entry)) (now (out .exit)) r ⌝ }
+    ensures { λ r. ⌜ Answered (writeAnswer (now (table .entry)) (length (now (out .entry))))
+        (now (out .entry)) (now (out .exit)) r ⌝ }
 {
     let checked = table_check::check(table);
     match checked {

@@ -1,5 +1,4 @@
 -- `read_with` meets its contract: the key that is due decides.
-use Rattle.format.specs.Spelling.{spelling}
 use Rattle.read_line.specs.Line.{lineWith, lineWithAfter}
 use Rattle.read_line.proofs.DispatchLaws.{dispatch-laws}
 use borrow.Author.Needs.{needs}
@@ -15,23 +14,14 @@ format-requires c κs = search needs
 enum-told-2 : tie.Need-enum-told-2
 enum-told-2 c = search needs
 
-slice-aggregate-counting-line : tie.Need-slice-aggregate-counting-line
-slice-aggregate-counting-line c = search needs
-
-counting-line-requires : tie.Need-counting-line-requires
-counting-line-requires c κs = search needs
+actions-requires : tie.Need-actions-requires
+actions-requires c κs = search needs
 
 enum-told-3 : tie.Need-enum-told-3
 enum-told-3 c = search needs
 
-slice-aggregate-counting-line-2 : tie.Need-slice-aggregate-counting-line-2
-slice-aggregate-counting-line-2 c = search needs
-
-cast-counting-line : tie.Need-cast-counting-line
-cast-counting-line c = search needs
-
-counting-line-requires-2 : tie.Need-counting-line-requires-2
-counting-line-requires-2 c κs = search needs
+variables-requires : tie.Need-variables-requires
+variables-requires c κs = search needs
 
 enum-told-4 : tie.Need-enum-told-4
 enum-told-4 c = search needs
@@ -42,14 +32,8 @@ variable-requires c κs = search needs
 enum-told-5 : tie.Need-enum-told-5
 enum-told-5 c = search needs
 
-slice-aggregate-counting-line-3 : tie.Need-slice-aggregate-counting-line-3
-slice-aggregate-counting-line-3 c = search needs
-
-cast-counting-line-2 : tie.Need-cast-counting-line-2
-cast-counting-line-2 c = search needs
-
-counting-line-requires-3 : tie.Need-counting-line-requires-3
-counting-line-requires-3 c κs = search needs
+automata-requires : tie.Need-automata-requires
+automata-requires c κs = search needs
 
 enum-told-6 : tie.Need-enum-told-6
 enum-told-6 c = search needs
@@ -60,32 +44,20 @@ sync-requires c κs = search needs
 enum-told-7 : tie.Need-enum-told-7
 enum-told-7 c = search needs
 
-slice-aggregate-counting-line-4 : tie.Need-slice-aggregate-counting-line-4
-slice-aggregate-counting-line-4 c = search needs
-
-cast-counting-line-3 : tie.Need-cast-counting-line-3
-cast-counting-line-3 c = search needs
-
-counting-line-requires-4 : tie.Need-counting-line-requires-4
-counting-line-requires-4 c κs = search needs
+locations-requires : tie.Need-locations-requires
+locations-requires c κs = search needs
 
 enum-told-8 : tie.Need-enum-told-8
 enum-told-8 c = search needs
 
-slice-aggregate-location : tie.Need-slice-aggregate-location
-slice-aggregate-location c = search needs
-
-location-requires : tie.Need-location-requires
-location-requires c κs = search needs
+init-requires : tie.Need-init-requires
+init-requires c κs = search needs
 
 enum-told-9 : tie.Need-enum-told-9
 enum-told-9 c = search needs
 
-slice-aggregate-location-2 : tie.Need-slice-aggregate-location-2
-slice-aggregate-location-2 c = search needs
-
-location-requires-2 : tie.Need-location-requires-2
-location-requires-2 c κs = search needs
+inv-requires : tie.Need-inv-requires
+inv-requires c κs = search needs
 
 enum-told-10 : tie.Need-enum-told-10
 enum-told-10 c = search needs
@@ -109,31 +81,31 @@ enum-told-13 : tie.Need-enum-told-13
 enum-told-13 c = search needs
 
 returns : tie.Need-returns
-unfolding lineWith lineWithAfter spelling
+unfolding lineWith lineWithAfter
 returns c = search (needs, dispatch-laws)
 
 returns-2 : tie.Need-returns-2
-unfolding lineWith lineWithAfter spelling
+unfolding lineWith lineWithAfter
 returns-2 c = search (needs, dispatch-laws)
 
 returns-3 : tie.Need-returns-3
-unfolding lineWith lineWithAfter spelling
+unfolding lineWith lineWithAfter
 returns-3 c = search (needs, dispatch-laws)
 
 returns-4 : tie.Need-returns-4
-unfolding lineWith lineWithAfter spelling
+unfolding lineWith lineWithAfter
 returns-4 c = search (needs, dispatch-laws)
 
 returns-5 : tie.Need-returns-5
-unfolding lineWith lineWithAfter spelling
+unfolding lineWith lineWithAfter
 returns-5 c = search (needs, dispatch-laws)
 
 returns-6 : tie.Need-returns-6
-unfolding lineWith lineWithAfter spelling
+unfolding lineWith lineWithAfter
 returns-6 c = search (needs, dispatch-laws)
 
 returns-7 : tie.Need-returns-7
-unfolding lineWith lineWithAfter spelling
+unfolding lineWith lineWithAfter
 returns-7 c = search (needs, dispatch-laws)
 
 same-length : tie.Need-same-length
@@ -143,7 +115,7 @@ same-length-2 : tie.Need-same-length-2
 same-length-2 c = search needs
 
 returns-8 : tie.Need-returns-8
-unfolding lineWith lineWithAfter spelling
+unfolding lineWith lineWithAfter
 returns-8 c = search (needs, dispatch-laws)
 
 same-length-3 : tie.Need-same-length-3
@@ -153,11 +125,11 @@ same-length-4 : tie.Need-same-length-4
 same-length-4 c = search needs
 
 returns-9 : tie.Need-returns-9
-unfolding lineWith lineWithAfter spelling
+unfolding lineWith lineWithAfter
 returns-9 c = search (needs, dispatch-laws)
 
 returns-10 : tie.Need-returns-10
-unfolding lineWith lineWithAfter spelling
+unfolding lineWith lineWithAfter
 returns-10 c = search (needs, dispatch-laws)
 
 same-length-5 : tie.Need-same-length-5
@@ -167,15 +139,15 @@ same-length-6 : tie.Need-same-length-6
 same-length-6 c = search needs
 
 returns-11 : tie.Need-returns-11
-unfolding lineWith lineWithAfter spelling
+unfolding lineWith lineWithAfter
 returns-11 c = search (needs, dispatch-laws)
 
 returns-12 : tie.Need-returns-12
-unfolding lineWith lineWithAfter spelling
+unfolding lineWith lineWithAfter
 returns-12 c = search (needs, dispatch-laws)
 
 returns-13 : tie.Need-returns-13
-unfolding lineWith lineWithAfter spelling
+unfolding lineWith lineWithAfter
 returns-13 c = search (needs, dispatch-laws)
 
 pub read-with-spec : {M : Type 1} → statement M
@@ -185,30 +157,21 @@ read-with-spec =
     enum-told
     format-requires
     enum-told-2
-    slice-aggregate-counting-line
-    counting-line-requires
+    actions-requires
     enum-told-3
-    slice-aggregate-counting-line-2
-    cast-counting-line
-    counting-line-requires-2
+    variables-requires
     enum-told-4
     variable-requires
     enum-told-5
-    slice-aggregate-counting-line-3
-    cast-counting-line-2
-    counting-line-requires-3
+    automata-requires
     enum-told-6
     sync-requires
     enum-told-7
-    slice-aggregate-counting-line-4
-    cast-counting-line-3
-    counting-line-requires-4
+    locations-requires
     enum-told-8
-    slice-aggregate-location
-    location-requires
+    init-requires
     enum-told-9
-    slice-aggregate-location-2
-    location-requires-2
+    inv-requires
     enum-told-10
     edges-requires
     enum-told-11

@@ -1,5 +1,5 @@
 -- `first` meets its contract: each way out is a law of NodesLaws.
-use Rattle.read_nodes.proofs.NodesLaws.{first-laws}
+use Rattle.text_bytes.proofs.Places.{first-laws}
 use borrow.Author.Needs.{needs}
 use Rattle.read_nodes.proofs.first.Statement.{statement}
 use Rattle.read_nodes.proofs.first.Tie as tie

@@ -5,10 +5,9 @@ use Prim.Native.Nat.{_+_, _-_, _≤_}
 use mathlib.Core.Path.{_≡_}
 use lib.ListN.{length}
 use Rattle.format.specs.Bytes.{space}
-use Rattle.read_composition.specs.Parts.{partsFrom}
 use Rattle.read_composition.specs.Token.{kindsOf}
 use Rattle.read_composition.specs.Read.{outcome, walk}
-use Rattle.read_composition.proofs.PartsLaws.{parts-laws}
+use Rattle.text_bytes.proofs.Parting.{partsFrom, turn-laws}
 use Rattle.read_composition.proofs.ComposeLaws.{Within}
 use borrow.Author.Needs.{needs}
 use Rattle.read_composition.proofs.compose.read.Statement.{statement}
@@ -28,13 +27,13 @@ find-requires : tie.Need-find-requires Inv-loop μ-loop
 find-requires c κs = search needs
 
 sub-kind-of : tie.Need-sub-kind-of Inv-loop μ-loop
-sub-kind-of c = search (needs, parts-laws)
+sub-kind-of c = search (needs, turn-laws)
 
 part-kind-of-start : tie.Need-part-kind-of-start Inv-loop μ-loop
-part-kind-of-start c = search (needs, parts-laws)
+part-kind-of-start c = search (needs, turn-laws)
 
 part-kind-of-end : tie.Need-part-kind-of-end Inv-loop μ-loop
-part-kind-of-end c = search (needs, parts-laws)
+part-kind-of-end c = search (needs, turn-laws)
 
 kind-of-requires : tie.Need-kind-of-requires Inv-loop μ-loop
 kind-of-requires c κs = search needs
@@ -61,7 +60,7 @@ add-at : tie.Need-add-at Inv-loop μ-loop
 add-at c = search needs
 
 loop-less : tie.Need-loop-less Inv-loop μ-loop
-loop-less c = search (needs, parts-laws)
+loop-less c = search (needs, turn-laws)
 
 loop-again : tie.Need-loop-again Inv-loop μ-loop
 loop-again c = search (needs, read-laws)

@@ -5,8 +5,7 @@ use Prim.Native.Nat.{_+_, _-_, _≤_}
 use mathlib.Core.Path.{_≡_}
 use lib.ListN.{length}
 use Rattle.format.specs.Bytes.{parts, comma}
-use Rattle.read_composition.proofs.PartsLaws.{parts-laws}
-use Rattle.read_composition.specs.Parts.{partsFrom}
+use Rattle.text_bytes.proofs.Parting.{partsFrom, turn-laws}
 use Rattle.read_composition.specs.List.{listOf, listFrom}
 use borrow.Author.Needs.{needs}
 use Rattle.read_composition.proofs.list.list_of.Statement.{statement}
@@ -26,10 +25,10 @@ find-requires : tie.Need-find-requires Inv-loop μ-loop
 find-requires c κs = search needs
 
 sub-natural : tie.Need-sub-natural Inv-loop μ-loop
-sub-natural c = search (needs, parts-laws)
+sub-natural c = search (needs, turn-laws)
 
 part-natural-start : tie.Need-part-natural-start Inv-loop μ-loop
-part-natural-start c = search (needs, parts-laws)
+part-natural-start c = search (needs, turn-laws)
 
 part-natural-end : tie.Need-part-natural-end Inv-loop μ-loop
 part-natural-end c = search needs
@@ -53,7 +52,7 @@ add-at : tie.Need-add-at Inv-loop μ-loop
 add-at c = search needs
 
 loop-less : tie.Need-loop-less Inv-loop μ-loop
-loop-less c = search (needs, parts-laws)
+loop-less c = search (needs, turn-laws)
 
 loop-again : tie.Need-loop-again Inv-loop μ-loop
 loop-again c = search (needs, list-laws)

@@ -7,9 +7,8 @@ use mathlib.Core.Bool.{false}
 use lib.ListN.{length}
 use Rattle.format.specs.Bytes.{space}
 use Rattle.format.specs.Tokens.{tokens}
-use Rattle.read_composition.specs.Parts.{partsFrom}
 use Rattle.read_composition.specs.Lists.{listsKept}
-use Rattle.read_composition.proofs.PartsLaws.{parts-laws}
+use Rattle.text_bytes.proofs.Parting.{partsFrom, turn-laws}
 use borrow.Author.Needs.{needs}
 use Rattle.read_composition.proofs.lists.lists_sound.Statement.{statement}
 use Rattle.read_composition.proofs.lists.lists_sound.Tie as tie
@@ -28,13 +27,13 @@ find-requires : tie.Need-find-requires Inv-loop μ-loop
 find-requires c κs = search needs
 
 sub-list-kept : tie.Need-sub-list-kept Inv-loop μ-loop
-sub-list-kept c = search (needs, parts-laws)
+sub-list-kept c = search (needs, turn-laws)
 
 part-list-kept-start : tie.Need-part-list-kept-start Inv-loop μ-loop
-part-list-kept-start c = search (needs, parts-laws)
+part-list-kept-start c = search (needs, turn-laws)
 
 part-list-kept-end : tie.Need-part-list-kept-end Inv-loop μ-loop
-part-list-kept-end c = search (needs, parts-laws)
+part-list-kept-end c = search (needs, turn-laws)
 
 list-kept-requires : tie.Need-list-kept-requires Inv-loop μ-loop
 list-kept-requires c κs = search needs
@@ -43,13 +42,13 @@ returns : tie.Need-returns Inv-loop μ-loop
 returns c = search (needs, lists-laws)
 
 sub-says-syn : tie.Need-sub-says-syn Inv-loop μ-loop
-sub-says-syn c = search (needs, parts-laws)
+sub-says-syn c = search (needs, turn-laws)
 
 part-says-syn-start : tie.Need-part-says-syn-start Inv-loop μ-loop
-part-says-syn-start c = search (needs, parts-laws)
+part-says-syn-start c = search (needs, turn-laws)
 
 part-says-syn-end : tie.Need-part-says-syn-end Inv-loop μ-loop
-part-says-syn-end c = search (needs, parts-laws)
+part-says-syn-end c = search (needs, turn-laws)
 
 says-syn-requires : tie.Need-says-syn-requires Inv-loop μ-loop
 says-syn-requires c κs = search needs
@@ -58,7 +57,7 @@ add-at : tie.Need-add-at Inv-loop μ-loop
 add-at c = search needs
 
 loop-less : tie.Need-loop-less Inv-loop μ-loop
-loop-less c = search (needs, parts-laws)
+loop-less c = search (needs, turn-laws)
 
 loop-again : tie.Need-loop-again Inv-loop μ-loop
 loop-again c = search (needs, lists-laws)

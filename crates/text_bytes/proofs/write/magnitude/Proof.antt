@@ -1,6 +1,6 @@
 use mir.Syntax.{w32}
 use mir.ValLaws.{toZ-ofZ}
-use Rattle.text_bytes.proofs.NumberLaws.{wider}
+use Rattle.arithmetic.proofs.Signed.{wider}
 use Rattle.text_bytes.proofs.WriteLaws.{turned-fits, turned-is, size-cast, plain-cast}
 use borrow.Author.Needs.{needs}
 use Rattle.text_bytes.proofs.write.magnitude.Statement.{statement}

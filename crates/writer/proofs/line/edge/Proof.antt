@@ -4,20 +4,20 @@ use borrow.Author.Needs.{needs}
 use Rattle.writer.proofs.line.edge.Statement.{statement}
 use Rattle.writer.proofs.line.edge.Tie as tie
 
-word-requires : tie.Need-word-requires
-word-requires c κs = search needs
+word32-requires : tie.Need-word32-requires
+word32-requires c κs = search needs
 
 field-requires : tie.Need-field-requires
 field-requires c κs = search needs
 
-word-requires-2 : tie.Need-word-requires-2
-word-requires-2 c κs = search needs
+word32-requires-2 : tie.Need-word32-requires-2
+word32-requires-2 c κs = search needs
 
 field-requires-2 : tie.Need-field-requires-2
 field-requires-2 c κs = search needs
 
-word-requires-3 : tie.Need-word-requires-3
-word-requires-3 c κs = search needs
+word32-requires-3 : tie.Need-word32-requires-3
+word32-requires-3 c κs = search needs
 
 field-requires-3 : tie.Need-field-requires-3
 field-requires-3 c κs = search needs
@@ -38,11 +38,11 @@ pub edge-spec : {M : Type 1} → statement M
 edge-spec =
     tie.close
     (tie.spec
-    word-requires
+    word32-requires
     field-requires
-    word-requires-2
+    word32-requires-2
     field-requires-2
-    word-requires-3
+    word32-requires-3
     field-requires-3
     rest-requires
     predicate-requires

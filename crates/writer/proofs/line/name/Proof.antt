@@ -1,6 +1,5 @@
 -- `writer::line::name` meets its contract: each way out is a law of LineLaws.
-use Rattle.writer.proofs.LineLaws.{name-laws}
-use Rattle.writer.proofs.LineLaws.{inKeys}
+use Rattle.writer.proofs.LineLaws.{inKeys, name-grew}
 use borrow.Author.Needs.{needs}
 use Rattle.writer.proofs.line.name.Statement.{statement}
 use Rattle.writer.proofs.line.name.Tie as tie
@@ -12,15 +11,14 @@ slice-aggregate-put-part : tie.Need-slice-aggregate-put-part
 slice-aggregate-put-part c = search needs
 
 put-part-requires : tie.Need-put-part-requires
-unfolding inKeys
-put-part-requires c κs = search (needs, name-laws)
+put-part-requires c κs = search needs
 
 same-length : tie.Need-same-length
 same-length c = search needs
 
 returns : tie.Need-returns
 unfolding inKeys
-returns c = search (needs, name-laws)
+returns c = search (needs, name-grew)
 
 pub name-spec : {M : Type 1} → statement M
 name-spec =

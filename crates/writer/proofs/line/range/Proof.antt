@@ -4,8 +4,8 @@ use borrow.Author.Needs.{needs}
 use Rattle.writer.proofs.line.range.Statement.{statement}
 use Rattle.writer.proofs.line.range.Tie as tie
 
-word-requires : tie.Need-word-requires
-word-requires c κs = search needs
+word32-requires : tie.Need-word32-requires
+word32-requires c κs = search needs
 
 biased-requires : tie.Need-biased-requires
 biased-requires c κs = search needs
@@ -16,8 +16,8 @@ slice-aggregate-put c = search needs
 put-requires : tie.Need-put-requires
 put-requires c κs = search needs
 
-word-requires-2 : tie.Need-word-requires-2
-word-requires-2 c κs = search needs
+word32-requires-2 : tie.Need-word32-requires-2
+word32-requires-2 c κs = search needs
 
 biased-requires-2 : tie.Need-biased-requires-2
 biased-requires-2 c κs = search needs
@@ -32,11 +32,11 @@ pub range-spec : {M : Type 1} → statement M
 range-spec =
     tie.close
     (tie.spec
-    word-requires
+    word32-requires
     biased-requires
     slice-aggregate-put
     put-requires
-    word-requires-2
+    word32-requires-2
     biased-requires-2
     same-length
     returns)

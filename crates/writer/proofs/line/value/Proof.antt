@@ -11,8 +11,8 @@ shape-of-requires c κs = search needs
 enum-told : tie.Need-enum-told
 enum-told c = search needs
 
-word-requires : tie.Need-word-requires
-word-requires c κs = search needs
+word32-requires : tie.Need-word32-requires
+word32-requires c κs = search needs
 
 number-requires : tie.Need-number-requires
 number-requires c κs = search needs
@@ -26,11 +26,11 @@ range-requires c κs = search needs
 enum-told-3 : tie.Need-enum-told-3
 enum-told-3 c = search needs
 
-word-requires-2 : tie.Need-word-requires-2
-word-requires-2 c κs = search needs
+word32-requires-2 : tie.Need-word32-requires-2
+word32-requires-2 c κs = search needs
 
-word-requires-3 : tie.Need-word-requires-3
-word-requires-3 c κs = search needs
+word32-requires-3 : tie.Need-word32-requires-3
+word32-requires-3 c κs = search needs
 
 set-requires : tie.Need-set-requires
 set-requires c κs = search needs
@@ -108,13 +108,13 @@ value-spec =
     (tie.spec
     shape-of-requires
     enum-told
-    word-requires
+    word32-requires
     number-requires
     enum-told-2
     range-requires
     enum-told-3
-    word-requires-2
-    word-requires-3
+    word32-requires-2
+    word32-requires-3
     set-requires
     enum-told-4
     predicate-requires

@@ -1,0 +1,2 @@
+pub mod Sync
+pub mod Composition

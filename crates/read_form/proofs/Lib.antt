@@ -1,0 +1,3 @@
+pub mod FieldLaws
+pub mod FormLaws
+pub mod Outcomes

@@ -1,0 +1,34 @@
+-- `value` meets its contract.
+use Rattle.text_bytes.proofs.Places.{rest-laws}
+use borrow.Author.Needs.{needs}
+use Rattle.read_form.proofs.value.Statement.{statement}
+use Rattle.read_form.proofs.value.Tie as tie
+
+slice-aggregate-result : tie.Need-slice-aggregate-result
+slice-aggregate-result c = search needs
+
+returns : tie.Need-returns
+returns c = search (needs, rest-laws)
+
+sub-result : tie.Need-sub-result
+sub-result c = search needs
+
+part-result-start : tie.Need-part-result-start
+part-result-start c = search needs
+
+part-result-end : tie.Need-part-result-end
+part-result-end c = search needs
+
+returns-2 : tie.Need-returns-2
+returns-2 c = search (needs, rest-laws)
+
+pub value-spec : {M : Type 1} → statement M
+value-spec =
+    tie.close
+    (tie.spec
+    slice-aggregate-result
+    returns
+    sub-result
+    part-result-start
+    part-result-end
+    returns-2)

@@ -1,0 +1,4 @@
+pub mod PredicateLaws
+pub mod PredicateRows
+pub mod EdgeLaws
+pub mod EdgeRows

@@ -1,0 +1,2 @@
+pub mod Predicate
+pub mod Edge

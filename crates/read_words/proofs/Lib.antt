@@ -1,0 +1,4 @@
+pub mod CodeLaws
+pub mod ReadLaws
+pub mod Agree
+pub mod Answers

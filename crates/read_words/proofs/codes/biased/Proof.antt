@@ -1,0 +1,24 @@
+use mir.Syntax.{w32}
+use mir.ValLaws.{toZ-ofZ}
+use Rattle.arithmetic.proofs.Signed.{wider}
+use Rattle.read_words.proofs.CodeLaws.{biased-least, moved-fits, moved-cast, moved-is}
+use Rattle.read_words.proofs.codes.biased.Statement.{statement}
+use Rattle.read_words.proofs.codes.biased.Tie as tie
+
+returns : tie.Need-returns
+returns c = biased-least _ (c .before .fits .z) (c .if1 .taken)
+
+cast-result : tie.Need-cast-result
+cast-result c = rw (toZ-ofZ w32 _ (c .before .fits .z)) (wider (c .before .fits .z))
+
+add-result : tie.Need-add-result
+add-result c = moved-fits _ (c .before .fits .z) (c .if1 .left)
+
+cast-result-2 : tie.Need-cast-result-2
+cast-result-2 c = moved-cast _ (c .before .fits .z) (c .if1 .left)
+
+returns-2 : tie.Need-returns-2
+returns-2 c = moved-is _ (c .before .fits .z) (c .if1 .left)
+
+pub biased-spec : {M : Type 1} → statement M
+biased-spec = tie.close (tie.spec returns cast-result add-result cast-result-2 returns-2)

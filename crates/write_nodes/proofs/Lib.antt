@@ -1,0 +1,4 @@
+pub mod GrowingLaws
+pub mod JoinLaws
+pub mod WordLaws
+pub mod NodeLaws
