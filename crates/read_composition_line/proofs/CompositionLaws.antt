@@ -17,8 +17,8 @@ use Rattle.model.proofs.Tests.{not-false}
 use Rattle.line_order.specs.declared.Counts.{Counts}
 use Rattle.line_order.specs.Due.{numberOf}
 use Rattle.line_order.specs.Counts.{nodesOf, Counted}
-use Rattle.table_check.specs.Line.{capped}
-use Rattle.table_check.proofs.NumberLines.{rises-capped}
+use Rattle.line_order.specs.Counts.{capped}
+use Rattle.line_order.proofs.CappedLaws.{rises-capped}
 use Rattle.format.specs.Bytes.{Bytes, bytes, parts, comma}
 use Rattle.format.specs.Rows.{fault, entry, field, fields, hasPred, is, numbersSound, place, theTree, treeTokens, nodesIn, treeOf, valueOf, row2, row3, row4, row5, row6, row7, row8, row9, row10, row11, row12, row13, row14, row15, row16}
 use Rattle.format.specs.Spelling.{spelling}
@@ -212,7 +212,7 @@ module _ (A : ℕ) where
           (elim w as (λ q. Bool) [ true ↦ rises A 0 (items u) | false ↦ true ])
       after u e true q =
           let z : sound (bytes "syn") t ≡ true = ap (λ (b : Bytes). sound b t) (sym (same-is before (bytes "syn") q)) ∙ h in
-          rises-capped [] A 0 (items u) (few-items (parts comma u) (syn-sound t u e z))
+          rises-capped A 0 (items u) (few-items (parts comma u) (syn-sound t u e z))
       after u e false q = refl
 
       go : (x : Numeral) → numeral t ≡ x → listSound (capped A) before t ≡ listSound A before t

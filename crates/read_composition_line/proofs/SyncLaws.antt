@@ -16,8 +16,8 @@ use Rattle.model.proofs.Tests.{and-intro, not-false}
 use Rattle.line_order.specs.declared.Counts.{Counts}
 use Rattle.line_order.specs.Due.{numberOf}
 use Rattle.line_order.specs.Counts.{nodesOf, Counted}
-use Rattle.table_check.specs.Line.{capped}
-use Rattle.table_check.proofs.NumberLines.{rises-capped}
+use Rattle.line_order.specs.Counts.{capped}
+use Rattle.line_order.proofs.CappedLaws.{rises-capped}
 use Rattle.format.specs.Bytes.{Bytes, bytes}
 use Rattle.format.specs.Number.{within, naturalOf}
 use Rattle.format.specs.Rows.{fault, entry, field, fields, hasPred, is, listItems, numbersSound, place, syncList, valueOf, row2, row3, row4, row5, row6, row7, row8, row9, row10, row11, row12, row13, row14, row15, row16}
@@ -131,7 +131,7 @@ module _ (r : Reading) (c : Counts) (counted : Counted r c) (s : Bytes) (ended :
   rising-by : inRow3 ≡ true → syncListed s c .rising ≡ rises (r .model .actions) 0 (map naturalOf itemsOf)
   unfolding syncListed
   rising-by h =
-      list-rising (capped (c .actions)) itemsOf h ∙ rises-capped [] (c .actions) 0 (map naturalOf itemsOf) (few-items itemsOf h) ∙
+      list-rising (capped (c .actions)) itemsOf h ∙ rises-capped (c .actions) 0 (map naturalOf itemsOf) (few-items itemsOf h) ∙
       ap (λ (A : ℕ). rises A 0 (map naturalOf itemsOf)) (counted .actions)
 
   sound-by : syncListed s c .sound ≡ inRow3

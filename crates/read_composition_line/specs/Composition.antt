@@ -7,7 +7,7 @@ use mathlib.Core.Option.{Option, none}
 use lib.ListN.{length, take, replicate}
 use Rattle.model.specs.Limits.{broken, isTooLarge}
 use Rattle.line_order.specs.declared.Counts.{Counts}
-use Rattle.table_check.specs.Line.{capped}
+use Rattle.line_order.specs.Counts.{capped}
 use Rattle.format.specs.Bytes.{Bytes, bytes}
 use Rattle.format.specs.Tokens.{tokens, sounds}
 use Rattle.read_composition.specs.declared.compose.Composition.{Composition}

@@ -6,7 +6,7 @@ use mathlib.Core.List.{List, [], _∷_}
 use mathlib.Core.Option.{Option, none}
 use Rattle.model.specs.Limits.{broken}
 use Rattle.line_order.specs.declared.Counts.{Counts}
-use Rattle.table_check.specs.Line.{capped}
+use Rattle.line_order.specs.Counts.{capped}
 use Rattle.format.specs.Bytes.{Bytes, bytes}
 use Rattle.format.specs.Rows.{listItems}
 use Rattle.read_composition.specs.declared.list.Listed.{Listed}

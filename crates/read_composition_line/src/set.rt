@@ -4,19 +4,7 @@ use model::Model;
 use read_form::LineRead;
 use table_append::append_one;
 ghost use mathlib.Core.Path.{_≡_};
-ghost use Rattle.table_check.specs.Line.{capped};
 ghost use Rattle.read_composition_line.specs.Sync.{syncRead, syncAfter};
-
-// A, or 63: no list holds more.
-pub fn cap(actions: usize) -> u32
-    ensures { λ r. ⌜ r ≡ capped actions ⌝ }
-{
-    if actions < Model::LAST_ACTION {
-        actions as u32
-    } else {
-        Model::ACTIONS
-    }
-}
 
 // Rows 2, 3 and 5; then the two words of the set.
 pub fn sync(
@@ -33,7 +21,7 @@ pub fn sync(
         return LineRead::Fault(2);
     }
     let a = counts.actions;
-    let list = read_composition::sync_list(read_form::value(line, b"sync="), cap(a));
+    let list = read_composition::sync_list(read_form::value(line, b"sync="), line_order::capped(a));
     if !list.sound {
         return LineRead::Fault(3);
     }

@@ -1,5 +1,4 @@
 // The line `compose=C`, the tree of the automata.
-use crate::set::cap;
 use line_order::Counts;
 use model::Model;
 use model::Tree;
@@ -61,7 +60,7 @@ pub fn composition(
         return LineRead::Fault(3);
     }
     let a = counts.actions;
-    if !read_composition::lists_sound(part, cap(a)) {
+    if !read_composition::lists_sound(part, line_order::capped(a)) {
         return LineRead::Fault(5);
     }
     let n = counts.automata;

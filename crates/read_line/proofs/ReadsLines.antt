@@ -11,7 +11,7 @@ use Rattle.model.specs.Table.{lineWords}
 use Rattle.line_order.specs.declared.Counts.{Counts}
 use Rattle.line_order.specs.Due.{codeOf, numberOf}
 use Rattle.line_order.specs.Counts.{nodesOf, Counted}
-use Rattle.table_check.specs.Scan.{Declared}
+use Rattle.table_line.specs.Exact.{Declared}
 use Rattle.format.specs.Bytes.{Bytes}
 use Rattle.format.specs.Rows.{fault, entry, theRange}
 use Rattle.model.specs.Predicate.{range}

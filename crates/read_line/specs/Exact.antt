@@ -13,7 +13,7 @@ use Rattle.line_order.specs.declared.Key.{Key}
 use Rattle.line_order.specs.declared.Counts.{Counts}
 use Rattle.line_order.specs.Due.{codeOf, numberOf}
 use Rattle.line_order.specs.Counts.{nodesOf, Counted}
-use Rattle.table_check.specs.Scan.{Declared}
+use Rattle.table_line.specs.Exact.{Declared}
 use Rattle.format.specs.Bytes.{Bytes}
 use Rattle.format.specs.Rows.{fault, entry}
 use Rattle.read_form.specs.declared.LineRead.{LineRead}

@@ -28,7 +28,7 @@ fn extent(nodes: &[u32], ranges: &[u32], before: usize) -> Nodes
         return Nodes::Unsound(10);
     }
     let n = nodes.len();
-    if !table_check::fits(before, n, Model::NODES) {
+    if !arithmetic::fits(before, n, Model::NODES) {
         return Nodes::Unsound(11);
     }
     Nodes::Are(n)

@@ -17,7 +17,7 @@ use Rattle.model.proofs.Decode.{unbroken}
 use Rattle.line_order.specs.declared.Counts.{Counts}
 use Rattle.line_order.specs.Due.{numberOf}
 use Rattle.line_order.specs.Counts.{nodesOf, Counted}
-use Rattle.table_check.specs.Scan.{Declared}
+use Rattle.table_line.specs.Exact.{Declared}
 use Rattle.format.specs.Bytes.{Bytes}
 use Rattle.format.specs.Number.{within, naturalOf}
 use Rattle.format.specs.Rows.{Line, place, is, fields, field, valueOf, hasPred, predTokens, wordsIn, predOf, thePred, row2, row3, row4, row5, row6, row7, row8, row9, row10, row11, row12, row13, row14, row15, row16, numbersSound, fault, entry}

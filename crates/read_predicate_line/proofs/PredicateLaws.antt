@@ -9,7 +9,7 @@ use lib.ListN.{length, take, length-drop}
 use Rattle.model.specs.Bounds.{maxNodes}
 use Rattle.model.specs.Limits.{broken}
 use Rattle.line_order.specs.declared.Counts.{Counts}
-use Rattle.table_check.specs.Line.{rangesIn}
+use Rattle.table_line.specs.Line.{rangesIn}
 use Rattle.format.specs.Bytes.{Bytes}
 use Rattle.read_nodes.specs.declared.Nodes.{Nodes}
 use Rattle.read_nodes.specs.declared.Nodes.the-variants.{Are, Unsound, Full}

@@ -18,9 +18,9 @@ use Rattle.model.proofs.Decode.{unbroken}
 use Rattle.line_order.specs.declared.Counts.{Counts}
 use Rattle.line_order.specs.Due.{numberOf}
 use Rattle.line_order.specs.Counts.{nodesOf, Counted}
-use Rattle.table_check.specs.Line.{rangesIn}
-use Rattle.table_check.specs.Scan.{Declared}
-use Rattle.table_check.proofs.PredicateLines.{declared-are}
+use Rattle.table_line.specs.Line.{rangesIn}
+use Rattle.table_line.specs.Exact.{Declared}
+use Rattle.table_line.proofs.PredicateLines.{declared-are}
 use Rattle.format.specs.Bytes.{Bytes, begins, parts, comma}
 use Rattle.format.specs.Rows.{Line, place, is, fields, field, valueOf, hasPred, predTokens, wordsIn, predOf, thePred, row2, row3, row4, row5, row6, row7, row8, row9, row10, row11, row12, row13, row14, row15, row16, numbersSound, fault, entry}
 use Rattle.format.specs.Spelling.{spelling}

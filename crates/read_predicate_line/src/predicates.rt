@@ -32,7 +32,7 @@ pub(crate) fn predicate(
 {
     let v = counts.variables;
     let before = counts.nodes;
-    let ranges = table_check::ranges(words, v);
+    let ranges = table_line::ranges(words, v);
     read_nodes::read(part, old, v, ranges, before, nodes, sorts)
 }
 

@@ -27,7 +27,8 @@ use Rattle.line_order.specs.Counts.{mostCount, nodesOf, Counted}
 use Rattle.line_order.proofs.KeyLaws.{named, no-end}
 use Rattle.line_order.proofs.DueLaws.{due-first, due-key, due-line, due-end, end-due, due-after}
 use Rattle.table_check.specs.declared.Scan.{Scan}
-use Rattle.table_check.specs.Scan.{scanFirst, scanAfter, Declared}
+use Rattle.table_line.specs.Exact.{Declared}
+use Rattle.table_check.specs.Scan.{scanFirst, scanAfter}
 use Rattle.table_check.proofs.ScanLaws.{Placed, Going, going-first, going-after}
 use Rattle.format.specs.Bytes.{Bytes, LF}
 use Rattle.format.specs.Rows.{Line, row2, fault, entry}

@@ -20,8 +20,8 @@ slice-aggregate-value c = search needs
 value-requires : tie.Need-value-requires
 value-requires c κs = search needs
 
-cap-requires : tie.Need-cap-requires
-cap-requires c κs = search needs
+capped-requires : tie.Need-cap-requires
+capped-requires c κs = search needs
 
 sync-list-requires : tie.Need-sync-list-requires
 sync-list-requires c κs = search needs
@@ -50,7 +50,7 @@ sync-spec =
     returns
     slice-aggregate-value
     value-requires
-    cap-requires
+    capped-requires
     sync-list-requires
     returns-2
     returns-3

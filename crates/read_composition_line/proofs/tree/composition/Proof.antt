@@ -26,8 +26,8 @@ numbers-sound-requires c κs = search needs
 returns-2 : tie.Need-returns-2
 returns-2 c = search (needs, composition-laws, not-true, not-false)
 
-cap-requires : tie.Need-cap-requires
-cap-requires c κs = search needs
+capped-requires : tie.Need-cap-requires
+capped-requires c κs = search needs
 
 lists-sound-requires : tie.Need-lists-sound-requires
 lists-sound-requires c κs = search needs
@@ -52,7 +52,7 @@ composition-spec =
     value-requires
     numbers-sound-requires
     returns-2
-    cap-requires
+    capped-requires
     lists-sound-requires
     returns-3
     tree-requires
