@@ -1,4 +1,5 @@
-// The vocabulary of the sheets: the limits that stand with their types, and what a check says. The definitions are in specs/.
+// The vocabulary of the sheets: the limits that stand with their types, and what a check says. The definitions are in
+// specs/.
 
 // What a sheet says, within these limits (specs/Bounds.antt).
 pub struct Model {}

@@ -20,7 +20,7 @@ slice-aggregate-value c = search needs
 value-requires : tie.Need-value-requires
 value-requires c κs = search needs
 
-capped-requires : tie.Need-cap-requires
+capped-requires : tie.Need-capped-requires
 capped-requires c κs = search needs
 
 sync-list-requires : tie.Need-sync-list-requires

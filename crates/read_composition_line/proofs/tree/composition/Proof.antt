@@ -26,7 +26,7 @@ numbers-sound-requires c κs = search needs
 returns-2 : tie.Need-returns-2
 returns-2 c = search (needs, composition-laws, not-true, not-false)
 
-capped-requires : tie.Need-cap-requires
+capped-requires : tie.Need-capped-requires
 capped-requires c κs = search needs
 
 lists-sound-requires : tie.Need-lists-sound-requires
