@@ -2,12 +2,12 @@
 use Prim.Native.Nat.{ℕ, _+_, _≤_, _<_}
 use mathlib.Core.Path.{_≡_, refl, sym, _∙_, ap}
 use mathlib.Core.Bool.{Bool, true, false, not, _&&_}
-use mathlib.Core.List.{List, [], _∷_, _++_, map}
-use mathlib.Core.Option.{Option, none, some}
+use mathlib.Core.List.{List, [], _++_, map}
+use mathlib.Core.Option.{Option, none}
 use native.Mathlib.Omega.{arith}
-use borrow.Author.Tests.{le-leb, lt-leb, leb-true, leb-false, not-false, not-true}
+use borrow.Author.Tests.{le-leb, lt-leb, not-false, not-true}
 use lib.ListN.{length, take, drop}
-use lib.Seq.{take-all, take-at, take-length, length-take-le}
+use lib.Seq.{take-all, take-at, take-length}
 use lib.Dec.{leb}
 use Rattle.model.specs.Basic.{lacks}
 use Rattle.model.specs.Bounds.{maxNodes}
@@ -15,7 +15,6 @@ use Rattle.model.specs.Predicate.{namesOutside, namesNew}
 use Rattle.model.specs.Parse.{readPred}
 use Rattle.model.specs.Limits.{broken}
 use Rattle.model.specs.Table.{wordOf}
-use Rattle.model.proofs.Decode.{unbroken}
 use Rattle.table_predicate.specs.declared.Walked.{Walked}
 use Rattle.table_predicate.specs.Walk.{walkAt}
 use Rattle.format.specs.Tokens.{tokens, sounds}
@@ -24,7 +23,7 @@ use Rattle.text_bytes.proofs.FindLaws.{gap-within}
 use Rattle.read_words.specs.Codes.{strayCode}
 use Rattle.read_words.specs.declared.reading.Words.{Words}
 use Rattle.read_words.specs.declared.reading.Words.the-variants as Words
-use Rattle.read_words.specs.Read.{answer, count, written, Reads}
+use Rattle.read_words.specs.Read.{count, written, Reads}
 use Rattle.read_words.proofs.Answers.{said-read}
 use Rattle.read_nodes.specs.declared.Nodes.{Nodes}
 use Rattle.read_nodes.specs.declared.Nodes.the-variants.{Are, Unsound, Full}

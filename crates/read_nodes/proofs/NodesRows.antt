@@ -1,11 +1,11 @@
 -- The answer by the rows of the text: for any bytes, with a place for every two of them.
 use Prim.Native.Nat.{ℕ, suc, _+_, _*_, _≤_}
-use mathlib.Core.Path.{_≡_, refl, sym, _∙_, ap, ap₂}
+use mathlib.Core.Path.{_≡_, refl, sym, _∙_, ap}
 use mathlib.Core.Bool.{Bool, true, false, not, _&&_}
-use mathlib.Core.List.{List, [], _∷_, map, List·Memᴰ}
+use mathlib.Core.List.{List, [], map, List·Memᴰ}
 use mathlib.Core.Option.{Option, none, some}
 use native.Mathlib.Omega.{arith}
-use borrow.Author.Tests.{le-leb, leb-true, leb-false, lt-ltb, le-ltb, ltb-true, ltb-false, not-true, not-false}
+use borrow.Author.Tests.{le-leb, leb-true, leb-false, lt-ltb, le-ltb, ltb-true, ltb-false, not-false}
 use lib.ListN.{length, take, drop, replicate, length-append, length-take, length-drop, length-map, length-replicate}
 use lib.Seq.{take-all}
 use lib.Dec.{leb, ltb}
@@ -16,7 +16,7 @@ use Rattle.model.specs.Predicate.{Pred, Word, Range, all, words, nodeCount, dep
 use Rattle.model.specs.Parse.{readPred}
 use Rattle.model.specs.Lawful.{LawfulRange}
 use Rattle.model.specs.Limits.{broken, isTooDeep, exceedsSpan, passesNodes}
-use Rattle.model.specs.Table.{code, wordOf, predWords}
+use Rattle.model.specs.Table.{code, wordOf}
 use Rattle.model.proofs.Decode.{unbroken}
 use Rattle.model.proofs.Parsing.{words-of-read}
 use Rattle.table_predicate.specs.declared.Walked.{Walked}

@@ -5,7 +5,7 @@ use mathlib.Core.Bool.{Bool, true, false, not}
 use mathlib.Core.List.{List, [], _∷_}
 use mathlib.Core.Option.{Option, none, some}
 use native.Mathlib.Omega.{arith}
-use lib.ListN.{length, take, drop, length-drop}
+use lib.ListN.{length, take, length-drop}
 use Rattle.model.specs.Bounds.{maxNodes}
 use Rattle.model.specs.Limits.{broken}
 use Rattle.line_order.specs.declared.Counts.{Counts}

@@ -1,7 +1,7 @@
 -- Laws of the numbers: what each way out of the code shows.
 use Prim.Native.Nat.{ℕ, zero, suc, _+_, _-_, _*_, _^_, _≤_, _<_}
 use mathlib.Core.Path.{_≡_, refl, sym, _∙_, ap}
-use mathlib.Core.Bool.{Bool, true, false, _&&_, and-false}
+use mathlib.Core.Bool.{Bool, true, false, and-false}
 use mathlib.Core.List.{List, [], _∷_}
 use mathlib.Core.Logic.{_⊎_, inl, inr, ⊎-elim}
 use mathlib.Core.Option.{Option, none, some}
@@ -9,14 +9,13 @@ use native.Mathlib.Omega.{arith}
 use borrow.Author.Tests.{eqb-true, lt-ltb, le-leb, lt-leb, eq-eqb, ne-eqb, ltb-true, ltb-false, leb-true, leb-false}
 use lib.ListN.{length, getD, take, drop}
 use lib.Seq.{drop-length}
-use lib.Dec.{leb, ltb, eqb}
+use lib.Dec.{leb, eqb}
 use lib.IntN.{ℤ, pos, negsuc, _-ℤ_}
 use lib.Signed.{ltZ, leZ}
 use mir.Syntax.{w32, w64}
 use mir.Val.{SFits, Fits, toZ, ofZ}
 use mir.ValLaws.{toZ-ofZ, toZ-pos}
 use Rattle.model.specs.Basic.{between, orElse}
-use Rattle.model.proofs.Tests.{and-left, and-right, and-intro}
 use Rattle.format.specs.Number.{digit, digits, natural, number, negative, unsigned, within, isBetween, naturalOf, integerOf}
 use Rattle.format.proofs.NumberLaws.{is-digit, false-true}
 use Rattle.text_bytes.proofs.Places.{at-place, take-rest}
