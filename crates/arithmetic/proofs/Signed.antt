@@ -146,7 +146,7 @@ less-bias n = go (leb bias n) refl
     go true e = rw (le-ltb n bias (leb-true bias n e))
     go false e = rw (lt-ltb n bias (leb-false bias n e))
 
-half : {n : ℕ} → Fits w32 n → n < 2 ^ 63
+pub half : {n : ℕ} → Fits w32 n → n < 2 ^ 63
 half f = omega (arith, f .fits)
 
 -- the difference fits, and reads back

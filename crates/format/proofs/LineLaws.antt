@@ -90,7 +90,7 @@ list-1 [] h = absurd (omega arith)
 list-1 (a ∷ []) h = refl
 list-1 (a ∷ b ∷ l) h = absurd (omega arith)
 
-list-2 : (l : List Bytes) → length l ≡ 2 → l ≡ getD l 0 [] ∷ getD l 1 [] ∷ []
+pub list-2 : (l : List Bytes) → length l ≡ 2 → l ≡ getD l 0 [] ∷ getD l 1 [] ∷ []
 list-2 [] h = absurd (omega arith)
 list-2 (a ∷ []) h = absurd (omega arith)
 list-2 (a ∷ b ∷ []) h = refl

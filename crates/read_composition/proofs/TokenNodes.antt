@@ -24,7 +24,6 @@ use Rattle.format.proofs.ReadLaws.{bare-is, lettered-is}
 use Rattle.format.proofs.TokenLaws.{Plain, judged-plain, sound-lettered}
 use Rattle.format.proofs.TreeRead.{numeral-a}
 use Rattle.format.proofs.TreeText.{node-case, syn-case}
-use Rattle.text_numbers.specs.declared.answer.Natural.the-variants as N
 use Rattle.text_numbers.specs.Number.{naturalIn, upTo}
 use Rattle.text_numbers.proofs.NumberLaws.{natural-in, natural-none}
 use Rattle.read_composition.specs.declared.token.Kind.{Kind}

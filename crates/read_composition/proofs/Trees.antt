@@ -13,8 +13,6 @@ use lib.Dec.{eqb}
 use Rattle.model.specs.Bounds.{maxTreeNodes}
 use Rattle.model.specs.Composition.{Node, parNode, synNode, leafNode, strayNode, nodes, leaves}
 use Rattle.model.specs.Table.{nodeWords, setWords}
-use Rattle.format.specs.Tokens.{node}
-use Rattle.format.proofs.TreeText.{one}
 use Rattle.read_composition.specs.declared.token.Kind.{Kind}
 use Rattle.read_composition.specs.declared.token.Kind.the-variants.{Par, Leaf, Stray}
 use Rattle.read_composition.specs.declared.compose.Walk.{Walk}

@@ -24,7 +24,6 @@ use Rattle.format.specs.Rows.{fault, entry, field, fields, hasPred, is, numbers
 use Rattle.format.specs.Spelling.{spelling}
 use Rattle.format.specs.Tokens.{Numeral, bare, lettered, unjudged, numeral, items, tokens, sound, sounds, listSound, listsSound, readNodes}
 use Rattle.format.proofs.BytesLaws.{same-is}
-use Rattle.format.proofs.LineLaws.{broken-inv}
 use Rattle.format.proofs.ReadLaws.{sounds-inv}
 use Rattle.read_composition.specs.declared.compose.Composition.{Composition}
 use Rattle.read_composition.specs.Lists.{listsKept}
@@ -36,10 +35,11 @@ use Rattle.read_form.specs.declared.LineRead.the-variants.{Sound, Fault}
 use Rattle.table_append.specs.Append.{nextPlace, put}
 use Rattle.read_form.specs.Form.{lineOf, valueAfter, misformed, fieldsOf}
 use Rattle.read_form.specs.Outcome.{answered, written}
+use Rattle.model.proofs.Decode.{unbroken, is-broken, not-broken}
 use Rattle.read_composition_line.specs.Composition.{blank, treeIn, treeFault, treeWords, treeRead, treeAfter, partOf, composeFault, composeRead, composeAfter}
 use Rattle.read_form.proofs.FormLaws.{row2-by}
 use Rattle.table_append.proofs.Joined.{next-then, put-then}
-use Rattle.read_form.proofs.Outcomes.{same-row, broken-hit, broken-past, answered-fault, answered-sound, written-fault, written-sound}
+use Rattle.read_form.proofs.Outcomes.{same-row, answered-fault, answered-sound, written-fault, written-sound}
 use Rattle.read_composition_line.proofs.SyncLaws.{few-items}
 
 -- rows 13, 14 and 16 by the answer of `read_composition::read`
@@ -64,7 +64,7 @@ module _ (N : ℕ) (s : Bytes) (words : List ℕ) (at : ℕ) where
 
     module _ (f : x .formed ≡ false) where
       formed-fault : treeFault N s ≡ some 13
-      formed-fault = rows ∙ broken-hit 13 _ _ (ap not f)
+      formed-fault = rows ∙ is-broken 13 _ _ (ap not f)
 
       pub formed-read : Fault 13 ≡ treeRead N s at
       formed-read = tree-read-fault 13 formed-fault
@@ -75,7 +75,7 @@ module _ (N : ℕ) (s : Bytes) (words : List ℕ) (at : ℕ) where
     module _ (f : x .formed ≡ true) where
       module _ (g : x .ordered ≡ false) where
         ordered-fault : treeFault N s ≡ some 14
-        ordered-fault = rows ∙ broken-past 13 _ _ (ap not f) ∙ broken-hit 14 _ _ (ap not g)
+        ordered-fault = rows ∙ not-broken 13 _ _ (ap not f) ∙ is-broken 14 _ _ (ap not g)
 
         pub ordered-read : Fault 14 ≡ treeRead N s at
         ordered-read = tree-read-fault 14 ordered-fault
@@ -87,7 +87,7 @@ module _ (N : ℕ) (s : Bytes) (words : List ℕ) (at : ℕ) where
         module _ (h : 64 < x .nodes) where
           large-fault : treeFault N s ≡ some 16
           unfolding isTooLarge
-          large-fault = rows ∙ broken-past 13 _ _ (ap not f) ∙ broken-past 14 _ _ (ap not g) ∙ broken-hit 16 _ none (lt-ltb 64 (x .nodes) h)
+          large-fault = rows ∙ not-broken 13 _ _ (ap not f) ∙ not-broken 14 _ _ (ap not g) ∙ is-broken 16 _ none (lt-ltb 64 (x .nodes) h)
 
           pub large-read : Fault 16 ≡ treeRead N s at
           large-read = tree-read-fault 16 large-fault
@@ -98,7 +98,7 @@ module _ (N : ℕ) (s : Bytes) (words : List ℕ) (at : ℕ) where
         module _ (h : x .nodes ≤ 64) (p : ℕ) (hp : p ≡ nextPlace at 1) where
           none-broken : treeFault N s ≡ none
           unfolding isTooLarge
-          none-broken = rows ∙ broken-past 13 _ _ (ap not f) ∙ broken-past 14 _ _ (ap not g) ∙ broken-past 16 _ none (le-ltb 64 (x .nodes) h)
+          none-broken = rows ∙ not-broken 13 _ _ (ap not f) ∙ not-broken 14 _ _ (ap not g) ∙ not-broken 16 _ none (le-ltb 64 (x .nodes) h)
 
           its-words : treeWords N s ≡ x .nodes ∷ take (x .next) new
           unfolding treeWords treeIn
@@ -142,7 +142,7 @@ module _ (s : Bytes) (ended : Bool) (c : Counts) (words : List ℕ) (at : ℕ) w
     module _ (f : m ≡ true) where
       form-fault : composeFault s ended c ≡ some 2
       unfolding composeFault
-      form-fault = broken-hit 2 _ _ (sym hm ∙ f)
+      form-fault = is-broken 2 _ _ (sym hm ∙ f)
 
       pub form-read : Fault 2 ≡ composeRead s ended c at
       form-read = line-read-fault 2 form-fault
@@ -157,7 +157,7 @@ module _ (s : Bytes) (ended : Bool) (c : Counts) (words : List ℕ) (at : ℕ) w
       module _ (g : n ≡ false) where
         numbers-fault : composeFault s ended c ≡ some 3
         unfolding composeFault
-        numbers-fault = broken-past 2 _ _ (sym hm ∙ f) ∙ broken-hit 3 _ _ (ap not (numbers-by ∙ g))
+        numbers-fault = not-broken 2 _ _ (sym hm ∙ f) ∙ is-broken 3 _ _ (ap not (numbers-by ∙ g))
 
         pub numbers-read : Fault 3 ≡ composeRead s ended c at
         numbers-read = line-read-fault 3 numbers-fault
@@ -172,7 +172,7 @@ module _ (s : Bytes) (ended : Bool) (c : Counts) (words : List ℕ) (at : ℕ) w
         module _ (h : l ≡ false) where
           lists-fault : composeFault s ended c ≡ some 5
           unfolding composeFault
-          lists-fault = broken-past 2 _ _ (sym hm ∙ f) ∙ broken-past 3 _ _ (ap not (numbers-by ∙ g)) ∙ broken-hit 5 _ _ (ap not (lists-by ∙ h))
+          lists-fault = not-broken 2 _ _ (sym hm ∙ f) ∙ not-broken 3 _ _ (ap not (numbers-by ∙ g)) ∙ is-broken 5 _ _ (ap not (lists-by ∙ h))
 
           pub lists-read : Fault 5 ≡ composeRead s ended c at
           lists-read = line-read-fault 5 lists-fault
@@ -184,7 +184,7 @@ module _ (s : Bytes) (ended : Bool) (c : Counts) (words : List ℕ) (at : ℕ) w
           rest-fault : composeFault s ended c ≡ treeFault (c .automata) v
           unfolding composeFault
           rest-fault =
-              broken-past 2 _ _ (sym hm ∙ f) ∙ broken-past 3 _ _ (ap not (numbers-by ∙ g)) ∙ broken-past 5 _ _ (ap not (lists-by ∙ h)) ∙
+              not-broken 2 _ _ (sym hm ∙ f) ∙ not-broken 3 _ _ (ap not (numbers-by ∙ g)) ∙ not-broken 5 _ _ (ap not (lists-by ∙ h)) ∙
               ap (treeFault (c .automata)) (sym hv)
 
           pub rest-read : (q : LineRead) → q ≡ treeRead (c .automata) v at → q ≡ composeRead s ended c at
@@ -263,17 +263,17 @@ module _ (N A : ℕ) (s : Bytes) (three : sounds [] (tokens s) ≡ true) (five :
       go : (o : Option Tree) → treeSpelled s ≡ o → rowsBy its ≡ rowsOfTree N s
       go none e =
           let f : its .formed ≡ false = read-formed N A s blank three five ∙ ap (λ (o : Option Tree). not (lacks o)) e in
-          broken-hit 13 _ _ (ap not f) ∙ sym (broken-hit 13 _ _ (ap lacks e))
+          is-broken 13 _ _ (ap not f) ∙ sym (is-broken 13 _ _ (ap lacks e))
       go (some t) e =
           let f = read-is-formed N A s blank three five t e in
           let o : not (its .ordered) ≡ isDisordered N t = ap not (read-ordered N A s blank three five t e) ∙ Bool·not-not (isDisordered N t) in
           let n : its .nodes ≡ length (readNodes (tokens s)) =
           read-count N A s blank three five t e ∙ sym (read-size N A s blank three five t e) in
-          broken-past 13 _ _ (ap not f) ∙
+          not-broken 13 _ _ (ap not f) ∙
           ap (λ (b : Bool). broken 14 b (broken 16 (isTooLarge (its .nodes)) none))
           (o ∙ ap (λ (x : Option Tree). isDisordered N (treeOr x)) (sym e)) ∙
           ap (λ (k : ℕ). broken 14 (isDisordered N (treeOr (treeSpelled s))) (broken 16 (isTooLarge k) none)) n ∙
-          sym (broken-past 13 _ _ (ap lacks e))
+          sym (not-broken 13 _ _ (ap lacks e))
 
   -- the words, where the rows of the tree are not broken either
   tree-words : rowsOfTree N s ≡ none → treeWords N s ≡ wordsOf (treeOr (treeSpelled s))
@@ -281,11 +281,11 @@ module _ (N A : ℕ) (s : Bytes) (three : sounds [] (tokens s) ≡ true) (five :
   tree-words h = go (treeSpelled s) refl
     where
       go : (o : Option Tree) → treeSpelled s ≡ o → its .nodes ∷ take (its .next) (memoryOf N s blank) ≡ wordsOf (treeOr (treeSpelled s))
-      go none e = absurd (true≢false (sym (ap lacks e) ∙ broken-inv 13 _ _ h .0))
+      go none e = absurd (true≢false (sym (ap lacks e) ∙ unbroken 13 _ _ h .0))
       go (some t) e =
-          let b13 = broken-inv 13 _ _ h in
-          let b14 = broken-inv 14 _ _ (b13 .1) in
-          let b16 = broken-inv 16 _ none (b14 .1) in
+          let b13 = unbroken 13 _ _ h in
+          let b14 = unbroken 14 _ _ (b13 .1) in
+          let b16 = unbroken 16 _ none (b14 .1) in
           let small : isTooLarge (treeSize t) ≡ false = ap isTooLarge (sym (read-size N A s blank three five t e)) ∙ b16 .0 in
           ap (λ (k : ℕ). k ∷ take (its .next) (memoryOf N s blank)) (read-count N A s blank three five t e) ∙
           ap (λ (l : List ℕ). treeSize t ∷ l) (read-words N A s blank three five t e small room) ∙
@@ -330,9 +330,9 @@ module _ (r : Reading) (c : Counts) (counted : Counted r c) (s : Bytes) (ended :
   words-by : fault r compose (lineOf s ended) ≡ none → treeWords (c .automata) (partOf s) ≡ lineWords (entry compose (lineOf s ended))
   unfolding entry lineWords theTree treeOf nodesIn treeTokens valueOf spelling
   words-by h =
-      let b2 = broken-inv 2 _ _ (sym rows-of ∙ h) in
-      let b3 = broken-inv 3 _ _ (b2 .1) in
-      let b5 = broken-inv 5 _ _ (b3 .1) in
+      let b2 = unbroken 2 _ _ (sym rows-of ∙ h) in
+      let b3 = unbroken 3 _ _ (b2 .1) in
+      let b5 = unbroken 5 _ _ (b3 .1) in
       ap (λ (N : ℕ). treeWords N (partOf s)) (counted .automata) ∙
       tree-words automata (r .model .actions) (partOf s) (not-false _ (b3 .0)) (not-false _ (b5 .0)) (b5 .1)
 

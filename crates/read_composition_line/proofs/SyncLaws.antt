@@ -22,7 +22,6 @@ use Rattle.format.specs.Bytes.{Bytes, bytes}
 use Rattle.format.specs.Number.{within, naturalOf}
 use Rattle.format.specs.Rows.{fault, entry, field, fields, hasPred, is, listItems, numbersSound, place, syncList, valueOf, row2, row3, row4, row5, row6, row7, row8, row9, row10, row11, row12, row13, row14, row15, row16}
 use Rattle.format.specs.Spelling.{spelling}
-use Rattle.format.proofs.LineLaws.{broken-inv}
 use Rattle.format.proofs.ReadLaws.{number-of}
 use Rattle.format.proofs.TokenLaws.{every-cons}
 use Rattle.read_composition.specs.declared.list.Listed.{Listed}
@@ -31,10 +30,11 @@ use Rattle.read_composition.proofs.Numbers.{list-sound, list-rising, list-set}
 use Rattle.read_form.specs.declared.LineRead.the-variants.{Sound, Fault}
 use Rattle.table_append.specs.Append.{nextPlace, put}
 use Rattle.read_form.specs.Form.{lineOf, valueAfter, misformed, fieldsOf}
+use Rattle.model.proofs.Decode.{unbroken, is-broken, not-broken}
 use Rattle.read_composition_line.specs.Sync.{syncListed, syncFault, syncRead, syncAfter}
 use Rattle.read_form.proofs.FormLaws.{row2-by}
 use Rattle.table_append.proofs.Joined.{next-then, put-then}
-use Rattle.read_form.proofs.Outcomes.{same-row, broken-hit, broken-past, answered-fault, answered-sound, written-fault, written-sound}
+use Rattle.read_form.proofs.Outcomes.{same-row, answered-fault, answered-sound, written-fault, written-sound}
 
 -- `sync`
 module _ (s : Bytes) (ended : Bool) (c : Counts) (words : List ℕ) (at : ℕ) where
@@ -51,7 +51,7 @@ module _ (s : Bytes) (ended : Bool) (c : Counts) (words : List ℕ) (at : ℕ) w
     module _ (f : m ≡ true) where
       form-fault : syncFault s ended c ≡ some 2
       unfolding syncFault
-      form-fault = broken-hit 2 _ _ (sym hm ∙ f)
+      form-fault = is-broken 2 _ _ (sym hm ∙ f)
 
       pub form-read : Fault 2 ≡ syncRead s ended c at
       form-read = read-fault 2 form-fault
@@ -68,12 +68,12 @@ module _ (s : Bytes) (ended : Bool) (c : Counts) (words : List ℕ) (at : ℕ) w
       rows : syncFault s ended c ≡ broken 3 (not (l .sound)) (broken 5 (not (l .rising)) none)
       unfolding syncFault
       rows =
-          broken-past 2 _ _ (sym hm ∙ f) ∙
+          not-broken 2 _ _ (sym hm ∙ f) ∙
           ap (λ (x : Listed). broken 3 (not (x .sound)) (broken 5 (not (x .rising)) none)) listed
 
       module _ (g : l .sound ≡ false) where
         sound-fault : syncFault s ended c ≡ some 3
-        sound-fault = rows ∙ broken-hit 3 _ _ (ap not g)
+        sound-fault = rows ∙ is-broken 3 _ _ (ap not g)
 
         pub sound-read : Fault 3 ≡ syncRead s ended c at
         sound-read = read-fault 3 sound-fault
@@ -84,7 +84,7 @@ module _ (s : Bytes) (ended : Bool) (c : Counts) (words : List ℕ) (at : ℕ) w
       module _ (g : l .sound ≡ true) where
         module _ (h : l .rising ≡ false) where
           rising-fault : syncFault s ended c ≡ some 5
-          rising-fault = rows ∙ broken-past 3 _ _ (ap not g) ∙ broken-hit 5 _ _ (ap not h)
+          rising-fault = rows ∙ not-broken 3 _ _ (ap not g) ∙ is-broken 5 _ _ (ap not h)
 
           pub rising-read : Fault 5 ≡ syncRead s ended c at
           rising-read = read-fault 5 rising-fault
@@ -94,7 +94,7 @@ module _ (s : Bytes) (ended : Bool) (c : Counts) (words : List ℕ) (at : ℕ) w
 
         module _ (h : l .rising ≡ true) (p : ℕ) (hp : p ≡ nextPlace at 1) where
           none-broken : syncFault s ended c ≡ none
-          none-broken = rows ∙ broken-past 3 _ _ (ap not g) ∙ broken-past 5 _ none (ap not h)
+          none-broken = rows ∙ not-broken 3 _ _ (ap not g) ∙ not-broken 5 _ none (ap not h)
 
           pub set-read : (q : ℕ) → q ≡ nextPlace p 1 → Sound 0 0 q ≡ syncRead s ended c at
           unfolding syncRead
@@ -165,9 +165,9 @@ module _ (r : Reading) (c : Counts) (counted : Counted r c) (s : Bytes) (ended :
   words-by : fault r sync (lineOf s ended) ≡ none → syncListed s c .low ∷ syncListed s c .high ∷ [] ≡ setWords (map naturalOf itemsOf)
   unfolding syncListed
   words-by h =
-      let b2 = broken-inv 2 _ _ (sym rows-of ∙ h) in
-      let b3 = broken-inv 3 _ _ (b2 .1) in
-      let b5 = broken-inv 5 _ none (b3 .1) in
+      let b2 = unbroken 2 _ _ (sym rows-of ∙ h) in
+      let b3 = unbroken 3 _ _ (b2 .1) in
+      let b5 = unbroken 5 _ none (b3 .1) in
       list-set (capped (c .actions)) itemsOf (not-false inRow3 (b3 .0)) (r .model .actions) (not-false _ (b5 .0))
 
 -- what the paper asks of the reader of one line, for `sync=`

@@ -9,7 +9,7 @@ use lib.Dec.{eqb}
 use Rattle.model.specs.Basic.{every}
 use Rattle.model.specs.Lines.{Key, format, actions, variables, variable, automata, sync, locations, init, inv, edges, edge, compose}
 use Rattle.format.specs.Bytes.{Bytes, begins, parts, comma}
-use Rattle.format.specs.Rows.{Line, place, is, fields, fieldCount, valueOf, printable, row2}
+use Rattle.format.specs.Rows.{place, is, fields, fieldCount, valueOf, printable, row2}
 use Rattle.format.specs.Spelling.{spelling}
 use Rattle.text_bytes.specs.Find.{countOf}
 use Rattle.text_bytes.proofs.FindLaws.{parts-count}

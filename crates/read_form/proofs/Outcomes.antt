@@ -19,14 +19,6 @@ same-row row b d x y e h = ap (λ (v : Bool). broken row v x) e ∙ go d h
     go true g = refl
     go false g = g refl
 
-pub broken-hit : (row : ℕ) (b : Bool) (rest : Option ℕ) → b ≡ true → broken row b rest ≡ some row
-unfolding broken
-broken-hit row b rest h = rw h
-
-pub broken-past : (row : ℕ) (b : Bool) (rest : Option ℕ) → b ≡ false → broken row b rest ≡ rest
-unfolding broken
-broken-past row b rest h = rw h
-
 -- the answer, and the buffer then
 module _ (o : Option ℕ) where
   pub answered-fault : (row : ℕ) (x : LineRead) → o ≡ some row → answered o x ≡ Fault row

@@ -1,7 +1,7 @@
 -- Row 2 of a line, by its key's bytes and how many fields commas part it into. It is `row2`: the law row2-by.
 use Prim.Native.Nat.{ℕ, zero, suc}
-use mathlib.Core.Bool.{Bool, true, false, not, _||_}
-use mathlib.Core.List.{List, []}
+use mathlib.Core.Bool.{Bool, false, not, _||_}
+use mathlib.Core.List.{[]}
 use lib.ListN.{length, getD, drop}
 use lib.Dec.{eqb}
 use Rattle.model.specs.Basic.{every}

@@ -1,7 +1,7 @@
 -- Each way out of `read_with`, where the key that is due decides, and of `read`.
 use Prim.Native.Nat.{ℕ, _*_, _≤_}
 use mathlib.Core.Path.{_≡_, refl, _∙_}
-use mathlib.Core.Bool.{Bool, true, false}
+use mathlib.Core.Bool.{Bool}
 use mathlib.Core.List.{List}
 use native.Mathlib.Omega.{arith}
 use lib.ListN.{length}
@@ -12,7 +12,6 @@ use Rattle.line_order.specs.declared.Counts.{Counts}
 use Rattle.format.specs.Bytes.{Bytes}
 use Rattle.format.specs.Spelling.{spelling}
 use Rattle.read_form.specs.declared.LineRead.{LineRead}
-use Rattle.read_predicate_line.specs.Predicate.{mostWords}
 use Rattle.read_line.specs.Line.{lineWith, lineWithAfter, lineRead, lineAfter}
 use Rattle.read_predicate_line.proofs.PredicateLaws.{location-room, location-room-after}
 use Rattle.read_predicate_line.proofs.EdgeLaws.{edge-room, edge-room-after}

@@ -4,7 +4,6 @@ use mathlib.Core.Path.{_≡_, refl}
 use mathlib.Core.Bool.{Bool}
 use mathlib.Core.List.{List, [], _∷_}
 use lib.ListN.{length}
-use Rattle.model.specs.Bounds.{maxActions, maxVariables, maxAutomata, maxLocations, maxEdges}
 use Rattle.model.specs.Lines as Lines
 use Rattle.model.specs.Table.{biased}
 use Rattle.line_order.specs.declared.Key.{Key}
@@ -16,7 +15,6 @@ use Rattle.read_numbers.specs.declared.number.Count.{Count}
 use Rattle.read_numbers.specs.declared.number.Count.the-variants as Count
 use Rattle.read_numbers.specs.declared.range.Bounds.{Bounds}
 use Rattle.read_numbers.specs.declared.range.Bounds.the-variants as Bounds
-use Rattle.table_append.specs.Append.{put}
 use Rattle.read_form.proofs.Outcomes.{written-long}
 use Rattle.read_number_line.specs.Number.{numberAfter, boundsAfter}
 use Rattle.read_composition_line.specs.Sync.{syncFault, syncAfter}

@@ -2,12 +2,12 @@
 use Prim.Native.Nat.{ℕ, _+_, _≤_, _<_}
 use mathlib.Core.Path.{_≡_, refl, sym, _∙_, ap}
 use mathlib.Core.Bool.{Bool, true, false, not, _&&_}
-use mathlib.Core.List.{List, [], _∷_, _++_, map}
-use mathlib.Core.Option.{Option, none, some}
+use mathlib.Core.List.{List, [], _++_, map}
+use mathlib.Core.Option.{Option, none}
 use native.Mathlib.Omega.{arith}
-use borrow.Author.Tests.{le-leb, lt-leb, leb-true, leb-false, not-false, not-true}
+use borrow.Author.Tests.{le-leb, lt-leb, not-false, not-true}
 use lib.ListN.{length, take, drop}
-use lib.Seq.{take-all, take-at, take-length, length-take-le}
+use lib.Seq.{take-all, take-at, take-length}
 use lib.Dec.{leb}
 use Rattle.model.specs.Basic.{lacks}
 use Rattle.model.specs.Bounds.{maxNodes}
@@ -15,7 +15,6 @@ use Rattle.model.specs.Predicate.{namesOutside, namesNew}
 use Rattle.model.specs.Parse.{readPred}
 use Rattle.model.specs.Limits.{broken}
 use Rattle.model.specs.Table.{wordOf}
-use Rattle.model.proofs.Decode.{unbroken}
 use Rattle.table_predicate.specs.declared.Walked.{Walked}
 use Rattle.table_predicate.specs.Walk.{walkAt}
 use Rattle.format.specs.Tokens.{tokens, sounds}
@@ -24,8 +23,9 @@ use Rattle.text_bytes.proofs.FindLaws.{gap-within}
 use Rattle.read_words.specs.Codes.{strayCode}
 use Rattle.read_words.specs.declared.reading.Words.{Words}
 use Rattle.read_words.specs.declared.reading.Words.the-variants as Words
-use Rattle.read_words.specs.Read.{answer, count, written, Reads}
+use Rattle.read_words.specs.Read.{count, written, Reads}
 use Rattle.read_words.proofs.Answers.{said-read}
+use Rattle.model.proofs.Tests.{not-not}
 use Rattle.read_nodes.specs.declared.Nodes.{Nodes}
 use Rattle.read_nodes.specs.declared.Nodes.the-variants.{Are, Unsound, Full}
 use Rattle.read_nodes.specs.Nodes.{told, extentFault, nodesFault, judgedIn, onWords, codesOf, nodesRead, nodesAfter}
@@ -75,14 +75,10 @@ module _ (nodes ranges : List ℕ) (o : Bool) (variables before high : ℕ) wher
     judged-in r e = rw (le-leb (length nodes) high room, judgedIn) e
 
     module _ (b : Bool) (hb : b ≡ (leb (length nodes) high && (leb (length nodes) (length nodes) && not (lacks (readPred (map wordOf (take (length nodes) nodes))))))) where
-      twice : (v : Bool) → not (not v) ≡ v
-      twice true = refl
-      twice false = refl
-
       ill-is : lacks (readPred (map wordOf nodes)) ≡ not b
       ill-is =
           let e : leb (length nodes) (length nodes) ≡ true = le-leb (length nodes) (length nodes) (omega arith) in
-          sym (twice _) ∙ ap not (sym (rw (le-leb (length nodes) high room, e, take-length nodes) at hb))
+          sym (not-not _) ∙ ap not (sym (rw (le-leb (length nodes) high room, e, take-length nodes) at hb))
 
       pub judged-ill : not b ≡ true → Unsound 6 ≡ judgedIn o variables ranges before high nodes
       unfolding nodesFault

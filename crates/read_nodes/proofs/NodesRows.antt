@@ -1,11 +1,11 @@
 -- The answer by the rows of the text: for any bytes, with a place for every two of them.
 use Prim.Native.Nat.{ℕ, suc, _+_, _*_, _≤_}
-use mathlib.Core.Path.{_≡_, refl, sym, _∙_, ap, ap₂}
+use mathlib.Core.Path.{_≡_, refl, sym, _∙_, ap}
 use mathlib.Core.Bool.{Bool, true, false, not, _&&_}
-use mathlib.Core.List.{List, [], _∷_, map, List·Memᴰ}
+use mathlib.Core.List.{List, [], map, List·Memᴰ}
 use mathlib.Core.Option.{Option, none, some}
 use native.Mathlib.Omega.{arith}
-use borrow.Author.Tests.{le-leb, leb-true, leb-false, lt-ltb, le-ltb, ltb-true, ltb-false, not-true, not-false}
+use borrow.Author.Tests.{le-leb, leb-true, leb-false, lt-ltb, le-ltb, ltb-true, ltb-false, not-false}
 use lib.ListN.{length, take, drop, replicate, length-append, length-take, length-drop, length-map, length-replicate}
 use lib.Seq.{take-all}
 use lib.Dec.{leb, ltb}
@@ -16,8 +16,8 @@ use Rattle.model.specs.Predicate.{Pred, Word, Range, all, words, nodeCount, dep
 use Rattle.model.specs.Parse.{readPred}
 use Rattle.model.specs.Lawful.{LawfulRange}
 use Rattle.model.specs.Limits.{broken, isTooDeep, exceedsSpan, passesNodes}
-use Rattle.model.specs.Table.{code, wordOf, predWords}
-use Rattle.model.proofs.Decode.{unbroken}
+use Rattle.model.specs.Table.{code, wordOf}
+use Rattle.model.proofs.Decode.{unbroken, is-broken, not-broken}
 use Rattle.model.proofs.Parsing.{words-of-read}
 use Rattle.table_predicate.specs.declared.Walked.{Walked}
 use Rattle.table_predicate.specs.Walk.{declaredOf, walkAt}
@@ -31,19 +31,13 @@ use Rattle.read_words.specs.declared.reading.Words.{Words}
 use Rattle.read_words.specs.declared.reading.Words.the-variants as Words
 use Rattle.read_words.specs.Read.{answer, count, written, Reads}
 use Rattle.read_words.proofs.Answers.{read-all-words, read-stray-word, never-full, words-read, half-as-many, said-read}
-use Rattle.read_form.proofs.Outcomes.{same-row, broken-hit, broken-past}
+use Rattle.read_form.proofs.Outcomes.{same-row}
+use Rattle.model.proofs.Tests.{not-leb}
 use Rattle.read_nodes.specs.declared.Nodes.{Nodes}
 use Rattle.read_nodes.specs.declared.Nodes.the-variants.{Are, Unsound, Full}
 use Rattle.read_nodes.specs.Nodes.{told, extentFault, nodesFault, judgedIn, onWords, codesOf, nodesRead, nodesAfter}
 use Rattle.read_nodes.specs.Text.{textPred, textFault}
 use Rattle.read_nodes.proofs.NodesLaws.{read-front}
-
-not-leb : (a b : ℕ) → not (leb a b) ≡ ltb b a
-not-leb a b = go (leb a b) refl
-  where
-    go : (v : Bool) → leb a b ≡ v → not v ≡ ltb b a
-    go true e = let l = leb-true a b e in sym (le-ltb b a l)
-    go false e = let l = leb-false a b e in sym (lt-ltb b a l)
 
 -- what an answer says of the rows
 pub told-are : (k n : ℕ) (f : Option ℕ) → told k f ≡ Are n → (f ≡ none) × (n ≡ k)
@@ -196,7 +190,7 @@ module _ (declared : List Range) (ranges : List ℕ) (are : declaredOf ranges �
           → onWords o (length declared) ranges before high (codesOf part) a ≡ told (length (codesOf part)) later
       unfolding onWords told lacks
       words-rows s (Words.Read n) e = judged-rows s (spelled part s room n e)
-      words-rows s Words.Stray e = ap (told (length (codesOf part))) (sym (broken-hit 6 _ _ (ap lacks (unspelled part s room e))))
+      words-rows s Words.Stray e = ap (told (length (codesOf part))) (sym (is-broken 6 _ _ (ap lacks (unspelled part s room e))))
       words-rows s Words.Full e = absurd (unfilled part s room enough e)
 
       pub read-rows : nodesRead part o (length declared) ranges before room high ≡ told (length (codesOf part)) (textFault declared before o part none)
@@ -206,8 +200,8 @@ module _ (declared : List Range) (ranges : List ℕ) (are : declaredOf ranges �
           go : (v : Bool) → sounds [] (tokens part) ≡ v
               → elim v as (λ x. Nodes) [ true ↦ onWords o (length declared) ranges before high (codesOf part) (answer (codesOf part) room) | false ↦ Unsound 3 ]
               ≡ told (length (codesOf part)) (broken 3 (not v) later)
-          go true e = words-rows e (answer (codesOf part) room) refl ∙ ap (told (length (codesOf part))) (sym (broken-past 3 _ later refl))
-          go false e = ap (told (length (codesOf part))) (sym (broken-hit 3 _ later refl))
+          go true e = words-rows e (answer (codesOf part) room) refl ∙ ap (told (length (codesOf part))) (sym (not-broken 3 _ later refl))
+          go false e = ap (told (length (codesOf part))) (sym (is-broken 3 _ later refl))
 
 -- an accepted predicate, and its nodes
 pub record Accepted (part : Bytes) (n : ℕ) : Type 0 where

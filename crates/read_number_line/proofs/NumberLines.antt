@@ -1,33 +1,26 @@
 -- The lines that have one number, and the line of a range, say what the definitions say.
-use Prim.Native.Nat.{ℕ, zero, suc, _+_, _-_, _≤_, _<_}
+use Prim.Native.Nat.{ℕ, _+_}
 use mathlib.Core.Path.{_≡_, refl, sym, _∙_, ap}
-use mathlib.Core.Bool.{Bool, true, false, not, _&&_, _||_}
+use mathlib.Core.Bool.{Bool, true, false, not}
 use mathlib.Core.List.{List, [], _∷_}
 use mathlib.Core.Option.{Option, none}
 use native.Mathlib.Omega.{arith}
-use borrow.Author.Tests.{eqb-true, ltb-true, ltb-false, not-true, not-false}
+use borrow.Author.Tests.{ltb-true, ltb-false, not-true, not-false}
 use lib.IntN.{pos}
-use lib.Signed.{leZ}
-use lib.ListN.{length, getD, take, drop}
-use lib.Dec.{eqb, ltb}
-use Rattle.model.specs.Basic.{every}
-use Rattle.model.specs.Bounds.{firstFormat, lastFormat, maxActions, maxVariables, maxAutomata, maxLocations, maxEdges, leastNumber, greatestNumber}
-use Rattle.model.specs.Predicate.{range}
+use lib.ListN.{length, getD, drop}
+use lib.Dec.{ltb}
+use Rattle.model.specs.Bounds.{firstFormat, lastFormat, maxActions, maxVariables, maxAutomata, maxLocations, maxEdges}
 use Rattle.model.specs.Model.{edgeTotal}
-use Rattle.model.specs.Lines.{Key, format, actions, variables, variable, automata, sync, locations, init, inv, edges, edge, compose, Reading}
+use Rattle.model.specs.Lines.{Key, format, actions, variables, variable, automata, locations, edges, Reading}
 use Rattle.model.specs.Limits.{isCrossed, passesEdges, broken}
-use Rattle.model.specs.Table.{biased}
 use Rattle.format.specs.Bytes.{Bytes, parts, comma}
-use Rattle.format.specs.Number.{number, within, naturalOf, integerOf}
+use Rattle.format.specs.Number.{within, naturalOf}
 use Rattle.format.specs.Rows.{Line, place, is, valueOf, fields, fieldCount, field, hasPred, numbersSound, theRange, row2, row3, row4, row5, row6, row7, row8, row9, row10, row11, row12, row13, row14, row15, row16, fault}
 use Rattle.format.specs.Spelling.{spelling}
-use Rattle.format.proofs.LineLaws.{Formed, formed}
-use Rattle.text_numbers.specs.declared.answer.Integer.the-variants as I
-use Rattle.text_bytes.specs.Find.{gap, countOf, firstFrom}
-use Rattle.text_numbers.specs.Number.{integerIn}
-use Rattle.text_bytes.proofs.FindLaws.{parts-step, parts-last, parts-count, first-is}
-use Rattle.read_form.specs.declared.LineRead.{LineRead}
-use Rattle.read_form.specs.declared.LineRead.the-variants.{Sound, Fault}
+use Rattle.format.proofs.LineLaws.{formed}
+use Rattle.text_bytes.specs.Find.{gap}
+use Rattle.text_bytes.proofs.FindLaws.{parts-step, parts-last, parts-count}
+use Rattle.read_form.specs.declared.LineRead.the-variants.{Sound}
 use Rattle.read_numbers.specs.declared.number.Count.{Count}
 use Rattle.read_numbers.specs.declared.number.Count.the-variants.{Is, Unsound}
 use Rattle.table_append.specs.Append.{nextPlace, put}

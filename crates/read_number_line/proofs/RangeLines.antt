@@ -1,29 +1,28 @@
 -- The line of a variable's range says what the definitions say.
-use Prim.Native.Nat.{ℕ, zero, suc, _+_, _-_, _≤_, _<_}
+use Prim.Native.Nat.{ℕ}
 use mathlib.Core.Path.{_≡_, refl, sym, _∙_, ap}
-use mathlib.Core.Bool.{Bool, true, false, true≢false, not, _&&_, and-true}
+use mathlib.Core.Bool.{Bool, true, false, not, _&&_}
 use mathlib.Core.List.{List, [], _∷_}
-use mathlib.Core.Option.{Option, none, some}
+use mathlib.Core.Option.{Option, none}
 use native.Mathlib.Omega.{arith}
-use lib.IntN.{ℤ, pos}
+use lib.IntN.{ℤ}
 use lib.Signed.{leZ}
 use lib.ListN.{length, getD}
 use Rattle.model.specs.Basic.{every}
 use Rattle.model.specs.Bounds.{leastNumber, greatestNumber}
 use Rattle.model.specs.Predicate.{range}
-use Rattle.model.specs.Lines.{Key, variable, Reading}
+use Rattle.model.specs.Lines.{variable, Reading}
 use Rattle.model.specs.Limits.{isCrossed, broken}
 use Rattle.model.specs.Table.{biased}
 use Rattle.format.specs.Bytes.{Bytes, parts, comma}
 use Rattle.format.specs.Number.{within, integerOf}
 use Rattle.format.specs.Rows.{Line, place, is, valueOf, fields, fieldCount, field, numbersSound, theRange, row2, row3, fault}
 use Rattle.format.specs.Spelling.{spelling}
-use Rattle.format.proofs.LineLaws.{Formed, formed}
+use Rattle.format.proofs.LineLaws.{formed, list-2}
 use Rattle.text_numbers.specs.declared.answer.Integer.{Integer}
 use Rattle.text_numbers.specs.declared.answer.Integer.the-variants as I
 use Rattle.text_numbers.specs.Number.{integerIn}
-use Rattle.read_form.specs.declared.LineRead.{LineRead}
-use Rattle.read_form.specs.declared.LineRead.the-variants.{Sound, Fault}
+use Rattle.read_form.specs.declared.LineRead.the-variants.{Sound}
 use Rattle.read_numbers.specs.declared.range.Bounds.{Bounds}
 use Rattle.read_numbers.specs.declared.range.Bounds.the-variants.{Are, Unsound}
 use Rattle.table_append.specs.Append.{nextPlace, put}
@@ -35,12 +34,6 @@ use Rattle.read_form.proofs.FormLaws.{row2-by}
 use Rattle.read_number_line.proofs.NumberLines.{fault-variable}
 
 -- two fields
-two-items : (l : List Bytes) → length l ≡ 2 → l ≡ getD l 0 [] ∷ getD l 1 [] ∷ []
-two-items [] h = absurd (omega arith)
-two-items (x ∷ []) h = absurd (omega arith)
-two-items (x ∷ y ∷ []) h = refl
-two-items (x ∷ y ∷ z ∷ l) h = absurd (omega arith)
-
 -- the ends by rows 2, 3 and 4
 unfoldable byRows : (two three four : Bool) → ℤ → ℤ → Bounds
 byRows true three four x y = Unsound 2
@@ -88,7 +81,7 @@ module _ (r : Reading) (s : Bytes) (ended : Bool) (at : ℕ) (words : List ℕ) 
 
   two-fields : row2 variable l ≡ false → fields variable l ≡ fieldIn 0 (valueAfter (spelling variable) s) ∷ fieldIn 1 (valueAfter (spelling variable) s) ∷ []
   unfolding fields fieldIn valueOf is place fieldCount
-  two-fields e = two-items (parts comma (valueAfter (spelling variable) s)) (formed variable l e .counts)
+  two-fields e = list-2 (parts comma (valueAfter (spelling variable) s)) (formed variable l e .counts)
 
   misformed-is : misformed (spelling variable) 2 s ended ≡ row2 variable l
   unfolding fieldsOf

@@ -2,7 +2,7 @@
 use Prim.Native.Nat.{ℕ, zero, suc, _+_, _-_, _≤_, _<_}
 use mathlib.Core.Path.{_≡_, refl, sym, _∙_, ap}
 use mathlib.Core.Bool.{Bool, true, false, true≢false, _&&_, and-true}
-use mathlib.Core.List.{List, [], _∷_}
+use mathlib.Core.List.{[], _∷_}
 use mathlib.Core.Option.{Option, none, some}
 use native.Mathlib.Omega.{arith}
 use borrow.Author.Tests.{le-leb, lt-leb, lt-ltb, le-ltb, ltb-true, ltb-false}
@@ -10,7 +10,7 @@ use lib.IntN.{ℤ, pos, negsuc}
 use lib.Dec.{eqb, leb, ltb}
 use Rattle.model.specs.Basic.{between, orElse}
 use Rattle.model.specs.Bounds.{maxEdges}
-use Rattle.model.proofs.Tests.{and-right}
+use Rattle.model.proofs.Tests.{and-right, and-no-right}
 use Rattle.format.specs.Bytes.{Bytes}
 use Rattle.format.specs.Number.{natural, unsigned, negative, number, isBetween, within, naturalOf}
 use Rattle.text_numbers.specs.declared.answer.Natural.{Natural}
@@ -51,17 +51,13 @@ within-from s low high k h e = go (number s) refl h
     go (some (pos n)) q w = rw (and-right (leb 0 n) (leb n high) w, and-true (leb low n)) (ap (leb low) (sym (number-natural s n q) ∙ e))
     go (some (negsuc n)) q w = absurd (true≢false (sym w))
 
-no-second : (x y : Bool) → y ≡ false → (x && y) ≡ false
-no-second true y e = e
-no-second false y e = refl
-
 within-out : (s : Bytes) (low high : ℕ) → within (pos 0) (pos high) s ≡ false → within (pos low) (pos high) s ≡ false
 unfolding within isBetween between
 within-out s low high h = go (number s) h
   where
     go : (o : Option ℤ) → isBetween (pos 0) (pos high) o ≡ false → isBetween (pos low) (pos high) o ≡ false
     go none w = refl
-    go (some (pos n)) w = no-second (leb low n) (leb n high) (sym (ap (λ (x : Bool). x && leb n high) (le-leb 0 n (omega arith))) ∙ w)
+    go (some (pos n)) w = and-no-right (leb low n) (leb n high) (sym (ap (λ (x : Bool). x && leb n high) (le-leb 0 n (omega arith))) ∙ w)
     go (some (negsuc n)) w = refl
 
 -- `one_number`

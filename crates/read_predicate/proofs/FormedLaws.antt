@@ -13,7 +13,6 @@ use lib.Dec.{leb, eqb}
 use mir.Syntax.{w64}
 use mir.Val.{Fits}
 use Rattle.model.specs.Basic.{onSome, lacks}
-use Rattle.model.specs.Predicate.{Word}
 use Rattle.model.specs.Parse.{readPred}
 use Rattle.model.specs.Table.{wordOf}
 use Rattle.node_words.specs.declared.Node.{Node}

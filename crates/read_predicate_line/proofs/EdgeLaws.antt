@@ -5,7 +5,7 @@ use mathlib.Core.Bool.{Bool, true, false, not}
 use mathlib.Core.List.{List, [], _∷_}
 use mathlib.Core.Option.{Option, none, some}
 use native.Mathlib.Omega.{arith}
-use lib.ListN.{length, take, drop, length-drop}
+use lib.ListN.{length, take, length-drop}
 use Rattle.model.specs.Bounds.{maxNodes}
 use Rattle.model.specs.Limits.{broken}
 use Rattle.line_order.specs.declared.Counts.{Counts}
@@ -16,7 +16,7 @@ use Rattle.read_form.specs.declared.LineRead.the-variants.{Sound, Fault}
 use Rattle.read_nodes.specs.declared.Nodes.the-variants as N
 use Rattle.read_nodes.specs.declared.Nodes.{Nodes}
 use Rattle.read_nodes.specs.Nodes.{codesOf, nodesAfter}
-use Rattle.read_form.proofs.Outcomes.{broken-hit, broken-past, answered-fault, answered-sound, written-fault, written-sound}
+use Rattle.read_form.proofs.Outcomes.{answered-fault, answered-sound, written-fault, written-sound}
 use Rattle.read_edge.specs.declared.Ends.{Ends}
 use Rattle.read_edge.specs.declared.Ends.the-variants.{Are, Unsound}
 use Rattle.table_append.specs.Append.{nextPlace, put}
@@ -24,6 +24,7 @@ use Rattle.read_form.specs.Form.{valueAfter, fieldIn, misformed}
 use Rattle.read_form.proofs.FieldLaws.{field-within}
 use Rattle.read_edge.specs.Edge.{endsSound, endsIn, astray}
 use Rattle.read_edge.proofs.EdgeLaws.{ends-none, EndsOf, ends-some}
+use Rattle.model.proofs.Decode.{is-broken, not-broken}
 use Rattle.read_predicate_line.specs.Predicate.{mostWords, predicateRead, predicateFault, counted, lineTold, lineAfter}
 use Rattle.read_predicate_line.specs.Edge.{thenRow, valueFault, valueWords, valueRead, afterValue, edgeName, edgeFault, edgeRead, edgeAfter}
 use Rattle.read_predicate_line.proofs.PredicateLaws.{told-row, told-full, told-fine, told-size, told-few, told-stand, fault-same, more-next, more-put}
@@ -57,7 +58,7 @@ module _ (v : Bytes) (c : Counts) (t : List ℕ) (at : ℕ) (old : List ℕ) (hi
   module _ (e : q ≡ Unsound) where
     ends-row : valueFault c t v (length old) high ≡ some 3
     unfolding valueFault
-    ends-row = broken-hit 3 _ _ (ap not (ends-none v (sym hq ∙ e)))
+    ends-row = is-broken 3 _ _ (ap not (ends-none v (sym hq ∙ e)))
 
     pub value-unsound : Fault 3 ≡ valueRead c t v (length old) high at
     value-unsound = row-told 3 ends-row
@@ -72,7 +73,7 @@ module _ (v : Bytes) (c : Counts) (t : List ℕ) (at : ℕ) (old : List ℕ) (hi
 
     past-ends : valueFault c t v (length old) high ≡ thenRow (predicateFault f false c t (length old) high) (broken 12 (astray c from action to) none)
     unfolding valueFault
-    past-ends = broken-past 3 _ _ (ap not (ends-of .sound)) ∙ rw (ends-of .first, ends-of .second, ends-of .third, ← hf)
+    past-ends = not-broken 3 _ _ (ap not (ends-of .sound)) ∙ rw (ends-of .first, ends-of .second, ends-of .third, ← hf)
 
     module _ (row : ℕ) (g : r ≡ N.Unsound row) where
       its-row : valueFault c t v (length old) high ≡ some row
@@ -107,14 +108,14 @@ module _ (v : Bytes) (c : Counts) (t : List ℕ) (at : ℕ) (old : List ℕ) (hi
       module _ (w : Bool) (hw : w ≡ astray c from action to) where
         module _ (i : w ≡ true) where
           pub value-astray : Fault 12 ≡ valueRead c t v (length old) high at
-          value-astray = row-told 12 (last-row ∙ broken-hit 12 _ _ (sym hw ∙ i))
+          value-astray = row-told 12 (last-row ∙ is-broken 12 _ _ (sym hw ∙ i))
 
           pub value-astray-kept : t ≡ afterValue c t v (length old) high at
-          value-astray-kept = row-kept 12 (last-row ∙ broken-hit 12 _ _ (sym hw ∙ i))
+          value-astray-kept = row-kept 12 (last-row ∙ is-broken 12 _ _ (sym hw ∙ i))
 
         module _ (i : w ≡ false) where
           unbroken-all : valueFault c t v (length old) high ≡ none
-          unbroken-all = last-row ∙ broken-past 12 _ _ (sym hw ∙ i)
+          unbroken-all = last-row ∙ not-broken 12 _ _ (sym hw ∙ i)
 
           size : n ≡ length (codesOf (fieldIn 3 v))
           size = told-size f false c t (length old) high r k n g ∙ ap (λ (x : Bytes). length (codesOf x)) hf
@@ -147,7 +148,7 @@ module _ (s : Bytes) (ended : Bool) (c : Counts) (t : List ℕ) (room high at : 
   module _ (h : p ≡ true) where
     form-row : edgeFault s ended c t room high ≡ some 2
     unfolding edgeFault
-    form-row = broken-hit 2 _ _ (sym hp ∙ h)
+    form-row = is-broken 2 _ _ (sym hp ∙ h)
 
     pub edge-form : Fault 2 ≡ edgeRead s ended c t room high at
     unfolding edgeRead
@@ -160,7 +161,7 @@ module _ (s : Bytes) (ended : Bool) (c : Counts) (t : List ℕ) (room high at : 
   module _ (h : p ≡ false) (v : Bytes) (hv : v ≡ valueAfter edgeName s) where
     rest-row : valueFault c t v room high ≡ edgeFault s ended c t room high
     unfolding edgeFault
-    rest-row = ap (λ (x : Bytes). valueFault c t x room high) hv ∙ sym (broken-past 2 _ _ (sym hp ∙ h))
+    rest-row = ap (λ (x : Bytes). valueFault c t x room high) hv ∙ sym (not-broken 2 _ _ (sym hp ∙ h))
 
     pub edge-value : (r : LineRead) → r ≡ valueRead c t v room high at → r ≡ edgeRead s ended c t room high at
     unfolding valueRead edgeRead

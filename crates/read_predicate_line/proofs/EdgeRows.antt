@@ -7,7 +7,6 @@ use mathlib.Core.Option.{Option, none, some}
 use native.Mathlib.Omega.{arith}
 use lib.ListN.{length}
 use lib.IntN.{pos}
-use lib.Dec.{eqb}
 use Rattle.model.specs.Bounds.{maxBytes, maxActions, lastLocation}
 use Rattle.model.specs.Predicate.{Range, nodeCount}
 use Rattle.model.specs.Lines.{edge, Reading}

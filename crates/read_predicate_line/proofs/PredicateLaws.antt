@@ -1,5 +1,5 @@
 -- Each way out of the code of src/predicates.rt.
-use Prim.Native.Nat.{ℕ, suc, _+_, _*_, _≤_, _<_}
+use Prim.Native.Nat.{ℕ, suc, _*_, _≤_}
 use mathlib.Core.Path.{_≡_, refl, sym, _∙_, ap}
 use mathlib.Core.Bool.{Bool, true, false}
 use mathlib.Core.List.{List, [], _∷_}
@@ -14,12 +14,13 @@ use Rattle.format.specs.Bytes.{Bytes}
 use Rattle.read_nodes.specs.declared.Nodes.{Nodes}
 use Rattle.read_nodes.specs.declared.Nodes.the-variants.{Are, Unsound, Full}
 use Rattle.read_nodes.specs.Nodes.{codesOf, nodesRead, nodesAfter}
-use Rattle.read_form.proofs.Outcomes.{broken-hit, broken-past, answered-fault, answered-sound, written-fault, written-sound}
+use Rattle.read_form.proofs.Outcomes.{answered-fault, answered-sound, written-fault, written-sound}
 use Rattle.read_nodes.proofs.NodesRows.{accepted, accepted-stands, room-same}
 use Rattle.read_form.specs.declared.LineRead.{LineRead}
 use Rattle.read_form.specs.declared.LineRead.the-variants.{Sound, Fault}
 use Rattle.table_append.specs.Append.{nextPlace, put}
 use Rattle.read_form.specs.Form.{valueAfter, misformed}
+use Rattle.model.proofs.Decode.{is-broken, not-broken}
 use Rattle.read_predicate_line.specs.Predicate.{mostWords, predicateRead, rowIn, predicateFault, lineTold, lineAfter, counted, locatedRead, locatedAfter, locationFault, locationRead, locationAfter}
 use Rattle.table_append.proofs.Joined.{next-then, put-then}
 
@@ -127,7 +128,7 @@ module _ (name s : Bytes) (ended : Bool) (c : Counts) (words : List ℕ) (room h
   module _ (h : p ≡ true) where
     form-row : locationFault name s ended c words room high ≡ some 2
     unfolding locationFault
-    form-row = broken-hit 2 _ _ (sym hp ∙ h)
+    form-row = is-broken 2 _ _ (sym hp ∙ h)
 
     pub location-form : Fault 2 ≡ locationRead name s ended c words room high at
     unfolding locationRead
@@ -140,7 +141,7 @@ module _ (name s : Bytes) (ended : Bool) (c : Counts) (words : List ℕ) (room h
   module _ (h : p ≡ false) (v : Bytes) (hv : v ≡ valueAfter name s) where
     rest-is : predicateFault v true c words room high ≡ locationFault name s ended c words room high
     unfolding locationFault
-    rest-is = ap (λ (x : Bytes). predicateFault x true c words room high) hv ∙ sym (broken-past 2 _ _ (sym hp ∙ h))
+    rest-is = ap (λ (x : Bytes). predicateFault x true c words room high) hv ∙ sym (not-broken 2 _ _ (sym hp ∙ h))
 
     pub location-value : (r : LineRead) → r ≡ locatedRead c words v room high at → r ≡ locationRead name s ended c words room high at
     unfolding locatedRead locationRead

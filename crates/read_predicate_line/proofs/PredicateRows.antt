@@ -1,5 +1,5 @@
 -- The rows of a predicate and of the lines `init=P` and `inv=P`, as the code tests them, are those of the text.
-use Prim.Native.Nat.{ℕ, _+_, _*_, _≤_}
+use Prim.Native.Nat.{ℕ, _+_, _≤_}
 use mathlib.Core.Path.{_≡_, refl, sym, _∙_, ap, ap₂}
 use mathlib.Core.Bool.{Bool, true, false, not}
 use mathlib.Core.List.{List, [], _∷_}
@@ -35,7 +35,7 @@ use Rattle.read_nodes.proofs.NodesRows.{read-rows, Accepted, accepted}
 use Rattle.read_form.specs.declared.LineRead.the-variants.{Sound, Fault}
 use Rattle.table_append.specs.Append.{nextPlace, put}
 use Rattle.read_form.specs.Form.{lineOf, valueAfter, misparted, misformed, fieldsOf}
-use Rattle.read_predicate_line.specs.Predicate.{mostWords, predicateRead, rowIn, predicateFault, counted, lineAfter, locationFault, locationRead, locationAfter}
+use Rattle.read_predicate_line.specs.Predicate.{mostWords, predicateRead, rowIn, predicateFault, counted, locationFault, locationRead, locationAfter}
 use Rattle.table_append.proofs.AppendLaws.{put-kept}
 use Rattle.read_form.proofs.FormLaws.{row2-by}
 

@@ -3,13 +3,12 @@ use Prim.Native.Nat.{ℕ}
 use mathlib.Core.Path.{_≡_, refl, sym, _∙_, ap, subst}
 use mathlib.Core.Bool.{Bool, true, false}
 use mathlib.Core.List.{List, [], _∷_}
-use native.Mathlib.Omega.{arith}
 use borrow.Author.Tests.{eqb-true, eqb-false}
 use lib.IntN.{ℤ, pos}
 use lib.Dec.{eqb}
 use Rattle.model.specs.Basic.{same}
 use Rattle.model.specs.Bounds.{leastNumber, greatestNumber, lastVariable, maxOperands}
-use Rattle.model.specs.Predicate.{Word, allOf, anyOf, notWord, impWord, eqWord, leWord, numWord, oldWord, newWord, addWord, subWord, mulWord, ifWord, stray}
+use Rattle.model.specs.Predicate.{Word, numWord, oldWord, newWord, stray}
 use Rattle.model.specs.Table.{code}
 use Rattle.format.specs.Bytes.{Bytes, bytes, 'n, 'v}
 use Rattle.format.specs.Number.{digit, within, naturalOf, integerOf}

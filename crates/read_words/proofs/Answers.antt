@@ -1,21 +1,21 @@
 -- What each answer of `read` says, by the definitions of the text.
 use Prim.Native.Nat.{ℕ, suc, _+_, _*_, _≤_, _<_}
 use mathlib.Core.Path.{_≡_, refl, sym, _∙_, ap}
-use mathlib.Core.Bool.{Bool, true, false, not, _&&_}
+use mathlib.Core.Bool.{Bool, true, false}
 use mathlib.Core.List.{List, [], _∷_, _++_, map}
 use mathlib.Core.Option.{Option, none, some}
 use native.Mathlib.Omega.{arith}
-use borrow.Author.Tests.{leb-true, leb-false, ltb-true, ltb-false, le-leb}
+use borrow.Author.Tests.{leb-true, leb-false, ltb-true, ltb-false}
 use lib.ListN.{length, take, drop, length-map}
 use lib.Seq.{take-all, take-at}
 use lib.Dec.{eqb, leb, ltb}
-use Rattle.model.specs.Basic.{same, onSome, lacks}
+use Rattle.model.specs.Basic.{same, onSome}
 use Rattle.model.specs.Predicate.{Word, stray}
 use Rattle.model.specs.Parse.{Stack, push, stack, readPred}
 use Rattle.model.specs.Table.{code, wordOf}
 use Rattle.model.proofs.Decode.{words-back}
-use Rattle.format.specs.Bytes.{Bytes, bytes, space, onto, parts}
-use Rattle.format.specs.Tokens.{numeral, tokens, find, word, readWords, sounds}
+use Rattle.format.specs.Bytes.{Bytes, space, onto, parts}
+use Rattle.format.specs.Tokens.{numeral, tokens, find, readWords, sounds}
 use Rattle.format.proofs.BytesLaws.{Free}
 use Rattle.format.proofs.TokenLaws.{plain-by}
 use Rattle.format.proofs.ReadLaws.{tokens-back}

@@ -6,7 +6,7 @@ use mathlib.Core.List.{List, _++_}
 use native.Mathlib.Omega.{arith}
 use borrow.Author.Tests.{ltb-false, le-leb}
 use lib.ListN.{length, drop}
-use lib.Dec.{ltb, leb}
+use lib.Dec.{ltb}
 use Rattle.model.specs.Bounds.{maxBytes, tableWords}
 use Rattle.model.specs.Model.{Model}
 use Rattle.model.specs.Lines.{dueAtFirst, atFirst}
@@ -19,9 +19,9 @@ use Rattle.format.proofs.Exact.{accepted-then, answer-reads}
 use Rattle.read_line.specs.Exact.{ReadsLines}
 use Rattle.read_line.specs.Line.{lineRead, lineAfter}
 use Rattle.reader.specs.declared.ReadAnswer.{ReadAnswer}
-use Rattle.reader.specs.declared.ReadAnswer.the-variants.{Accepted, Refused}
-use Rattle.reader.specs.Read.{readOf, stored, storedIf, sheetRead, blank, readTo, readAfter, Outcome}
-use Rattle.reader.proofs.ReadExact.{Ends, sheet-ends, sheet-table}
+use Rattle.reader.specs.declared.ReadAnswer.the-variants.{Refused}
+use Rattle.reader.specs.Read.{readOf, stored, storedIf, sheetRead, blank, readTo, readAfter}
+use Rattle.reader.proofs.ReadExact.{sheet-ends, sheet-table}
 
 module _ (exact : ReadsLines lineRead lineAfter) (text : Bytes) (table : List ℕ) where
   -- by rows 18 and 1

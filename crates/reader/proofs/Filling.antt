@@ -8,7 +8,7 @@ use native.Mathlib.Omega.{arith}
 use native.Mathlib.Numerals.{add-one}
 use borrow.Author.Tests.{le-leb, lt-leb, leb-true, leb-false, ltb-true, ltb-false}
 use lib.ListN.{length, take, drop, set, length-set, replicate, length-append, length-take, length-replicate, take-append-drop}
-use lib.Seq.{drop-set-lt, take-suc-set, append-snoc, take-all, take-at, drop-at, take-append-le, drop-append-add, take-append-seam, take-take, length-take-le}
+use lib.Seq.{drop-set-lt, take-suc-set, append-snoc, take-all, take-at, take-append-le, drop-append-add, take-append-seam, take-take}
 use lib.Dec.{leb, ltb}
 use Rattle.model.specs.Bounds.{tableWords}
 use Rattle.table_append.specs.Append.{nextPlace, put}

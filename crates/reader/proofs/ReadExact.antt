@@ -1,19 +1,19 @@
 -- The reader's rounds come to what `read` says of the text's lines, where what reads one line is exact.
 use Prim.Native.Nat.{ℕ, zero, suc, _+_, _-_, _*_, _≤_, _<_}
 use mathlib.Core.Path.{_≡_, refl, sym, _∙_, ap, subst}
-use mathlib.Core.Bool.{Bool, true, false, not}
+use mathlib.Core.Bool.{Bool, true, false}
 use mathlib.Core.List.{List, [], _∷_, _++_, append-assoc, append-nil, flatMap}
 use mathlib.Core.Logic.{_⊎_, inl, inr}
 use mathlib.Core.Option.{Option, none, some}
 use native.Mathlib.Omega.{arith}
-use borrow.Author.Tests.{le-leb, lt-leb, leb-true, leb-false, ltb-true, ltb-false, lt-ltb, le-ltb, not-false}
-use lib.ListN.{length, take, drop, replicate, length-append, length-take, length-drop}
+use borrow.Author.Tests.{leb-true, leb-false, ltb-true, ltb-false, not-false}
+use lib.ListN.{length, take, drop, length-append, length-take, length-drop}
 use lib.Seq.{drop-append-seam, take-add, take-all, drop-at, length-take-le}
 use lib.Dec.{leb, ltb}
 use Rattle.model.specs.Bounds.{maxBytes, maxVariables, tableWords}
 use Rattle.model.specs.Model.{Model}
 use Rattle.model.specs.Lines.{Key as LineKey, Entry, formatLine, actionsLine, variablesLine, variableLine, automataLine, syncLine, locationsLine, initLine, invLine, edgesLine, edgeLine, composeLine, keyOf, lines, dueAtFirst, thenDue, Reading, atFirst, withModel, withAutomata, withPred, noted}
-use Rattle.model.specs.Limits.{variableCount, numbersInRange, contentFault, faultOf, limits}
+use Rattle.model.specs.Limits.{variableCount, numbersInRange, faultOf, limits}
 use Rattle.model.specs.Table.{lineWords, sheetWords, tableOf}
 use Rattle.model.proofs.LinesLaws.{Follows}
 use Rattle.model.proofs.LinesBack.{lines-follow}
@@ -23,9 +23,9 @@ use Rattle.line_order.specs.declared.Key.{Key}
 use Rattle.line_order.specs.declared.Key.the-variants.{Format, Actions, Variables, Variable, Automata, Sync, Locations, Init, Inv, Edges, Edge, Compose, End}
 use Rattle.line_order.specs.declared.Due.{Due}
 use Rattle.line_order.specs.Due.{isEnd, ifNone, dueVariables, dueAutomata, dueLocations, dueEdges, dueAfterKey, dueAfter, keysDue, laterDue, codeOf, numberOf}
-use Rattle.line_order.specs.Counts.{mostCount, nodesOf, Counted}
+use Rattle.line_order.specs.Counts.{nodesOf}
 use Rattle.line_order.proofs.KeyLaws.{named, no-end}
-use Rattle.line_order.proofs.DueLaws.{due-first, due-key, due-line, due-end, end-due, due-after}
+use Rattle.line_order.proofs.DueLaws.{due-first, due-line, end-due, due-after}
 use Rattle.table_check.specs.declared.Scan.{Scan}
 use Rattle.table_line.specs.Exact.{Declared}
 use Rattle.table_check.specs.Scan.{scanFirst, scanAfter}
@@ -34,20 +34,18 @@ use Rattle.format.specs.Bytes.{Bytes, LF}
 use Rattle.format.specs.Rows.{Line, row2, fault, entry}
 use Rattle.format.specs.Reader as Reader
 use Rattle.format.specs.Reader.{linesOf, accepted, refused}
-use Rattle.format.proofs.LineLaws.{Formed, formed, broken-inv, entry-key}
+use Rattle.format.proofs.LineLaws.{formed, entry-key}
 use Rattle.format.proofs.Exact.{read-case, entry-fault, no-refusal}
 use Rattle.text_bytes.specs.Find.{firstFrom}
 use Rattle.text_bytes.proofs.FindLaws.{find-after, lines-found, lines-ended, lines-none}
-use Rattle.read_form.specs.declared.LineRead.{LineRead}
-use Rattle.read_form.specs.declared.LineRead.the-variants as LineRead
 use Rattle.table_append.specs.Append.{nextPlace, put}
 use Rattle.read_form.specs.Form.{lineOf}
 use Rattle.read_line.specs.Exact.{ReadsLines}
 use Rattle.read_line.specs.Line.{lineRead, lineAfter}
+use Rattle.model.proofs.Decode.{unbroken}
 use Rattle.reader.specs.declared.ReadAnswer.{ReadAnswer}
 use Rattle.reader.specs.declared.ReadAnswer.the-variants.{Accepted, Refused}
 use Rattle.reader.specs.declared.Place.{Place}
-use Rattle.reader.specs.declared.Round.{Round}
 use Rattle.reader.specs.declared.Round.the-variants.{Done, On}
 use Rattle.reader.specs.Read.{readOf, placeFirst, placeAfter, Outcome, outcome, stopAt, lineAt, onLine, lineRound, lineRoundAfter, roundAt, roundAfter, onRound, readFrom, sheetRead, blank}
 use Rattle.reader.proofs.SheetLaws.{round-done, round-lacking, round-ended, round-extra, round-stays, round-line, round-words}
@@ -101,7 +99,7 @@ unfolding dueAfterKey dueAutomata dueLocations dueEdges codeOf keyOf numberOf no
 few-after (formatLine n) d r at p f h = h
 few-after (actionsLine n) d r at p f h = h
 few-after (variablesLine n) d r at p f h =
-    let ranged = leb-true n maxVariables (not-false (leb n maxVariables) (broken-inv 3 _ _ f .0)) in
+    let ranged = leb-true n maxVariables (not-false (leb n maxVariables) (unbroken 3 _ _ f .0)) in
     few-variables (d .format) n (variableCount r) (omega (arith, p .1, ranged))
 few-after (variableLine x) d r at p f h = few-variables (d .format) (d .variables - 1) _ (omega (arith, h .0, h .1, length-append (r .model .variables) (x ∷ [])))
 few-after (automataLine n) d r at p f h = few-either n _ _ _ h h
@@ -205,7 +203,7 @@ stop-on text p h = find-after text (p .byte) LF (firstFrom text (p .byte) LF) h 
 -- a line that breaks no row has its LF
 line-ended : (r : Reading) (k : LineKey) (l : Line) → fault r k l ≡ none → l .ended ≡ true
 unfolding fault
-line-ended r k l f = formed k l (broken-inv 2 (row2 k l) _ f .0) .ended
+line-ended r k l f = formed k l (unbroken 2 (row2 k l) _ f .0) .ended
 
 end-is : isEnd End ≡ true
 unfolding isEnd

@@ -1,18 +1,17 @@
 -- Each way out of `reader::read`.
 use Prim.Native.Nat.{ℕ, _≤_, _<_}
-use mathlib.Core.Path.{_≡_, refl, sym, _∙_, ap}
-use mathlib.Core.Bool.{true, false}
+use mathlib.Core.Path.{_≡_, sym, _∙_, ap}
 use mathlib.Core.List.{List}
 use borrow.Author.Tests.{le-ltb, lt-ltb}
-use lib.ListN.{length, replicate, length-replicate}
-use Rattle.model.specs.Bounds.{maxBytes, tableWords}
+use lib.ListN.{length, length-replicate}
+use Rattle.model.specs.Bounds.{tableWords}
 use Rattle.model.specs.Table.{row18}
 use Rattle.format.specs.Bytes.{Bytes}
 use Rattle.format.specs.Reader.{row1, readAnswer, tableAfter}
 use Rattle.read_line.proofs.ReadsLines.{reads-lines}
 use Rattle.reader.specs.declared.ReadAnswer.{ReadAnswer}
 use Rattle.reader.specs.declared.ReadAnswer.the-variants.{Accepted, Refused}
-use Rattle.reader.specs.Read.{readOf, Outcome, stored, storedIf, sheetRead, blank, readTo, readAfter}
+use Rattle.reader.specs.Read.{readOf, stored, storedIf, sheetRead, blank, readTo, readAfter}
 use Rattle.reader.proofs.SheetLaws.{sheet-kept}
 use Rattle.reader.proofs.Exact.{answer-exact, after-exact}
 

@@ -25,7 +25,7 @@ use Rattle.reader.specs.declared.ReadAnswer.the-variants.{Accepted, Refu
 use Rattle.reader.specs.declared.Place.{Place}
 use Rattle.reader.specs.declared.Round.{Round}
 use Rattle.reader.specs.declared.Round.the-variants.{Done, On}
-use Rattle.reader.specs.Read.{placeFirst, placeAfter, Outcome, outcome, stopAt, lineAt, onLine, lineRound, lineRoundAfter, roundAt, roundAfter, onRound, readFrom, sheetRead}
+use Rattle.reader.specs.Read.{placeFirst, placeAfter, Outcome, stopAt, lineAt, onLine, lineRound, lineRoundAfter, roundAt, roundAfter, onRound, readFrom, sheetRead}
 
 -- `Place::first` and `Place::after`
 pub first-by : (d : Due) (k : Counts) → d ≡ dueFirst → k ≡ countsNone → _≡_ {A = Place} (record { due = d; counts = k; at = 0; byte = 0 }) placeFirst

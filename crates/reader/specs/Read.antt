@@ -1,7 +1,7 @@
 -- What the reader answers, line by line, and what it leaves in the lent table. It is what `readAnswer` and `tableAfter`
 -- say: the laws answer-exact and after-exact.
 use Prim.Native.Nat.{ℕ, zero, suc, _+_, _-_}
-use mathlib.Core.Bool.{Bool, true, false}
+use mathlib.Core.Bool.{true, false}
 use mathlib.Core.List.{List, _++_}
 use lib.ListN.{length, take, drop, replicate}
 use lib.Dec.{leb, ltb}

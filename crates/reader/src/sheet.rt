@@ -9,7 +9,7 @@ use read_line::LineRead;
 ghost use mathlib.Core.Path.{_≡_};
 ghost use Prim.Native.Nat.{_+_, _≤_, _<_};
 ghost use lib.ListN.{length};
-ghost use Rattle.model.specs.Bounds.{maxBytes, tableWords};
+ghost use Rattle.model.specs.Bounds.{maxBytes};
 ghost use Rattle.format.specs.Bytes.{LF};
 ghost use Rattle.text_bytes.specs.Find.{firstFrom};
 ghost use Rattle.reader.specs.Read.{placeFirst, placeAfter, lineRound, lineRoundAfter};

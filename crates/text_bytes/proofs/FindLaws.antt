@@ -1,13 +1,13 @@
 -- Laws of finding: what each way out of `find` shows, and how its answers part a text and its lines.
 use Prim.Native.Nat.{ℕ, zero, suc, _+_, _-_, _≤_, _<_}
-use mathlib.Core.Path.{_≡_, refl, sym, _∙_, ap}
+use mathlib.Core.Path.{_≡_, refl, _∙_, ap}
 use mathlib.Core.Bool.{Bool, true, false}
 use mathlib.Core.List.{List, [], _∷_}
 use native.Mathlib.Omega.{arith}
 use borrow.Author.Tests.{le-leb, lt-leb, eq-eqb, ne-eqb, eqb-true, eqb-false}
 use lib.ListN.{length, getD, take, drop, length-drop}
 use lib.Seq.{drop-drop, drop-length, take-all}
-use lib.Dec.{leb, eqb}
+use lib.Dec.{eqb}
 use Rattle.format.specs.Bytes.{LF, parts, onto}
 use Rattle.format.specs.Rows.{Line}
 use Rattle.format.specs.Reader.{linesOf, ontoLine}

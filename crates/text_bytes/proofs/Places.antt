@@ -6,6 +6,7 @@ use native.Mathlib.Numerals.{add-one}
 use native.Mathlib.Omega.{arith}
 use lib.ListN.{length, getD, take, drop, length-drop, drop-of-length-le}
 use lib.Seq.{drop-cons, take-all, length-take-le}
+use Rattle.model.proofs.Lists.{first-long, first-all}
 
 pub at-place : (s : List ℕ) (i : ℕ) → i < length s → drop i s ≡ getD s i 0 ∷ drop (i + 1) s
 at-place s i h = rw add-one (drop-cons s i 0 h)
@@ -18,12 +19,5 @@ pub rest-past : (s : List ℕ) (n : ℕ) → length s < n → [] ≡ drop n s
 rest-past s n h = sym (drop-of-length-le s {i = n} (omega arith))
 
 pub ruleset rest-laws = (rest-past, take-rest)
-
--- `&s[..n]`, and all of `s` where it has fewer
-pub first-all : (s : List ℕ) (n : ℕ) → length s < n → s ≡ take n s
-first-all s n h = sym (take-all n s (omega arith))
-
-pub first-long : (s : List ℕ) (n : ℕ) → n ≤ length s → n ≡ length (take n s)
-first-long s n h = sym (length-take-le n s h)
 
 pub ruleset first-laws = (first-all, first-long)

@@ -1,7 +1,7 @@
 -- Laws of the numbers: what each way out of the code shows.
 use Prim.Native.Nat.{ℕ, zero, suc, _+_, _-_, _*_, _^_, _≤_, _<_}
 use mathlib.Core.Path.{_≡_, refl, sym, _∙_, ap}
-use mathlib.Core.Bool.{Bool, true, false, _&&_, and-false}
+use mathlib.Core.Bool.{Bool, true, false, and-false}
 use mathlib.Core.List.{List, [], _∷_}
 use mathlib.Core.Logic.{_⊎_, inl, inr, ⊎-elim}
 use mathlib.Core.Option.{Option, none, some}
@@ -9,17 +9,17 @@ use native.Mathlib.Omega.{arith}
 use borrow.Author.Tests.{eqb-true, lt-ltb, le-leb, lt-leb, eq-eqb, ne-eqb, ltb-true, ltb-false, leb-true, leb-false}
 use lib.ListN.{length, getD, take, drop}
 use lib.Seq.{drop-length}
-use lib.Dec.{leb, ltb, eqb}
+use lib.Dec.{leb, eqb}
 use lib.IntN.{ℤ, pos, negsuc, _-ℤ_}
 use lib.Signed.{ltZ, leZ}
 use mir.Syntax.{w32, w64}
 use mir.Val.{SFits, Fits, toZ, ofZ}
 use mir.ValLaws.{toZ-ofZ, toZ-pos}
 use Rattle.model.specs.Basic.{between, orElse}
-use Rattle.model.proofs.Tests.{and-left, and-right, and-intro}
 use Rattle.format.specs.Number.{digit, digits, natural, number, negative, unsigned, within, isBetween, naturalOf, integerOf}
 use Rattle.format.proofs.NumberLaws.{is-digit, false-true}
 use Rattle.text_bytes.proofs.Places.{at-place, take-rest}
+use Rattle.arithmetic.proofs.Signed.{half}
 use Rattle.text_numbers.specs.Number.{naturalIn, integerIn, upTo, kept, negated}
 use Rattle.text_numbers.specs.declared.answer.Natural.{Natural}
 use Rattle.text_numbers.specs.declared.answer.Natural.the-variants as N
@@ -195,9 +195,6 @@ module _ (low high z : ℤ) where
     keep-fits k f g = between-fits low high z f g (not-lt-le low z h) (not-lt-le z high k)
 
 -- a u32 as an i64
-pub half : {n : ℕ} → Fits w32 n → n < 2 ^ 63
-half f = omega (arith, f .fits)
-
 -- a negation
 pub zero-minus : (n : ℕ) → 0 < n → pos 0 -ℤ pos n ≡ negsuc (n - 1)
 zero-minus zero h = absurd (omega arith)

@@ -10,7 +10,7 @@ use lib.ListN.{getD, drop}
 use lib.Dec.{eqb}
 use Rattle.model.specs.Basic.{keep, countUp}
 use Rattle.model.specs.Table.{bit}
-use Rattle.model.proofs.Lists.{keep-append}
+use Rattle.model.proofs.Lists.{keep-append, count-last}
 use Rattle.format.specs.Bytes.{Bytes, joined, space, comma}
 use Rattle.format.specs.Number.{decimal}
 use Rattle.format.specs.Spelling.{textOfList}
@@ -48,17 +48,10 @@ pub ruleset member-laws = (member-out, member-in)
 abbrev pub actionsBelow : (both k : ℕ) → List ℕ
 actionsBelow both k = keep (bit both) (countUp 0 k)
 
-count-snoc : (n c : ℕ) → countUp n (suc c) ≡ countUp n c ++ (n + c) ∷ []
-unfolding countUp
-count-snoc n zero = ap (λ (x : ℕ). x ∷ []) (omega arith)
-count-snoc n (suc c) =
-    let e : suc n + c ≡ n + suc c = omega arith in
-    ap (λ (l : List ℕ). n ∷ l) (count-snoc (suc n) c ∙ ap (λ (x : ℕ). countUp (suc n) c ++ x ∷ []) e)
-
 -- one more action
 below-more : (both k : ℕ) → actionsBelow both (k + 1) ≡ actionsBelow both k ++ keep (bit both) (k ∷ [])
 below-more both k =
-    let e : countUp 0 (k + 1) ≡ countUp 0 k ++ k ∷ [] = rw (add-one k) (count-snoc 0 k ∙ ap (λ (x : ℕ). countUp 0 k ++ x ∷ []) (omega arith)) in
+    let e : countUp 0 (k + 1) ≡ countUp 0 k ++ k ∷ [] = rw (add-one k) (count-last 0 k ∙ ap (λ (x : ℕ). countUp 0 k ++ x ∷ []) (omega arith)) in
     ap (keep (bit both)) e ∙ keep-append (bit both) (countUp 0 k) (k ∷ [])
 
 none-kept : {A : Type 0} (xs ys : List A) → isNone (xs ++ ys) ≡ (isNone xs && isNone ys)

@@ -1,16 +1,15 @@
 -- Each way out of the code of src/predicate.rt.
-use Prim.Native.Nat.{ℕ, zero, suc, _+_, _-_, _≤_, _<_}
+use Prim.Native.Nat.{ℕ, _+_, _≤_, _<_}
 use mathlib.Core.Path.{_≡_, refl, sym, ap}
 use mathlib.Core.List.{List, [], _∷_, _++_, map, append-nil}
 use native.Mathlib.Numerals.{add-one}
-use native.Mathlib.Omega.{arith}
 use lib.ListN.{length, getD, take}
 use lib.Seq.{take-suc, take-all}
 use lib.Dec.{eqb}
 use Rattle.format.specs.Bytes.{Bytes, bytes, ledBy, joined, space}
 use Rattle.format.specs.Number.{decimal, signed}
 use Rattle.format.specs.Spelling.{spelled}
-use Rattle.model.specs.Table.{unbiased, wordOf}
+use Rattle.model.specs.Table.{unbiased}
 use Rattle.node_words.specs.declared.Node.{Node}
 use Rattle.node_words.specs.declared.Node.the-variants.{All, Any, Not, Imp, Eq, Le, Number, Old, New, Add, Sub, Mul, If, Stray}
 use Rattle.node_words.specs.Nodes.{meant, nodeOf}

@@ -1,18 +1,18 @@
 -- Line by line: what the writer writes for a model's table is the model's text.
-use Prim.Native.Nat.{ℕ, zero, suc, _+_, _-_, _≤_, _<_}
+use Prim.Native.Nat.{ℕ, zero, suc, _+_, _≤_, _<_}
 use mathlib.Core.Path.{_≡_, refl, sym, _∙_, ap, ap₂}
-use mathlib.Core.Bool.{Bool, true, false}
+use mathlib.Core.Bool.{true}
 use mathlib.Core.List.{List, [], _∷_, _++_, map, flatMap, append-assoc, append-nil}
 use mathlib.Core.Option.{none}
 use native.Mathlib.Omega.{arith}
 use lib.Dec.{leb}
-use lib.ListN.{length, getD, take, drop, length-map}
+use lib.ListN.{length, getD, drop, length-map}
 use lib.Seq.{drop-at}
 use Rattle.model.specs.Basic.{lacks, between}
 use Rattle.model.specs.Bounds.{leastNumber, greatestNumber}
 use Rattle.model.specs.Predicate.{Pred, words, nodeCount}
 use Rattle.model.specs.Model.{Model}
-use Rattle.model.specs.Lines.{Key as LineKey, format, actions, variables, variable, automata, sync, locations, init, inv, edges, edge, compose, Entry, formatLine, actionsLine, variablesLine, variableLine, automataLine, syncLine, locationsLine, initLine, invLine, edgesLine, edgeLine, composeLine, keyOf, lines, dueAtFirst, thenDue, Reading, atFirst, noted}
+use Rattle.model.specs.Lines.{Key as LineKey, format, actions, compose, Entry, formatLine, actionsLine, variablesLine, variableLine, automataLine, syncLine, locationsLine, initLine, invLine, edgesLine, edgeLine, composeLine, keyOf, lines, dueAtFirst, thenDue, Reading, atFirst, noted}
 use Rattle.model.specs.Limits.{numbersInRange, rises, treeRises, contentFault, faultOf, withinLimits, limits}
 use Rattle.model.specs.Lawful.{Lawful}
 use Rattle.model.specs.Table.{code, setWords, predWords, lineWords, sheetWords, Opened, unopened, opened, openTable}

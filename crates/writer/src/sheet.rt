@@ -3,7 +3,6 @@ use crate::line::{self};
 use line_order::Due;
 use model::Model;
 use text_bytes::Written;
-ghost use mathlib.Core.Path.{_≡_};
 ghost use Rattle.write_nodes.specs.Growing.{Grew, start};
 ghost use Rattle.writer.specs.Text.{sheetText};
 ghost use Rattle.writer.specs.Answer.{Spelt};

@@ -1,6 +1,5 @@
 -- `ordered` meets its contract.
 use Rattle.read_numbers.proofs.RangeLaws.{ordered-yes, ordered-no}
-use borrow.Author.Needs.{needs}
 use Rattle.read_numbers.proofs.range.ordered.Statement.{statement}
 use Rattle.read_numbers.proofs.range.ordered.Tie as tie
 

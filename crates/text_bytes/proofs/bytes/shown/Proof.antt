@@ -1,6 +1,5 @@
 use mathlib.Core.Path.{refl}
 use Rattle.format.specs.Rows.{printable}
-use borrow.Author.Needs.{needs}
 use Rattle.text_bytes.proofs.bytes.shown.Statement.{statement}
 use Rattle.text_bytes.proofs.bytes.shown.Tie as tie
 

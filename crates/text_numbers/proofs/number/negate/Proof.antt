@@ -3,7 +3,8 @@ use borrow.Author.Needs.{needs}
 use native.Mathlib.Omega.{arith}
 use mir.Syntax.{w32, w64}
 use mir.ValLaws.{toZ-ofZ, toZ-pos}
-use Rattle.text_numbers.proofs.NumberLaws.{half, minus-fits, zero-minus, negate-zero, negate-more}
+use Rattle.arithmetic.proofs.Signed.{half}
+use Rattle.text_numbers.proofs.NumberLaws.{minus-fits, zero-minus, negate-zero, negate-more}
 use Rattle.text_numbers.proofs.number.negate.Statement.{statement}
 use Rattle.text_numbers.proofs.number.negate.Tie as tie
 

@@ -1,7 +1,7 @@
 use borrow.Author.Needs.{needs}
 use mir.Syntax.{w32, w64}
 use mir.ValLaws.{toZ-ofZ, toZ-pos}
-use Rattle.text_numbers.proofs.NumberLaws.{half}
+use Rattle.arithmetic.proofs.Signed.{half}
 use Rattle.text_numbers.proofs.number.plain.Statement.{statement}
 use Rattle.text_numbers.proofs.number.plain.Tie as tie
 

@@ -3,9 +3,6 @@ use Rattle.write_nodes.proofs.GrowingLaws.{apart-laws}
 use borrow.Author.Needs.{needs}
 use Rattle.write_nodes.proofs.growing.apart.Statement.{statement}
 use Rattle.write_nodes.proofs.growing.apart.Tie as tie
-use Rattle.write_nodes.proofs.growing.apart.Reads as reads
-use Rattle.write_nodes.proofs.growing.apart.Lts as lts
-use Rattle.write_nodes.proofs.growing.put.Reads as put-reads
 
 returns : tie.Need-returns
 returns c = search (needs, apart-laws)

@@ -3,10 +3,6 @@ use Rattle.write_nodes.proofs.GrowingLaws.{biased-laws}
 use borrow.Author.Needs.{needs}
 use Rattle.write_nodes.proofs.growing.biased.Statement.{statement}
 use Rattle.write_nodes.proofs.growing.biased.Tie as tie
-use Rattle.write_nodes.proofs.growing.biased.Reads as reads
-use Rattle.write_nodes.proofs.growing.biased.Lts as lts
-use Rattle.write_nodes.proofs.growing.number.Reads as number-reads
-use Rattle.write_nodes.proofs.growing.put.Reads as put-reads
 
 slice-aggregate-put : tie.Need-slice-aggregate-put
 slice-aggregate-put c = search needs

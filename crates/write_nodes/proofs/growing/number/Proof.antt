@@ -3,9 +3,6 @@ use Rattle.write_nodes.proofs.GrowingLaws.{put-laws}
 use borrow.Author.Needs.{needs}
 use Rattle.write_nodes.proofs.growing.number.Statement.{statement}
 use Rattle.write_nodes.proofs.growing.number.Tie as tie
-use Rattle.write_nodes.proofs.growing.number.Reads as reads
-use Rattle.write_nodes.proofs.growing.number.Lts as lts
-use Rattle.text_bytes.proofs.decimal.Reads as decimal-reads
 
 enum-known-at : tie.Need-enum-known-at
 enum-known-at c = search needs

@@ -3,9 +3,6 @@ use Rattle.write_nodes.proofs.GrowingLaws.{put-laws}
 use borrow.Author.Needs.{needs}
 use Rattle.write_nodes.proofs.growing.put.Statement.{statement}
 use Rattle.write_nodes.proofs.growing.put.Tie as tie
-use Rattle.write_nodes.proofs.growing.put.Reads as reads
-use Rattle.write_nodes.proofs.growing.put.Lts as lts
-use Rattle.text_bytes.proofs.copy.Reads as copy-reads
 
 enum-known-at : tie.Need-enum-known-at
 enum-known-at c = search needs

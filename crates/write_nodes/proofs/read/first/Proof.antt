@@ -1,5 +1,5 @@
 -- `write_nodes::read::first` meets its contract: each way out is a law of Places.
-use Rattle.text_bytes.proofs.Places.{first-long, first-all}
+use Rattle.model.proofs.Lists.{first-long, first-all}
 use borrow.Author.Needs.{needs}
 use Rattle.write_nodes.proofs.read.first.Statement.{statement}
 use Rattle.write_nodes.proofs.read.first.Tie as tie
