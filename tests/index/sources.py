@@ -22,6 +22,7 @@ WORD = r"[^\s(){}:;,.=λ→]+"
 SIGNATURE = re.compile(rf'((?:(?:pub|unfoldable|abbrev|record|data) )*)({WORD}(?: {WORD})*) *(?:[({{][^=]*)?:(?: |$)')
 HEADER = re.compile(rf'((?:pub |unfoldable |abbrev )*)(module|record|data|mutual)\b(?: ({WORD}))?')
 LONG_HEADER = re.compile(r'^ *(?:pub )?(?:module|(?:record|data) [^{\s])[^=]*?\bwhere$', re.M)
+LAW = re.compile(rf'(?:pub )?({WORD}) : (.*)')
 FROM_KIT = re.compile(r'^use (?!Rattle·)[^{\n]*\{([^}\n]*)\}', re.M)
 
 
@@ -69,6 +70,28 @@ def statements_of(path, text):
             blocks.append(Block('where', None))
         comment = []
     return tuple(found)
+
+
+@functools.lru_cache(maxsize=None)
+def stated_of(text):
+    """The laws of an antt file that stand in no module with facts of its own: each name and what it states, with the
+    bound names put in order, so that two laws that differ in these alone are the same."""
+    stated, lines = [], text.splitlines()
+    for number, line in enumerate(lines):
+        found = LAW.match(line)
+        if found:
+            rest = itertools.takewhile(lambda next_line: re.match(r'    \S', next_line), lines[number + 1:])
+            states = ' '.join([found.group(2), *map(str.strip, rest)])
+            if re.search('[≡≤<↔⊥]', states):
+                stated.append((found.group(1), in_order(states)))
+    return tuple(stated)
+
+
+def in_order(states):
+    """A statement with the names that it binds replaced by numbers, in the order in which they are bound."""
+    bound = [name for group in re.findall(r'[({]([^(){}:]+) : |λ \(?(\w+)', states) for name in ' '.join(group).split()]
+    numbers = {name: f'#{k}' for k, name in enumerate(dict.fromkeys(bound))}
+    return ''.join(numbers.get(part, part) for part in re.split(r'([\s(){},.])', states))
 
 
 def continued(lines, column):
