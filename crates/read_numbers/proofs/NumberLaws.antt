@@ -5,7 +5,7 @@ use mathlib.Core.Bool.{Bool, true, false, true≢false, _&&_, and-true}
 use mathlib.Core.List.{[], _∷_}
 use mathlib.Core.Option.{Option, none, some}
 use native.Mathlib.Omega.{arith}
-use borrow.Author.Tests.{le-leb, lt-leb, lt-ltb, le-ltb, ltb-true, ltb-false}
+use borrow.Author.Tests.{le-leb, lt-leb, lt-ltb, le-ltb, leb-true, leb-false}
 use lib.IntN.{ℤ, pos, negsuc}
 use lib.Dec.{eqb, leb, ltb}
 use Rattle.model.specs.Basic.{between, orElse}
@@ -93,25 +93,17 @@ module _ (before : ℕ) (c : Count) where
   unfolding fewEdges
   few-unsound row e = rw e
 
-  module _ (n : ℕ) (e : c ≡ Is n) (i : ℕ) (hi : i ≡ n) (p : Bool) (hp : p ≡ ltb maxEdges (before + i)) where
-    pub few-past : p ≡ true → Unsound 15 ≡ fewEdges before c
+  module _ (n : ℕ) (e : c ≡ Is n) (i : ℕ) (hi : i ≡ n) (p : Bool) (hp : p ≡ leb (before + i) maxEdges) where
+    pub few-past : p ≡ false → Unsound 15 ≡ fewEdges before c
     unfolding fewEdges
-    few-past h = rw (e, ← hi, sym hp ∙ h, fewEdges)
+    few-past h =
+        let l = leb-false (before + i) 512 (sym hp ∙ h) in
+        rw (e, ← hi, lt-ltb 512 (before + i) l, fewEdges)
 
-    pub few-fit : p ≡ false → Is n ≡ fewEdges before c
+    pub few-fit : p ≡ true → Is n ≡ fewEdges before c
     unfolding fewEdges
-    few-fit h = sym (rw (e, ← hi, sym hp ∙ h, fewEdges) (ap (λ (x : ℕ). Is x) (sym hi)))
+    few-fit h =
+        let l = leb-true (before + i) 512 (sym hp ∙ h) in
+        sym (rw (e, ← hi, le-ltb 512 (before + i) l, fewEdges) (ap (λ (x : ℕ). Is x) (sym hi)))
 
 pub ruleset few-laws = (few-unsound, few-past, few-fit)
-
-pub passes-many : (before n : ℕ) → 512 < n → true ≡ ltb maxEdges (before + n)
-passes-many before n h = sym (lt-ltb 512 (before + n) (omega arith))
-
-pub passes-by : (before n : ℕ) → n ≤ 512 → ltb (512 - n) before ≡ ltb maxEdges (before + n)
-passes-by before n h = go (ltb (512 - n) before) refl
-  where
-    go : (b : Bool) → ltb (512 - n) before ≡ b → b ≡ ltb maxEdges (before + n)
-    go true e = let l = ltb-true (512 - n) before e in sym (lt-ltb 512 (before + n) (omega arith))
-    go false e = let l = ltb-false (512 - n) before e in sym (le-ltb 512 (before + n) (omega arith))
-
-pub ruleset passes-laws = (passes-many, passes-by)

@@ -2,9 +2,6 @@
 use model::Model;
 use text_numbers::Natural;
 ghost use mathlib.Core.Path.{_≡_};
-ghost use Prim.Native.Nat.{_+_};
-ghost use lib.Dec.{ltb};
-ghost use Rattle.model.specs.Bounds.{maxEdges};
 ghost use Rattle.read_numbers.specs.Number.{countIn, fewEdges};
 
 // The line's number, or the smallest row that it breaks.
@@ -32,16 +29,6 @@ pub fn one_number(line: &[u8], ended: bool, name: &[u8], low: u32, high: u32) ->
     }
 }
 
-// Are so many edges and n more too many?
-fn passes(before: usize, n: usize) -> bool
-    ensures { λ r. ⌜ r ≡ ltb maxEdges (before + n) ⌝ }
-{
-    if Model::EDGES < n {
-        return true;
-    }
-    Model::EDGES - n < before
-}
-
 // Row 15: `before` edges, and so many more.
 pub fn few_edges(before: usize, count: Count) -> Count
     ensures { λ r. ⌜ r ≡ fewEdges before count ⌝ }
@@ -49,7 +36,7 @@ pub fn few_edges(before: usize, count: Count) -> Count
     let Count::Is(n) = count else {
         return count;
     };
-    if passes(before, arithmetic::index(n)) {
+    if !arithmetic::fits(before, arithmetic::index(n), Model::EDGES) {
         return Count::Unsound(15);
     }
     Count::Is(n)

@@ -1,6 +1,7 @@
 -- `few_edges` meets its contract.
 use Rattle.read_numbers.proofs.NumberLaws.{few-laws}
 use borrow.Author.Needs.{needs}
+use borrow.Author.Tests.{not-true, not-false}
 use Rattle.read_numbers.proofs.number.few_edges.Statement.{statement}
 use Rattle.read_numbers.proofs.number.few_edges.Tie as tie
 
@@ -16,14 +17,14 @@ returns c = search (needs, few-laws)
 index-requires : tie.Need-index-requires
 index-requires c κs = search needs
 
-passes-requires : tie.Need-passes-requires
-passes-requires c κs = search needs
+fits-requires : tie.Need-fits-requires
+fits-requires c κs = search needs
 
 returns-2 : tie.Need-returns-2
-returns-2 c = search (needs, few-laws)
+returns-2 c = search (needs, few-laws, not-true)
 
 returns-3 : tie.Need-returns-3
-returns-3 c = search (needs, few-laws)
+returns-3 c = search (needs, few-laws, not-false)
 
 pub few-edges-spec : {M : Type 1} → statement M
 few-edges-spec =
@@ -33,6 +34,6 @@ few-edges-spec =
     enum-told
     returns
     index-requires
-    passes-requires
+    fits-requires
     returns-2
     returns-3)
