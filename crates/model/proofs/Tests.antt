@@ -90,6 +90,9 @@ pub not-true : (b : Bool) → not b ≡ true → b ≡ false
 not-true true h = sym h
 not-true false h = refl
 
+pub never : {A : Type 0} → false ≡ true → A
+never h = absurd (true≢false (sym h))
+
 pub not-not : (b : Bool) → not (not b) ≡ b
 not-not true = refl
 not-not false = refl

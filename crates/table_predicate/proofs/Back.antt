@@ -11,6 +11,7 @@ use Rattle.model.specs.Predicate.{Pred, Preds, Expr, all, any, negate, imp, eq,
 use Rattle.model.specs.Lawful.{LawfulRange}
 use Rattle.model.specs.Table.{wordOf}
 use Rattle.node_words.specs.Nodes.{meant}
+use Rattle.model.proofs.Tests.{never}
 use Rattle.table_predicate.specs.declared.Walked.{Walked}
 use Rattle.table_predicate.specs.declared.Reach.{Reach}
 use Rattle.table_predicate.specs.Walk.{sound, unsound, deeper, unreached, reached, couple, gather, declaredOf, predicateBy, expressionBy, predicateAt, expressionAt}
@@ -55,9 +56,6 @@ before Q w stay h = go (w .sound) refl
 
 onto : (Q : Walked → Walked) {w v : Walked} → w ≡ v → Q w .sound ≡ true → Q v .sound ≡ true
 onto Q e h = rw e at h
-
-never : {A : Type 0} → false ≡ true → A
-never e = absurd (true≢false (sym e))
 
 module _ (ws ranges : List ℕ) (lawful : (x : Range) → List·Memᴰ x (declaredOf ranges) → LawfulRange x) where
   abbrev P : ℕ → Walked → Walked

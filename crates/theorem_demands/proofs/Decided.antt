@@ -14,7 +14,7 @@ use Rattle.model.specs.Table.{modelOf, row18, row19, unopened, opened, openTabl
 use Rattle.model.proofs.Parsing.{none-some, got}
 use Rattle.format.specs.Refused.{Conditions, Unbroken, Smallest}
 use Rattle.format.proofs.Smallest.{firstOf, risesFrom, first-unbroken, first-smallest}
-use Rattle.theorem_definition4.proofs.Definition4Is.{opened-of}
+use Rattle.model.proofs.TableLaws.{opened-model}
 use Rattle.theorem_demands.specs.Rows.{ownRows, tableRows}
 
 -- where none holds, each is false
@@ -110,7 +110,7 @@ module _ (own : Model → Conditions) (t : List ℕ) where
         go : Opening t → Decided refusal Good (tableRows own t) x → Decided refusal Good (own m) x
         go (short e p) d = absurd (no-opening 18 m (sym p ∙ o))
         go (no-model e n p) d = absurd (no-opening 19 m (sym p ∙ o))
-        go (of-model k e n p) d = inside (first-own m e (opened-of t m o)) d
+        go (of-model k e n p) d = inside (first-own m e (opened-model t m o)) d
 
     -- an answer over a table is decided, if it is so where the table opens
     pub table-decided : ((row : ℕ) → openTable t ≡ unopened row → x ≡ refusal row)

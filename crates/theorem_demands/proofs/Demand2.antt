@@ -20,7 +20,7 @@ use Rattle.model.specs.Linear.{linear, mergedInit, mergedInv, mergedEdges, merg
 use Rattle.model.proofs.LinesLaws.{sheet}
 use Rattle.model.proofs.LimitsLaws.{lawful-is}
 use Rattle.model.proofs.LinearLimits.{linear-limited}
-use Rattle.model.proofs.TableLaws.{table-length, table-one-to-one, model-given}
+use Rattle.model.proofs.TableLaws.{table-length, table-one-to-one, model-given, opened-model}
 use Rattle.format.specs.Bytes.{Bytes}
 use Rattle.format.specs.Spelling.{textOf}
 use Rattle.format.specs.Refused.{Unbroken}
@@ -32,7 +32,7 @@ use Rattle.format.proofs.Exact.{accepted-then, text-one-to-one}
 use Rattle.format.proofs.Given.{reader-exact}
 use Rattle.format.proofs.Inverse.{written-back}
 use Rattle.format.proofs.TextRuns.{program-prints, table-read}
-use Rattle.theorem_definition4.proofs.Definition4Is.{linear-is, opened-of, opened-limited, merge-is-definition-4}
+use Rattle.theorem_definition4.proofs.Definition4Is.{linear-is, opened-limited, merge-is-definition-4}
 use Rattle.theorem_definition4.proofs.Unique.{linearizations-same}
 use Rattle.merger.specs.declared.MergeAnswer.the-variants as Merge
 use Rattle.merger.specs.declared.Outcome.the-variants as Outcome
@@ -81,7 +81,7 @@ reads-back : (table : List ℕ) (buffer : ℕ) (text : Bytes) → writeAnswer ta
     → tableAfter text lent ≡ take tableWords table ++ drop tableWords lent
 reads-back table buffer text h lent room =
     let (m, o, q, l) = written-then table buffer text h in
-    let g = model-given table m (opened-of table m o) in
+    let g = model-given table m (opened-model table m o) in
     table-read text lent m (reader-exact text (length lent) m .1 (room, g .0, q)) ∙ ap (λ (ws : List ℕ). ws ++ drop tableWords lent) (sym (g .1))
 
 -- the merged text

@@ -19,7 +19,8 @@ use Rattle.model.proofs.TableJudge.{stateAt}
 use Rattle.model.proofs.ByRules.{refused-marked, refused-yes, step-by-rules, environment-by-rules, no-marked, no-yes}
 use Rattle.format.specs.Refused.{Conditions, Unbroken}
 use Rattle.format.proofs.Smallest.{firstOf, risesFrom}
-use Rattle.theorem_definition4.proofs.Definition4Is.{opened-of, opened-limited}
+use Rattle.theorem_definition4.proofs.Definition4Is.{opened-limited}
+use Rattle.model.proofs.TableLaws.{opened-model}
 use Rattle.theorem_demands.specs.Rows.{tableRows, row20, stepRows, environmentRows}
 use Rattle.theorem_demands.specs.Calls.{StepCall, EnvironmentCall, FromState}
 use Rattle.theorem_demands.proofs.Decided.{unheld, Decided, by-row, by-none, Tells, refused-by, accepted-by, Opening, short, no-model, of-model, opening, table-rise, own-unbroken, table-decided}
@@ -111,7 +112,7 @@ module _ (t : List ℕ) (phase : ℕ) (locations : List ℕ) (values : List ℤ)
   given-by rules u s =
       at-some t phase locations values judge (s .model) (s .opens) (s .in-phase) (s .names)
       ∙ rules (s .model) (lawful-is (s .model) .0 (opened-limited t (s .model) (s .opens))) (s .in-phase)
-      (own-unbroken own t (s .model) (opened-of t (s .model) (s .opens)) u) (s .allow)
+      (own-unbroken own t (s .model) (opened-model t (s .model) (s .opens)) u) (s .allow)
 
 -- the step judge
 abbrev SaysStep : Answer → Type 0

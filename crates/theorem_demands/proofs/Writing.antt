@@ -21,7 +21,8 @@ use Rattle.format.specs.Writer.{WriteAnswer, unwritten, written, row35, writeAn
 use Rattle.format.specs.Merger.{MergeAnswer, unmerged, merged, mergeAnswer, mergeAfter}
 use Rattle.format.proofs.Smallest.{firstOf, risesFrom}
 use Rattle.theorem_definition4.specs.Definition4.{breaks, firstRow}
-use Rattle.theorem_definition4.proofs.Definition4Is.{no-merge, merge-is-definition-4, merge-refuses}
+use Rattle.theorem_definition4.proofs.Definition4Is.{merge-is-definition-4, merge-refuses}
+use Rattle.format.proofs.TextRuns.{no-merge}
 use Rattle.theorem_demands.specs.Rows.{ownRows, tableRows, writerRows, row32, mergerRows}
 use Rattle.theorem_demands.specs.Calls.{WriteCall, MergeCall}
 use Rattle.theorem_demands.proofs.Memory.{put-first}
