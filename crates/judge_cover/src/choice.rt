@@ -8,14 +8,15 @@ ghost use Prim.Native.Nat.{_<_};
 ghost use Rattle.model.specs.Table.{bit};
 ghost use Rattle.judge_cover.specs.Steps.{PartOf};
 
-// For each variable how many edges mention it: bit K of the five sets, from `ones` up, is that number for variable K, and
-// numbers from 31 up are 31.
+// For each variable how many edges mention it: bit K of the six sets, from `ones` up, is that number for variable K, and
+// numbers from 63 up are 63.
 pub struct Tally {
     pub ones: u64,
     pub twos: u64,
     pub fours: u64,
     pub eights: u64,
     pub sixteens: u64,
+    pub more: u64,
 }
 
 fn with(t: Tally, named: u64) -> Tally {
@@ -23,13 +24,15 @@ fn with(t: Tally, named: u64) -> Tally {
     let four = t.twos & two;
     let eight = t.fours & four;
     let sixteen = t.eights & eight;
-    let full = t.sixteens & sixteen;
+    let more = t.sixteens & sixteen;
+    let full = t.more & more;
     Tally {
         ones: (t.ones ^ named) | full,
         twos: (t.twos ^ two) | full,
         fours: (t.fours ^ four) | full,
         eights: (t.eights ^ eight) | full,
-        sixteens: t.sixteens | sixteen,
+        sixteens: (t.sixteens ^ sixteen) | full,
+        more: t.more | more,
     }
 }
 
@@ -50,6 +53,7 @@ fn count(masks: &[u64], to: usize, u: u64) -> Tally {
         fours: 0,
         eights: 0,
         sixteens: 0,
+        more: 0,
     };
     let mut i = 0;
     while i < to {
@@ -70,11 +74,12 @@ fn fewer(set: u64, more: u64) -> u64
 fn rarest(u: u64, t: Tally) -> u64
     ensures { λ r. ⌜ PartOf r u ⌝ }
 {
-    let a = fewer(u, t.sixteens);
-    let b = fewer(a, t.eights);
-    let c = fewer(b, t.fours);
-    let d = fewer(c, t.twos);
-    fewer(d, t.ones)
+    let a = fewer(u, t.more);
+    let b = fewer(a, t.sixteens);
+    let c = fewer(b, t.eights);
+    let d = fewer(c, t.fours);
+    let e = fewer(d, t.twos);
+    fewer(e, t.ones)
 }
 
 // The first variable of a set; 64 if it has none.

@@ -21,6 +21,9 @@ fewer-requires-4 c κs = search needs
 fewer-requires-5 : tie.Need-fewer-requires-5
 fewer-requires-5 c κs = search needs
 
+fewer-requires-6 : tie.Need-fewer-requires-6
+fewer-requires-6 c κs = search needs
+
 returns : tie.Need-returns
 returns c = search (needs, part-laws)
 
@@ -33,4 +36,5 @@ rarest-spec =
     fewer-requires-3
     fewer-requires-4
     fewer-requires-5
+    fewer-requires-6
     returns)
