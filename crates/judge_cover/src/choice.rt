@@ -19,6 +19,17 @@ pub struct Tally {
     pub more: u64,
 }
 
+fn nothing() -> Tally {
+    Tally {
+        ones: 0,
+        twos: 0,
+        fours: 0,
+        eights: 0,
+        sixteens: 0,
+        more: 0,
+    }
+}
+
 fn with(t: Tally, named: u64) -> Tally {
     let two = t.ones & named;
     let four = t.twos & two;
@@ -36,6 +47,23 @@ fn with(t: Tally, named: u64) -> Tally {
     }
 }
 
+// The same, where no number is 63.
+fn with_few(t: Tally, named: u64) -> Tally {
+    let two = t.ones & named;
+    let four = t.twos & two;
+    let eight = t.fours & four;
+    let sixteen = t.eights & eight;
+    let more = t.sixteens & sixteen;
+    Tally {
+        ones: t.ones ^ named,
+        twos: t.twos ^ two,
+        fours: t.fours ^ four,
+        eights: t.eights ^ eight,
+        sixteens: t.sixteens ^ sixteen,
+        more: t.more ^ more,
+    }
+}
+
 fn last(ends: &[usize], n: usize) -> usize {
     if n == 0 {
         0
@@ -44,23 +72,30 @@ fn last(ends: &[usize], n: usize) -> usize {
     }
 }
 
-// Counts the edges up to the end of the last group. Where other edges stand between the groups they are counted too,
-// which may make the choice a worse one.
-fn count(masks: &[u64], to: usize, u: u64) -> Tally {
-    let mut t = Tally {
-        ones: 0,
-        twos: 0,
-        fours: 0,
-        eights: 0,
-        sixteens: 0,
-        more: 0,
-    };
+fn count_few(masks: &[u64], to: usize, u: u64) -> Tally {
+    let mut t = nothing();
+    let mut i = 0;
+    while i < to {
+        t = with_few(t, u ^ edges::left_by(masks, u, i));
+        i += 1;
+    }
+    t
+}
+
+fn count_many(masks: &[u64], to: usize, u: u64) -> Tally {
+    let mut t = nothing();
     let mut i = 0;
     while i < to {
         t = with(t, u ^ edges::left_by(masks, u, i));
         i += 1;
     }
     t
+}
+
+// Counts the edges up to the end of the last group. Where other edges stand between the groups they are counted too,
+// which may make the choice a worse one.
+fn count(masks: &[u64], to: usize, u: u64) -> Tally {
+    if to < 64 { count_few(masks, to, u) } else { count_many(masks, to, u) }
 }
 
 // Those of a set that are not in `more`, unless that is none.
