@@ -1,5 +1,5 @@
-// Which uncovered variable the search branches on: one that as few edges as can be mention. Any uncovered one would do, so all
-// that is promised of the choice is that.
+// Which uncovered variable the search branches on: one that as few edges as can be mention. Any uncovered one would do,
+// so all that is promised of the choice is that.
 use crate::edges::{self};
 use crate::places::{self};
 ghost use mathlib.Core.Path.{_≡_};
@@ -8,8 +8,8 @@ ghost use Prim.Native.Nat.{_<_};
 ghost use Rattle.model.specs.Table.{bit};
 ghost use Rattle.judge_cover.specs.Steps.{PartOf};
 
-// For each variable how many edges mention it: bit K of the six sets, from `ones` up, is that number for variable K, and
-// numbers from 63 up are 63.
+// For each variable how many edges mention it: bit K of the six sets, from `ones` up, is that number for variable K,
+// and numbers from 63 up are 63.
 pub struct Tally {
     pub ones: u64,
     pub twos: u64,
@@ -95,7 +95,11 @@ fn count_many(masks: &[u64], to: usize, u: u64) -> Tally {
 // Counts the edges up to the end of the last group. Where other edges stand between the groups they are counted too,
 // which may make the choice a worse one.
 fn count(masks: &[u64], to: usize, u: u64) -> Tally {
-    if to < 64 { count_few(masks, to, u) } else { count_many(masks, to, u) }
+    if to < 64 {
+        count_few(masks, to, u)
+    } else {
+        count_many(masks, to, u)
+    }
 }
 
 // Those of a set that are not in `more`, unless that is none.
