@@ -8,8 +8,8 @@ ghost use Prim.Native.Nat.{_<_};
 ghost use Rattle.model.specs.Table.{bit};
 ghost use Rattle.judge_cover.specs.Steps.{PartOf};
 
-// For each variable how many edges mention it: bit K of the six sets, from `ones` up, is that number for variable K,
-// and numbers from 63 up are 63.
+// For each variable how many edges mention it: bit K of the six sets from `ones` up to `more` is that number for
+// variable K, less 64 as often as it came to 64; `over` has the variables for which it did.
 pub struct Tally {
     pub ones: u64,
     pub twos: u64,
@@ -17,6 +17,7 @@ pub struct Tally {
     pub eights: u64,
     pub sixteens: u64,
     pub more: u64,
+    pub over: u64,
 }
 
 fn nothing() -> Tally {
@@ -27,6 +28,7 @@ fn nothing() -> Tally {
         eights: 0,
         sixteens: 0,
         more: 0,
+        over: 0,
     }
 }
 
@@ -36,18 +38,19 @@ fn with(t: Tally, named: u64) -> Tally {
     let eight = t.fours & four;
     let sixteen = t.eights & eight;
     let more = t.sixteens & sixteen;
-    let full = t.more & more;
+    let over = t.more & more;
     Tally {
-        ones: (t.ones ^ named) | full,
-        twos: (t.twos ^ two) | full,
-        fours: (t.fours ^ four) | full,
-        eights: (t.eights ^ eight) | full,
-        sixteens: (t.sixteens ^ sixteen) | full,
-        more: t.more | more,
+        ones: t.ones ^ named,
+        twos: t.twos ^ two,
+        fours: t.fours ^ four,
+        eights: t.eights ^ eight,
+        sixteens: t.sixteens ^ sixteen,
+        more: t.more ^ more,
+        over: t.over | over,
     }
 }
 
-// The same, where no number is 63.
+// The same, where no number comes to 64.
 fn with_few(t: Tally, named: u64) -> Tally {
     let two = t.ones & named;
     let four = t.twos & two;
@@ -61,6 +64,7 @@ fn with_few(t: Tally, named: u64) -> Tally {
         eights: t.eights ^ eight,
         sixteens: t.sixteens ^ sixteen,
         more: t.more ^ more,
+        over: t.over,
     }
 }
 
@@ -113,12 +117,13 @@ fn fewer(set: u64, more: u64) -> u64
 fn rarest(u: u64, t: Tally) -> u64
     ensures { λ r. ⌜ PartOf r u ⌝ }
 {
-    let a = fewer(u, t.more);
-    let b = fewer(a, t.sixteens);
-    let c = fewer(b, t.eights);
-    let d = fewer(c, t.fours);
-    let e = fewer(d, t.twos);
-    fewer(e, t.ones)
+    let a = fewer(u, t.over);
+    let b = fewer(a, t.more);
+    let c = fewer(b, t.sixteens);
+    let d = fewer(c, t.eights);
+    let e = fewer(d, t.fours);
+    let f = fewer(e, t.twos);
+    fewer(f, t.ones)
 }
 
 // The first variable of a set; 64 if it has none.

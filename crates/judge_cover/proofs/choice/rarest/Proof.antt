@@ -24,8 +24,11 @@ fewer-requires-5 c κs = search needs
 fewer-requires-6 : tie.Need-fewer-requires-6
 fewer-requires-6 c κs = search needs
 
+fewer-requires-7 : tie.Need-fewer-requires-7
+fewer-requires-7 c κs = search needs
+
 returns : tie.Need-returns
-returns c = search (needs, part-laws)
+returns c = search (needs, part-laws) depth 7
 
 pub rarest-spec : {M : Type 1} → statement M
 rarest-spec =
@@ -37,4 +40,5 @@ rarest-spec =
     fewer-requires-4
     fewer-requires-5
     fewer-requires-6
+    fewer-requires-7
     returns)
