@@ -1,6 +1,6 @@
 -- Can the automata that take an action each choose one of their edges so that every changed variable is mentioned?
--- Sets of variables are numbers, bit K for variable K. An edge is given by the set of the variables that its update does not
--- mention, an automaton by the group of its edges.
+-- Sets of variables are numbers, bit K for variable K. An edge is given by the set of the variables that its update
+-- does not mention, an automaton by the group of its edges.
 use Prim.Native.Nat.{ℕ, suc, _+_, _-_}
 use mathlib.Core.Bool.{Bool, true, false, not, _&&_, _||_}
 use mathlib.Core.List.{List, [], _∷_, map}
@@ -64,8 +64,8 @@ allFilled froms tos n = every (λ k. ltb (getD froms k 0) (getD tos k 0)) (count
 unfoldable pub past : (k i : ℕ) → ℕ
 past k i = elim (ltb i k) [ true ↦ i | false ↦ i + 1 ]
 
--- Where no edge of a group covers more than `gain`, and those of all groups together no more than `total`, an edge of that
--- group is of use only if the others can cover what it leaves.
+-- Where no edge of a group covers more than `gain`, and those of all groups together no more than `total`, an edge of
+-- that group is of use only if the others can cover what it leaves.
 unfoldable pub useful : (u total gain r : ℕ) → Bool
 useful u total gain r = leb (ones (bitAnd u r) + gain) total
 

@@ -40,13 +40,16 @@ pub record SiftedTo (masks : List ℕ) (from to u total gain : ℕ) (before afte
   pub same : (i : ℕ) → i < count → getD after i 0 ≡ getD before i 0
   pub edges : group after count next ≡ siftedGroup masks from to u total gain
 
-unfoldable pub SiftedAs : (masks : List ℕ) (from to u total gain : ℕ) (before after : List ℕ) (count : ℕ) → Room → Type 0
-SiftedAs masks from to u total gain before after count (At next) = SiftedTo masks from to u total gain before after count next
+unfoldable pub SiftedAs : (masks : List ℕ) (from to u total gain : ℕ) (before after : List ℕ) (count : ℕ) → Room
+    → Type 0
+SiftedAs masks from to u total gain before after count (At next) =
+    SiftedTo masks from to u total gain before after count next
 SiftedAs masks from to u total gain before after count Full = Unit {0}
 
 -- an edge between two places that is worth a try, with which the m other groups cover the rest
 abbrev pub triesAt : (masks : List ℕ) (from to : ℕ) (starts ends : List ℕ) (m u v i : ℕ) → Bool
-triesAt masks from to starts ends m u v i = worth masks from to u v i && coverable (groups masks starts ends m) (leftBy masks u i)
+triesAt masks from to starts ends m u v i =
+    worth masks from to u v i && coverable (groups masks starts ends m) (leftBy masks u i)
 
 unfoldable pub triedIn : (masks : List ℕ) (from to : ℕ) (starts ends : List ℕ) (m u v : ℕ) → Bool
 triedIn masks from to starts ends m u v = exists (triesAt masks from to starts ends m u v) (countUp from (to - from))

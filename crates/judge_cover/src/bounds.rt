@@ -50,7 +50,8 @@ fn gain(masks: &[u64], from: usize, to: usize, u: u64) -> u32
 
 pub(crate) fn find(masks: &[u64], starts: &[usize], ends: &[usize], n: usize, u: u64) -> Bounds
     requires { ⌜ n ≤ 16 ⌝ }
-    ensures { λ r. ⌜ BoundsOf (now (masks .entry)) (now (starts .entry)) (now (ends .entry)) n u (r .gains) (r .total) ⌝ }
+    ensures { λ r. ⌜ BoundsOf (now (masks .entry)) (now (starts .entry)) (now (ends .entry)) n u
+        (r .gains) (r .total) ⌝ }
 {
     let mut gains = [0u32; 16];
     let mut total = 0;

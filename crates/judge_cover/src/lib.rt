@@ -1,5 +1,6 @@
-// Can the automata that take an action each choose one of their edges so that every changed variable is mentioned? What is
-// decided stands in specs/Cover.antt; why the search decides it, in proofs/CoverLaws.antt and proofs/Branching.antt.
+// Can the automata that take an action each choose one of their edges so that every changed variable is mentioned?
+// What is decided stands in specs/Cover.antt; why the search decides it, in proofs/CoverLaws.antt and
+// proofs/Branching.antt.
 mod bounds;
 mod choice;
 mod edges;
@@ -10,8 +11,8 @@ mod sift;
 ghost use mathlib.Core.Path.{_≡_};
 ghost use Rattle.judge_cover.specs.Cover.{coverable, groupsOf};
 
-// Bit k of `takers` says that automaton k takes the action; its edges are `masks[first[k] .. first[k + 1]]`, each the set of the
-// variables that its update does not mention.
+// Bit k of `takers` says that automaton k takes the action; its edges are `masks[first[k] .. first[k + 1]]`, each the
+// set of the variables that its update does not mention.
 pub fn covered(masks: &[u64], first: &[usize], takers: u64, changed: u64) -> bool
     ensures { λ r. ⌜ r ≡ coverable (groupsOf (now (masks .entry)) (now (first .entry)) takers) changed ⌝ }
 {

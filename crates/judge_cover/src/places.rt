@@ -71,7 +71,8 @@ pub(crate) fn groups(
     requires { ⌜ (length (now starts) ≡ 16) × (length (now ends) ≡ 16) ⌝ }
     ensures { λ r. ⌜ r ≤ 16 ⌝ }
     ensures { λ _. ⌜ (length (now (starts .exit)) ≡ 16) × (length (now (ends .exit)) ≡ 16) ⌝ }
-    ensures { λ r. ⌜ ((masks : List ℕ) → groups masks (now (starts .exit)) (now (ends .exit)) r ≡ groupsOf masks (now (first .entry)) takers) ⌝ }
+    ensures { λ r. ⌜ ((masks : List ℕ) → groups masks (now (starts .exit)) (now (ends .exit)) r
+        ≡ groupsOf masks (now (first .entry)) takers) ⌝ }
 {
     let mut n = 0;
     let mut k = 0;

@@ -45,7 +45,8 @@ fn sift_group(
     requires { ⌜ length (now kept) ≡ 512 ⌝ }
     requires { ⌜ count ≤ 512 ⌝ }
     ensures { λ _. ⌜ length (now (kept .exit)) ≡ 512 ⌝ }
-    ensures { λ r. ⌜ SiftedAs (now (masks .entry)) from to u total gain (now (kept .entry)) (now (kept .exit)) count r ⌝ }
+    ensures { λ r. ⌜ SiftedAs (now (masks .entry)) from to u total gain (now (kept .entry)) (now (kept .exit))
+        count r ⌝ }
 {
     if !fits(masks.len(), from, to, count) {
         return Room::Full;
@@ -82,7 +83,8 @@ pub(crate) fn sift(
 ) -> bool
     requires { ⌜ n ≤ 16 ⌝ }
     requires { ⌜ (length (now kept) ≡ 512) × (length (now starts) ≡ 16) × (length (now ends) ≡ 16) ⌝ }
-    ensures { λ _. ⌜ (length (now (kept .exit)) ≡ 512) × (length (now (starts .exit)) ≡ 16) × (length (now (ends .exit)) ≡ 16) ⌝ }
+    ensures { λ _. ⌜ (length (now (kept .exit)) ≡ 512) × (length (now (starts .exit)) ≡ 16)
+        × (length (now (ends .exit)) ≡ 16) ⌝ }
     ensures { λ r. ⌜ (r ≡ true → groups (now (kept .exit)) (now (starts .exit)) (now (ends .exit)) n
         ≡ siftedGroups (now (masks .entry)) (now (from .entry)) (now (to .entry)) (now (gains .entry)) n u total) ⌝ }
 {

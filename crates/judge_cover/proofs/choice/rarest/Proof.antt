@@ -21,8 +21,14 @@ fewer-requires-4 c κs = search needs
 fewer-requires-5 : tie.Need-fewer-requires-5
 fewer-requires-5 c κs = search needs
 
+fewer-requires-6 : tie.Need-fewer-requires-6
+fewer-requires-6 c κs = search needs
+
+fewer-requires-7 : tie.Need-fewer-requires-7
+fewer-requires-7 c κs = search needs
+
 returns : tie.Need-returns
-returns c = search (needs, part-laws)
+returns c = search (needs, part-laws) depth 7
 
 pub rarest-spec : {M : Type 1} → statement M
 rarest-spec =
@@ -33,4 +39,6 @@ rarest-spec =
     fewer-requires-3
     fewer-requires-4
     fewer-requires-5
+    fewer-requires-6
+    fewer-requires-7
     returns)
