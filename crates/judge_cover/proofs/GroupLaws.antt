@@ -341,7 +341,4 @@ module _ (masks from to gains : List ℕ) (n u total : ℕ) where
         ap (groups kept starts ends) (sym z) ∙ s .sifted ∙ ap (λ m. siftedGroups masks from to gains m u total) z
 
 -- where there was no room nothing is promised
-pub no-room : {A : Type 0} → false ≡ true → A
-no-room h = absurd (true≢false (sym h))
-
 pub ruleset sifts-laws = (sifts-first, sifts-more, sifts-done)

@@ -1,4 +1,5 @@
-use Rattle.judge_cover.proofs.GroupLaws.{Sifts, sifts-laws, no-room}
+use Rattle.model.proofs.Tests.{never}
+use Rattle.judge_cover.proofs.GroupLaws.{Sifts, sifts-laws}
 use Prim.Native.Nat.{_-_, _≤_, _<_}
 use borrow.Author.Needs.{needs}
 use Rattle.judge_cover.proofs.sift.sift.Statement.{statement}
@@ -37,7 +38,7 @@ enum-told : tie.Need-enum-told Inv-loop μ-loop
 enum-told c = search needs
 
 returns : tie.Need-returns Inv-loop μ-loop
-returns c = (search needs, no-room)
+returns c = (search needs, never)
 
 mul-starts : tie.Need-mul-starts Inv-loop μ-loop
 mul-starts c = search needs
