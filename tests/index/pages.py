@@ -81,7 +81,7 @@ def wings(repository):
         page += wrapped(f'**{wing.name}**{knows}: ' + ', '.join(f'`{crate}`' for crate in wing.crates), '- ', '  ')
     page += '\n```mermaid\ngraph TD\n'
     for wing in repository.wings:
-        page += f'  subgraph wing_{wing.name} [{wing.name}]\n    ' + '; '.join(wing.crates) + '\n  end\n'
+        page += f'  subgraph wing_{wing.name} [{wing.name}]\n' + wrapped('; '.join(wing.crates), '    ', '    ') + '  end\n'
     for crate, needs in repository.sees.items():
         page += f'  {crate} --> ' + ' & '.join(nearest(repository.sees, needs)) + '\n' if needs else ''
     return page + '```\n'
