@@ -10,7 +10,6 @@ pub use call::state_checked;
 pub use call::values_checked;
 pub use rows::action_known;
 pub use rows::phase_number;
-pub use rows::phase_of;
 
 // Phase 0 is Start, phase 1 Running.
 pub enum Phase {

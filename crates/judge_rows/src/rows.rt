@@ -10,7 +10,7 @@ ghost use Rattle.judge_rows.specs.RowTests.{phaseRead, lengthsFit, locat
 ghost use Rattle.judge_rows.specs.RowTests.{rangeHas, valuesKnown, actionKnown};
 
 // Row 20: which phase has this number?
-pub fn phase_of(phase: u32) -> Admitted
+pub(crate) fn phase_of(phase: u32) -> Admitted
     ensures { λ r. ⌜ r ≡ phaseRead phase ⌝ }
 {
     match phase {

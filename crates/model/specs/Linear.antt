@@ -52,8 +52,7 @@ module _ (m : Model) where
   unfoldable pub mergedEdge : ℕ → List Taker → Edge
   mergedEdge a takers =
       record {
-        from =
-            0;
+        from = 0;
         action = a;
         to = 0;
         update = all (preds (map (λ x. x .edge .update) takers ++ pointerMoves takers));

@@ -8,6 +8,5 @@ mod token;
 pub use compose::Composition;
 pub use compose::read;
 pub use list::Listed;
-pub use list::list_of;
 pub use list::sync_list;
 pub use lists::lists_sound;

@@ -53,7 +53,7 @@ fn with_item(seen: Numbers, k: u32, actions: u32) -> Numbers
 }
 
 // A list that is not empty.
-pub fn list_of(part: &[u8], actions: u32) -> Listed
+pub(crate) fn list_of(part: &[u8], actions: u32) -> Listed
     ensures { λ r. ⌜ r ≡ listOf actions (parts comma (now (part .entry))) ⌝ }
 {
     let mut seen = Numbers {

@@ -7,7 +7,7 @@ use native.Mathlib.Numerals.{sub-one}
 use lib.ListN.{length, getD, List·getD-eq-default}
 use borrow.Author.Tests.{le-leb, lt-leb}
 use Rattle.table_places.specs.AtMost.{atMost}
-use Rattle.table_places.specs.Outline.{reach, nodesPlace, afterPredicate, edgeFrom, edgeAction, edgeTo, updatePlace, setLow, setHigh, locationCount, firstLocation, firstEdge, locationAt, edgeAt, edgesAt, afterAutomaton, actionsIn, variablesIn, rangeAt, lowAt, highAt, countAt, automataIn, firstAutomaton, passed, automatonAt, treeAt}
+use Rattle.table_places.specs.Outline.{reach, nodesPlace, afterPredicate, edgeFrom, edgeAction, edgeTo, updatePlace, setLow, setHigh, locationCount, firstLocation, firstEdge, locationAt, edgeAt, edgesAt, afterAutomaton, actionsIn, variablesIn, rangeAt, lowAt, highAt, countAt, automataIn, firstAutomaton}
 
 -- `at_most`
 module _ (most n : ℕ) where
@@ -155,7 +155,7 @@ pub edges-is : (t : List ℕ) (at n b r : ℕ) → n ≡ locationCount t at → 
 unfolding edgesAt
 edges-is t at n b r f g h = rw (h, g, f)
 
--- `after_automaton`
+-- past an automaton, by the place of its edges
 pub automaton-is : (t : List ℕ) (at p a n r : ℕ) → p ≡ edgesAt t at → a ≡ firstEdge t p → n ≡ getD t p 0 → r ≡ edgeAt t a n → r ≡ afterAutomaton t at
 unfolding afterAutomaton
 automaton-is t at p a n r e f g h = rw (h, f, g, e)
@@ -164,28 +164,3 @@ automaton-is t at p a n r e f g h = rw (h, f, g, e)
 pub count-is : (t : List ℕ) (n r : ℕ) → n ≡ variablesIn t → r ≡ rangeAt t n → r ≡ countAt t
 unfolding countAt
 count-is t n r e f = rw (f, e)
-
--- `automaton_at`
-pub automaton-first : (t : List ℕ) (k next : ℕ) → next ≡ firstAutomaton t → passed t next k ≡ automatonAt t k
-unfolding automatonAt
-automaton-first t k next e = rw e
-
-module _ (t : List ℕ) (next left whole : ℕ) (inv : passed t next left ≡ whole) where
-  pub passed-done : left ≡ 0 → next ≡ whole
-  unfolding passed
-  passed-done z = rw z at inv
-
-  pub passed-step : (left ≡ 0 → ⊥) → (a : ℕ) → a ≡ afterAutomaton t next → passed t a (left - 1) ≡ whole
-  unfolding passed
-  passed-step y a e = go left y inv
-    where
-      go : (m : ℕ) → (m ≡ 0 → ⊥) → passed t next m ≡ whole → passed t a (m - 1) ≡ whole
-      go zero u i = absurd (u refl)
-      go (suc m) u i = rw (sub-one (suc m), e) i
-
-pub ruleset automaton-laws = (automaton-first, passed-done, passed-step)
-
--- `tree_at`
-pub tree-is : (t : List ℕ) (n r : ℕ) → n ≡ automataIn t → r ≡ automatonAt t n → r ≡ treeAt t
-unfolding treeAt
-tree-is t n r e f = rw (f, e)

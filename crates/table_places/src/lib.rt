@@ -30,8 +30,7 @@ ghost use mathlib.Core.Path.{_≡_};
 ghost use Prim.Native.Nat.{_≤_};
 ghost use lib.ListN.{getD};
 ghost use Rattle.table_places.specs.AtMost.{atMost};
-ghost use Rattle.table_places.specs.Outline.{reach, afterPredicate, locationAt, edgeAt, edgesAt, afterAutomaton};
-ghost use Rattle.table_places.specs.Outline.{countAt, automatonAt, treeAt};
+ghost use Rattle.table_places.specs.Outline.{reach, afterPredicate, locationAt, edgeAt, edgesAt, countAt};
 
 // A number, as far as there can be so many.
 pub fn at_most(most: usize, n: usize) -> usize
@@ -117,37 +116,9 @@ pub fn edges_at(t: &[u32], at: usize) -> usize
     location_at(t, parts::first_location(t, at), locations)
 }
 
-// Past an automaton.
-pub fn after_automaton(t: &[u32], at: usize) -> usize
-    ensures { λ r. ⌜ r ≡ afterAutomaton (now (t .entry)) at ⌝ }
-{
-    let place = edges_at(t, at);
-    edge_at(t, parts::first_edge(t, place), word(t, place))
-}
-
 // Where the number of automata stands: after the ranges.
 pub fn count_at(t: &[u32]) -> usize
     ensures { λ r. ⌜ r ≡ countAt (now (t .entry)) ⌝ }
 {
     parts::range_at(t, parts::variables(t))
-}
-
-// Where the set of automaton k stands.
-pub fn automaton_at(t: &[u32], k: usize) -> usize
-    ensures { λ r. ⌜ r ≡ automatonAt (now (t .entry)) k ⌝ }
-{
-    let mut left = k;
-    let mut next = parts::first_automaton(t);
-    while left != 0 {
-        next = after_automaton(t, next);
-        left -= 1;
-    }
-    next
-}
-
-// Where the tree stands: after all automata.
-pub fn tree_at(t: &[u32]) -> usize
-    ensures { λ r. ⌜ r ≡ treeAt (now (t .entry)) ⌝ }
-{
-    automaton_at(t, parts::automata(t))
 }
