@@ -1,3 +1,7 @@
+pub mod GrowingLaws
+pub mod JoinLaws
+pub mod WordLaws
+pub mod NodeLaws
 pub mod LineLaws
 pub mod SheetLaws
 pub mod TextLaws

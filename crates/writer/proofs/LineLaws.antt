@@ -9,13 +9,13 @@ use Rattle.format.specs.Number.{decimal, signed}
 use Rattle.model.specs.Table.{unbiased}
 use Rattle.line_order.specs.declared.Key.{Key}
 use Rattle.line_order.specs.declared.Key.the-variants.{Format, Actions, Variables, Variable, Automata, Sync, Locations, Init, Inv, Edges, Edge, Compose, End}
-use Rattle.write_nodes.specs.declared.growing.Part.{Part}
+use Rattle.writer.specs.declared.growing.Part.{Part}
 use Rattle.writer.specs.declared.line.Shape.{Shape}
 use Rattle.text_bytes.specs.declared.answer.Written.{Written}
-use Rattle.write_nodes.specs.Growing.{Grew, partText}
-use Rattle.write_nodes.specs.Text.{setText, wordsText, nodeTexts}
+use Rattle.writer.specs.Growing.{Grew, partText}
+use Rattle.writer.specs.NodeText.{setText, wordsText, nodeTexts}
 use Rattle.writer.specs.Text.{rangeText, predicateText, fieldText, edgeText, treeText, shapeOf, valueBy, valueOf, keyPart, keyText, lineOf, sizeOf}
-use Rattle.write_nodes.proofs.GrowingLaws.{grew-none, grew-then, part-grew}
+use Rattle.writer.proofs.GrowingLaws.{grew-none, grew-then, part-grew}
 
 -- `range`
 pub range-is : (ws : List ℕ) (at a b r : Written) (old cur mid new : Bytes) (x y : ℕ) → x ≡ getD ws 0 0 → y ≡ getD ws 1 0 →

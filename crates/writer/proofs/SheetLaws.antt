@@ -20,10 +20,10 @@ use Rattle.text_bytes.specs.declared.answer.Written.{Written}
 use Rattle.text_bytes.specs.declared.answer.Written.the-variants.{To, Full}
 use Rattle.text_bytes.specs.Write.{fits, writtenTo, after, Wrote}
 use Rattle.writer.specs.declared.WriteAnswer.the-variants as W
-use Rattle.write_nodes.specs.Growing.{start, held, more, Grew}
+use Rattle.writer.specs.Growing.{start, held, more, Grew}
 use Rattle.writer.specs.Text.{lineOf, sizeOf, linesFrom, sheetText}
 use Rattle.writer.specs.Answer.{Spelt, copyAnswer, roomAnswer, given, Answered}
-use Rattle.write_nodes.proofs.GrowingLaws.{held-in, held-past, held-full, more-none, more-more, more-fits, more-full}
+use Rattle.writer.proofs.GrowingLaws.{held-in, held-past, held-full, more-none, more-more, more-fits, more-full}
 use Rattle.table_places.proofs.OutlineLaws.{reach-drop}
 
 -- with `rest` still to be written on, it comes to the whole

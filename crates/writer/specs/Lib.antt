@@ -1,2 +1,4 @@
+pub mod Growing
+pub mod NodeText
 pub mod Text
 pub mod Answer

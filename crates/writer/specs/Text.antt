@@ -16,9 +16,9 @@ use Rattle.line_order.specs.declared.Key.the-variants.{Format, Actions, Variabl
 use Rattle.line_order.specs.declared.Key.the-variants.{Locations, Init, Inv, Edges, Edge, Compose, End}
 use Rattle.line_order.specs.declared.Due.{Due}
 use Rattle.line_order.specs.Due.{isEnd, dueFirst, dueAfter}
-use Rattle.write_nodes.specs.declared.growing.Part.{Part}
-use Rattle.write_nodes.specs.Growing.{part}
-use Rattle.write_nodes.specs.Text.{wordsText, setText, nodeTexts}
+use Rattle.writer.specs.declared.growing.Part.{Part}
+use Rattle.writer.specs.Growing.{part}
+use Rattle.writer.specs.NodeText.{wordsText, setText, nodeTexts}
 use Rattle.writer.specs.declared.line.Shape.{Shape}
 use Rattle.writer.specs.declared.line.Shape.the-variants as S
 

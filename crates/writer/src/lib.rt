@@ -1,6 +1,10 @@
 // The writer of sheets: from a table to the text.
+mod growing;
 mod line;
+mod predicate;
+mod read;
 mod sheet;
+mod tree;
 
 use model::Checked;
 use text_bytes::Written;

@@ -1,10 +1,12 @@
 // One line: its key, its value and a line feed.
+use crate::growing::Part;
+use crate::growing::{self};
+use crate::read::{self};
 use line_order::Key;
 use table_places::word32;
 use text_bytes::Written;
-use write_nodes::Part;
 ghost use mathlib.Core.Path.{_≡_};
-ghost use Rattle.write_nodes.specs.Growing.{Grew};
+ghost use Rattle.writer.specs.Growing.{Grew};
 ghost use Rattle.writer.specs.Text.{rangeText, predicateText, fieldText, edgeText, treeText, shapeOf, valueOf};
 ghost use Rattle.writer.specs.Text.{keyPart, keyText, lineOf, sizeOf};
 
@@ -12,25 +14,25 @@ ghost use Rattle.writer.specs.Text.{keyPart, keyText, lineOf, sizeOf};
 fn range(ws: &[u32], out: &mut [u8], at: Written) -> Written
     ensures { λ r. ⌜ Grew (rangeText (now (ws .entry))) at (now (out .entry)) (now (out .exit)) r ⌝ }
 {
-    let a = write_nodes::biased(word32(ws, 0), out, at);
-    let b = write_nodes::put(b",", out, a);
-    write_nodes::biased(word32(ws, 1), out, b)
+    let a = growing::biased(word32(ws, 0), out, at);
+    let b = growing::put(b",", out, a);
+    growing::biased(word32(ws, 1), out, b)
 }
 
 // A predicate: its count of nodes, and the nodes.
 fn predicate(ws: &[u32], out: &mut [u8], at: Written) -> Written
     ensures { λ r. ⌜ Grew (predicateText (now (ws .entry))) at (now (out .entry)) (now (out .exit)) r ⌝ }
 {
-    let n = write_nodes::count(ws, 0);
-    write_nodes::words(write_nodes::first(write_nodes::rest(ws, 1), n), out, at)
+    let n = read::count(ws, 0);
+    crate::predicate::words(read::first(read::rest(ws, 1), n), out, at)
 }
 
 // A number and a comma.
 fn field(n: u32, out: &mut [u8], at: Written) -> Written
     ensures { λ r. ⌜ Grew (fieldText n) at (now (out .entry)) (now (out .exit)) r ⌝ }
 {
-    let a = write_nodes::number(n, out, at);
-    write_nodes::put(b",", out, a)
+    let a = growing::number(n, out, at);
+    growing::put(b",", out, a)
 }
 
 // Where an edge starts, its action, where it ends, and its update.
@@ -40,15 +42,15 @@ fn edge(ws: &[u32], out: &mut [u8], at: Written) -> Written
     let a = field(word32(ws, 0), out, at);
     let b = field(word32(ws, 1), out, a);
     let c = field(word32(ws, 2), out, b);
-    predicate(write_nodes::rest(ws, 3), out, c)
+    predicate(read::rest(ws, 3), out, c)
 }
 
 // The composition: its count of nodes, and the nodes.
 fn tree(ws: &[u32], out: &mut [u8], at: Written) -> Written
     ensures { λ r. ⌜ Grew (treeText (now (ws .entry))) at (now (out .entry)) (now (out .exit)) r ⌝ }
 {
-    let n = write_nodes::count(ws, 0);
-    write_nodes::nodes(write_nodes::rest(ws, 1), n, out, at)
+    let n = read::count(ws, 0);
+    crate::tree::nodes(read::rest(ws, 1), n, out, at)
 }
 
 // What a line's value is, by its key.
@@ -87,9 +89,9 @@ fn value(key: Key, ws: &[u32], out: &mut [u8], at: Written) -> Written
 {
     let s = shape_of(key);
     match s {
-        Shape::Number => write_nodes::number(word32(ws, 0), out, at),
+        Shape::Number => growing::number(word32(ws, 0), out, at),
         Shape::Range => range(ws, out, at),
-        Shape::Set => write_nodes::set(word32(ws, 0), word32(ws, 1), out, at),
+        Shape::Set => crate::tree::set(word32(ws, 0), word32(ws, 1), out, at),
         Shape::Predicate => predicate(ws, out, at),
         Shape::Edge => edge(ws, out, at),
         Shape::Tree => tree(ws, out, at),
@@ -123,7 +125,7 @@ fn name(key: Key, out: &mut [u8], at: Written) -> Written
     ensures { λ r. ⌜ Grew (keyText key) at (now (out .entry)) (now (out .exit)) r ⌝ }
 {
     let p = among_keys(key);
-    write_nodes::put_part(
+    growing::put_part(
         b"format=actions=variables=variable=automata=sync=locations=init=inv=edges=edge=compose=",
         p,
         out,
@@ -137,7 +139,7 @@ pub(crate) fn line(key: Key, ws: &[u32], out: &mut [u8], at: Written) -> Written
 {
     let a = name(key, out, at);
     let b = value(key, ws, out, a);
-    write_nodes::put(b"\n", out, b)
+    growing::put(b"\n", out, b)
 }
 
 // How many words it has; none follows the composition.
@@ -152,10 +154,10 @@ pub(crate) fn size(key: Key, ws: &[u32]) -> usize
         Key::Automata => 1,
         Key::Sync => 2,
         Key::Locations => 1,
-        Key::Init => 1 + write_nodes::count(ws, 0),
-        Key::Inv => 1 + write_nodes::count(ws, 0),
+        Key::Init => 1 + read::count(ws, 0),
+        Key::Inv => 1 + read::count(ws, 0),
         Key::Edges => 1,
-        Key::Edge => 4 + write_nodes::count(ws, 3),
+        Key::Edge => 4 + read::count(ws, 3),
         Key::Compose => 0,
         Key::End => 0,
     }

@@ -1,9 +1,10 @@
 // All lines, in the order in which they are due.
 use crate::line::{self};
+use crate::read::{self};
 use line_order::Due;
 use model::Model;
 use text_bytes::Written;
-ghost use Rattle.write_nodes.specs.Growing.{Grew, start};
+ghost use Rattle.writer.specs.Growing.{Grew, start};
 ghost use Rattle.writer.specs.Text.{sheetText};
 ghost use Rattle.writer.specs.Answer.{Spelt};
 
@@ -20,9 +21,9 @@ fn all_lines(table: &[u32], out: &mut [u8]) -> Written
         if line_order::end(key) {
             return end;
         }
-        end = line::line(key, write_nodes::rest(table, at), out, end);
-        due = due.after(write_nodes::count(write_nodes::rest(table, at), 0));
-        at = table_places::step(table, at, line::size(key, write_nodes::rest(table, at)));
+        end = line::line(key, read::rest(table, at), out, end);
+        due = due.after(read::count(read::rest(table, at), 0));
+        at = table_places::step(table, at, line::size(key, read::rest(table, at)));
         left -= 1;
     }
     end

@@ -1,4 +1,0 @@
-pub mod GrowingLaws
-pub mod JoinLaws
-pub mod WordLaws
-pub mod NodeLaws
