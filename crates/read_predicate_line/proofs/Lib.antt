@@ -2,3 +2,4 @@ pub mod PredicateLaws
 pub mod PredicateRows
 pub mod EdgeLaws
 pub mod EdgeRows
+pub mod RoleLaws

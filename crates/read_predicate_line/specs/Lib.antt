@@ -1,2 +1,3 @@
 pub mod Predicate
 pub mod Edge
+pub mod Role
