@@ -12,8 +12,8 @@ use Rattle.merger.specs.declared.MergeAnswer as G
 use Rattle.merger.specs.declared.MergeAnswer.the-variants as MergeAnswer
 use Rattle.reader.specs.declared.ReadAnswer as T
 use Rattle.reader.specs.declared.ReadAnswer.the-variants as ReadAnswer
-use Rattle.writer.specs.declared.WriteAnswer as D
-use Rattle.writer.specs.declared.WriteAnswer.the-variants as W
+use Rattle.write_words.specs.declared.WriteAnswer as D
+use Rattle.write_words.specs.declared.WriteAnswer.the-variants as W
 use Rattle.answer_numbers.specs.Told.{toldNumber, writtenNumber, mergedNumber, ranNumber, countedNumber}
 
 -- `read_number`

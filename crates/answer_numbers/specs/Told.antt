@@ -11,8 +11,8 @@ use Rattle.reader.specs.declared.ReadAnswer.{ReadAnswer}
 use Rattle.reader.specs.declared.ReadAnswer.the-variants as R
 use Rattle.merger.specs.declared.MergeAnswer.{MergeAnswer}
 use Rattle.merger.specs.declared.MergeAnswer.the-variants as M
-use Rattle.writer.specs.declared.WriteAnswer as W
-use Rattle.writer.specs.declared.WriteAnswer.the-variants.{Written, Refused}
+use Rattle.write_words.specs.declared.WriteAnswer as W
+use Rattle.write_words.specs.declared.WriteAnswer.the-variants.{Written, Refused}
 
 -- the reader's: row, line
 unfoldable pub toldNumber : ReadAnswer → ℕ

@@ -4,7 +4,7 @@ use judge::Counted;
 use judge::Ran;
 use merger::MergeAnswer;
 use reader::ReadAnswer;
-use writer::WriteAnswer;
+use write_words::WriteAnswer;
 ghost use mathlib.Core.Path.{_≡_};
 ghost use Prim.Native.Nat.{_+_, _*_, _%_, _^_};
 ghost use Rattle.answer_numbers.specs.Told.{toldNumber, writtenNumber, mergedNumber, ranNumber, countedNumber};

@@ -19,8 +19,8 @@ use Rattle.merger.specs.Answers.{mergeOf}
 use Rattle.merger.specs.declared.MergeAnswer as G
 use Rattle.reader.specs.Read.{readOf}
 use Rattle.reader.specs.declared.ReadAnswer as T
-use Rattle.writer.specs.Answer.{given, Answered}
-use Rattle.writer.specs.declared.WriteAnswer as D
+use Rattle.write_words.specs.Answer.{given, Answered}
+use Rattle.write_words.specs.declared.WriteAnswer as D
 use Rattle.answer_numbers.specs.Told.{toldNumber, writtenNumber, mergedNumber, ranNumber, countedNumber}
 use Rattle.exports.specs.Numbers.{readNumber, writeNumber, mergeNumber, runNumber, sizeNumber}
 use Rattle.exports.proofs.LineBound.{line-fits}

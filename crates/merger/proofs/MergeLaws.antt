@@ -18,9 +18,9 @@ use Rattle.format.specs.Spelling.{textOf}
 use Rattle.format.specs.Writer as F
 use Rattle.format.specs.Writer.{row35, bufferAfter}
 use Rattle.format.specs.Merger.{MergeAnswer as Answer, unmerged, merged, mergeModel, mergeAnswer, mergeAfter}
-use Rattle.writer.specs.declared.WriteAnswer.{WriteAnswer}
-use Rattle.writer.specs.declared.WriteAnswer.the-variants as W
-use Rattle.writer.specs.Answer.{wordsAnswer, copyAnswer, given, Answered}
+use Rattle.write_words.specs.declared.WriteAnswer.{WriteAnswer}
+use Rattle.write_words.specs.declared.WriteAnswer.the-variants as W
+use Rattle.write_words.specs.Answer.{wordsAnswer, copyAnswer, given, Answered}
 use Rattle.writer.proofs.SheetText.{words-text}
 use Rattle.merge_words.specs.declared.Linearization.{Linearization}
 use Rattle.merge_words.specs.Linearize.{refusedBy, mergedTo}

@@ -2,8 +2,8 @@
 use Prim.Native.Nat.{ℕ}
 use lib.ListN.{length}
 use Rattle.format.specs.Merger as M
-use Rattle.writer.specs.declared.WriteAnswer as W
-use Rattle.writer.specs.declared.WriteAnswer.the-variants.{Written, Refused}
+use Rattle.write_words.specs.declared.WriteAnswer as W
+use Rattle.write_words.specs.declared.WriteAnswer.the-variants.{Written, Refused}
 use Rattle.merger.specs.declared.MergeAnswer.{MergeAnswer}
 use Rattle.merger.specs.declared.MergeAnswer.the-variants as A
 

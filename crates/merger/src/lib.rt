@@ -1,7 +1,7 @@
 // The merger: from a table, or from a sheet text, to the text of the merged sheet.
 use model::Model;
 use reader::ReadAnswer;
-use writer::WriteAnswer;
+use write_words::WriteAnswer;
 ghost use mathlib.Core.Path.{_≡_};
 ghost use lib.ListN.{length};
 ghost use Rattle.format.specs.Merger.{mergeAnswer, mergeAfter};
@@ -40,7 +40,7 @@ pub fn merge(table: &[u32], out: &mut [u8]) -> MergeAnswer
     if merged.row != 0 {
         return MergeAnswer::Refused(merged.row);
     }
-    reported(writer::write_words(&merged.table, out), merged.edges)
+    reported(write_words::write(&merged.table, out), merged.edges)
 }
 
 fn passed_on(answer: MergeAnswer) -> Outcome

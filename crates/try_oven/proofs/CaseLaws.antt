@@ -17,10 +17,6 @@ use Rattle.judge_rows.proofs.Filled.{Filling}
 pub padded-long : (words all : List ℕ) (i : ℕ) → Filling tableWords 0 words all i → tableWords ≡ length all
 padded-long words all i f = sym (f .size)
 
--- all its words but the last
-pub table-short : (all : List ℕ) → tableWords ≡ length all → 8191 ≡ length (take 8191 all)
-table-short all h = sym (length-take-le 8191 all (omega (arith, h)))
-
 -- where a write ends
 unfoldable end : Written → ℕ
 end (To n) = n

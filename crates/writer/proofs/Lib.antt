@@ -1,8 +1,2 @@
-pub mod GrowingLaws
-pub mod JoinLaws
-pub mod WordLaws
-pub mod NodeLaws
-pub mod LineLaws
-pub mod SheetLaws
 pub mod TextLaws
 pub mod SheetText

@@ -36,12 +36,12 @@ use Rattle.format.specs.Number.{decimal, signed}
 use Rattle.format.specs.Spelling.{spelling, textOfList, textOfPred, valueText, lineText, textOf}
 use Rattle.format.specs.Writer.{writeAnswer, bufferAfter}
 use Rattle.format.proofs.FitsLaws.{text-fits}
-use Rattle.writer.specs.Text.{rangeText, fieldText, edgeText, valueOf, keyText, lineOf, sizeOf, linesFrom, sheetText}
-use Rattle.writer.specs.declared.WriteAnswer.{WriteAnswer}
-use Rattle.writer.specs.declared.WriteAnswer.the-variants as W
-use Rattle.writer.specs.Answer.{copyAnswer, roomAnswer, given, Answered}
+use Rattle.write_words.specs.Text.{rangeText, fieldText, edgeText, valueOf, keyText, lineOf, sizeOf, linesFrom, sheetText}
+use Rattle.write_words.specs.declared.WriteAnswer.{WriteAnswer}
+use Rattle.write_words.specs.declared.WriteAnswer.the-variants as W
+use Rattle.write_words.specs.Answer.{copyAnswer, roomAnswer, given, Answered}
 use Rattle.writer.proofs.TextLaws.{predicate-text, tree-text}
-use Rattle.writer.proofs.SheetLaws.{lines-end, lines-on, with-room}
+use Rattle.write_words.proofs.SheetLaws.{lines-end, lines-on, with-room}
 
 -- four items with commas between them
 fields : (a b c t : Bytes) → (a ++ (comma ∷ [])) ++ (b ++ (comma ∷ [])) ++ (c ++ (comma ∷ [])) ++ t ≡ a ++ (comma ∷ (b ++ (comma ∷ (c ++ (comma ∷ (t ++ []))))))

@@ -20,9 +20,9 @@ use Rattle.model.proofs.Bits.{set-back}
 use Rattle.format.specs.Bytes.{Bytes, bytes, ledBy, joined, space, 'a}
 use Rattle.format.specs.Number.{decimal}
 use Rattle.format.specs.Spelling.{spelled, spelledNode, textOfList, textOfPred, textOfTree}
-use Rattle.writer.specs.NodeText.{wordText, wordsText, nodeBy, nodeText, sizeBy, nodeSize, nodeTexts}
-use Rattle.writer.specs.Text.{predicateText, treeText}
-use Rattle.writer.proofs.JoinLaws.{isNone, led-append}
+use Rattle.write_words.specs.NodeText.{wordText, wordsText, nodeBy, nodeText, sizeBy, nodeSize, nodeTexts}
+use Rattle.write_words.specs.Text.{predicateText, treeText}
+use Rattle.write_words.proofs.JoinLaws.{isNone, led-append}
 
 -- Items that are joined from parts, and then joined: all parts joined. No item is empty.
 module _ {A : Type 0} (c : ℕ) (f : A → List Bytes) where

@@ -10,8 +10,8 @@ linearize-requires c κs = search needs
 returns : tie.Need-returns
 returns c = search (needs, merge-laws)
 
-write-words-requires : tie.Need-write-words-requires
-write-words-requires c κs = search needs
+write-requires : tie.Need-write-requires
+write-requires c κs = search needs
 
 reported-requires : tie.Need-reported-requires
 reported-requires c κs = search needs
@@ -28,7 +28,7 @@ merge-spec =
     (tie.spec
     linearize-requires
     returns
-    write-words-requires
+    write-requires
     reported-requires
     same-length
     returns-2)

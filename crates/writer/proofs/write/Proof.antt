@@ -10,8 +10,8 @@ check-requires c κs = search needs
 enum-told : tie.Need-enum-told
 enum-told c = search needs
 
-write-words-requires : tie.Need-write-words-requires
-write-words-requires c κs = search needs
+write-requires : tie.Need-write-requires
+write-requires c κs = search needs
 
 enum-known-checked : tie.Need-enum-known-checked
 enum-known-checked c = search needs
@@ -31,7 +31,7 @@ write-spec =
     (tie.spec
     check-requires
     enum-told
-    write-words-requires
+    write-requires
     enum-known-checked
     same-length
     returns

@@ -1,0 +1,6 @@
+pub mod GrowingLaws
+pub mod JoinLaws
+pub mod WordLaws
+pub mod NodeLaws
+pub mod LineLaws
+pub mod SheetLaws
