@@ -114,3 +114,15 @@ submodular (suc n) u r s h =
 
 pub parts-cover-less : (u r s : ℕ) → ones (bitAnd u r) + ones (bitAnd u s) ≤ ones u + ones (bitAnd (bitAnd u r) s)
 parts-cover-less u r s = submodular u u r s (omega arith)
+
+-- a set that is not empty has a variable
+ones-above : (n u : ℕ) → u ≤ n → 0 < u → 0 < ones u
+ones-above zero u h l = absurd (omega arith)
+ones-above (suc n) u h l = go (ones-above n (u / 2) (omega arith)) (u / 2) refl
+  where
+    go : (0 < u / 2 → 0 < ones (u / 2)) → (d : ℕ) → u / 2 ≡ d → 0 < ones u
+    go ih zero e = rw (ones-step u) (omega arith)
+    go ih (suc d) e = let x = ih (omega arith) in rw (ones-step u) (omega arith)
+
+pub ones-some : (u : ℕ) → 0 < u → 0 < ones u
+ones-some u l = ones-above u u (omega arith) l

@@ -11,87 +11,47 @@ use lib.Dec.{eqb, ltb}
 use borrow.Author.Tests.{eqb-true, ltb-true}
 use Rattle.model.specs.Basic.{exists, countUp}
 use Rattle.model.specs.Table.{bit}
-use Rattle.model.proofs.Tests.{and-intro, and-left, and-right, or-cases, not-true, exists-intro, exists-elim, both-ways}
-use Rattle.judge_cover.specs.Cover.{coverable, within, leftBy, dominated, skippedAt, worth}
-use Rattle.judge_cover.proofs.BitLaws.{bit-and, no-bits, and-swap}
-use Rattle.judge_cover.proofs.Counting.{count-around, Found, find, found}
-use Rattle.judge_cover.proofs.CoverLaws.{front, within-is, is-within, coverable-falls}
+use Rattle.model.proofs.Tests.{and-intro, and-left, and-right, or-cases, not-true, exists-intro, exists-elim, exists-ext, both-ways}
+use Rattle.judge_cover.specs.Cover.{coverable, group, groups, within, leftBy, dominated, skippedAt, worth}
+use Rattle.judge_cover.specs.Steps.{groupsFrom, othersAt, throughAt}
+use Rattle.judge_cover.proofs.BitLaws.{bit-and, no-bits}
+use Rattle.judge_cover.proofs.Counting.{count-at, Found, find, found}
+use Rattle.judge_cover.proofs.CoverLaws.{exists-none, front, within-is, is-within, coverable-falls}
 
-module _ (G : ℕ → List ℕ) where
-  -- all groups but group k
-  abbrev pub others : (a n k : ℕ) → List (List ℕ)
-  others a n k = map G (countUp a (k - a)) ++ map G (countUp (suc k) (a + n - suc k))
+-- Any group may be the first.
+pub group-out : (masks starts ends : List ℕ) (n k u : ℕ) → k < n
+    → coverable (groups masks starts ends n) u ≡ exists (λ r. coverable (othersAt masks starts ends n k) (bitAnd u r)) (group masks (getD starts k 0) (getD ends k 0))
+unfolding groups groupsFrom othersAt
+group-out masks starts ends n k u l =
+    let G : ℕ → List ℕ = λ j. group masks (getD starts j 0) (getD ends j 0) in
+    ap (λ m. coverable (map G m) u) (count-at n k l)
+    ∙ ap (λ m. coverable m u) (map-append G (countUp 0 k) (k ∷ countUp (suc k) (n - suc k)))
+    ∙ front (map G (countUp 0 k)) (G k) (map G (countUp (suc k) (n - suc k))) u
 
-  pub group-out : (a n k u : ℕ) → a ≤ k → k < a + n → coverable (map G (countUp a n)) u ≡ exists (λ r. coverable (others a n k) (bitAnd u r)) (G k)
-  group-out a n k u low high =
-      ap (λ l. coverable (map G l) u) (count-around a n k low high)
-      ∙ ap (λ l. coverable l u) (map-append G (countUp a (k - a)) (k ∷ countUp (suc k) (a + n - suc k)))
-      ∙ front (map G (countUp a (k - a))) (G k) (map G (countUp (suc k) (a + n - suc k))) u
+-- Where an edge that mentions v and the other groups cover all, there is a cover.
+pub through-covers : (masks starts ends : List ℕ) (n u v k : ℕ) → k < n → throughAt masks starts ends n u v k ≡ true → coverable (groups masks starts ends n) u ≡ true
+unfolding throughAt
+through-covers masks starts ends n u v k l h =
+    let e = exists-elim _ (group masks (getD starts k 0) (getD ends k 0)) h in
+    group-out masks starts ends n k u l ∙ exists-intro _ (e .1) (and-right (not (bit (e .0) v)) _ (e .2))
 
-  -- In a cover, some edge mentions v.
-  record Covering (a n u v : ℕ) : Type 0 where
-    k : ℕ
-    low : a ≤ k
-    high : k < a + n
-    edge : ℕ
-    among : List·Memᴰ edge (G k)
-    names : bit edge v ≡ false
-    rest : coverable (others a n k) (bitAnd u edge) ≡ true
-
-  first-covers : (a n u v r : ℕ) → List·Memᴰ r (G a) → bit r v ≡ false → coverable (map G (countUp (suc a) n)) (bitAnd u r) ≡ true → Covering a (suc n) u v
-  unfolding countUp
-  first-covers a n u v r i e h =
-      let z : a - a ≡ 0 = omega arith in
-      let y : a + suc n - suc a ≡ n = omega arith in
-      record { k = a; low = omega arith; high = omega arith; edge = r; among = i; names = e; rest = rw (z, y) h }
-
-  later-covers : (a n u v r : ℕ) → List·Memᴰ r (G a) → Covering (suc a) n (bitAnd u r) v → Covering a (suc n) u v
-  unfolding countUp coverable
-  later-covers a n u v r i c =
-      let l = c .low in
-      let h = c .high in
-      let z : c .k - a ≡ suc (c .k - suc a) = omega arith in
-      let y : a + suc n - suc (c .k) ≡ suc a + n - suc (c .k) = omega arith in
-      record {
-        k = c .k;
-        low = omega arith;
-        high = omega arith;
-        edge = c .edge;
-        among = c .among;
-        names = c .names;
-        rest = rw (z, y) (exists-intro (λ s. coverable (others (suc a) n (c .k)) (bitAnd (bitAnd u (c .edge)) s)) i
-            (ap (coverable (others (suc a) n (c .k))) (and-swap u (c .edge) r) ∙ c .rest));
-      }
-
-  covering : (n a u v : ℕ) → bit u v ≡ true → coverable (map G (countUp a n)) u ≡ true → Covering a n u v
-  unfolding countUp coverable
-  covering zero a u v b h = absurd (true≢false (sym b ∙ ap (λ x. bit x v) (eqb-true u 0 h) ∙ no-bits v))
-  covering (suc n) a u v b h =
-      let e = exists-elim _ (G a) h in
-      go (e .0) (e .1) (e .2) (λ g. covering n (suc a) (bitAnd u (e .0)) v g (e .2)) (bit (e .0) v) refl
-    where
-      go : (r : ℕ) → List·Memᴰ r (G a) → coverable (map G (countUp (suc a) n)) (bitAnd u r) ≡ true
-          → (bit (bitAnd u r) v ≡ true → Covering (suc a) n (bitAnd u r) v) → (c : Bool) → bit r v ≡ c → Covering a (suc n) u v
-      go r i h ih true e = later-covers a n u v r i (ih (bit-and u r v ∙ and-intro b e))
-      go r i h ih false e = first-covers a n u v r i e h
-
-  -- So there is a cover exactly when some group has an edge that mentions v and the other groups cover what it leaves.
-  abbrev pub through : (n u v k : ℕ) → Bool
-  through n u v k = exists (λ r. not (bit r v) && coverable (others 0 n k) (bitAnd u r)) (G k)
-
-  pub branch-is : (n u v : ℕ) → bit u v ≡ true → exists (through n u v) (countUp 0 n) ≡ coverable (map G (countUp 0 n)) u
-  branch-is n u v b = both-ways (exists (through n u v) (countUp 0 n)) (coverable (map G (countUp 0 n)) u) to from
-    where
-      to : exists (through n u v) (countUp 0 n) ≡ true → coverable (map G (countUp 0 n)) u ≡ true
-      to h =
-          let f = find (through n u v) n 0 h in
-          let e = exists-elim _ (G (f .at)) (f .holds) in
-          group-out 0 n (f .at) u (f .low) (f .high) ∙ exists-intro _ (e .1) (and-right (not (bit (e .0) v)) _ (e .2))
-
-      from : coverable (map G (countUp 0 n)) u ≡ true → exists (through n u v) (countUp 0 n) ≡ true
-      from h =
-          let c = covering n 0 u v b h in
-          found (through n u v) n 0 (c .k) (c .low) (c .high) (exists-intro _ (c .among) (and-intro (ap not (c .names)) (c .rest)))
+-- Where no edge mentions v, no choice covers v.
+pub unnamed-uncovered : (G : ℕ → List ℕ) (v n a u : ℕ) → bit u v ≡ true → ((k : ℕ) → a ≤ k → k < a + n → exists (λ r. not (bit r v)) (G k) ≡ false)
+    → coverable (map G (countUp a n)) u ≡ false
+unfolding countUp coverable
+unnamed-uncovered G v zero a u b h = go (eqb u 0) refl
+  where
+    go : (c : Bool) → eqb u 0 ≡ c → eqb u 0 ≡ false
+    go false e = e
+    go true e = absurd (true≢false (sym b ∙ ap (λ x. bit x v) (eqb-true u 0 e) ∙ no-bits v))
+unnamed-uncovered G v (suc n) a u b h =
+    exists-ext _ (λ r. false) (G a) (λ r i. unnamed-uncovered G v n (suc a) (bitAnd u r) (bit-and u r v ∙ and-intro b (spared r i (bit r v) refl))
+    (λ k x y. h k (omega arith) (omega arith)))
+    ∙ exists-none (G a)
+  where
+    spared : (r : ℕ) → List·Memᴰ r (G a) → (c : Bool) → bit r v ≡ c → bit r v ≡ true
+    spared r i true e = e
+    spared r i false e = absurd (true≢false (sym (exists-intro (λ s. not (bit s v)) i (ap not e)) ∙ h a (omega arith) (omega arith)))
 
 -- Of the edges of a group that mention v, those that are skipped for others need not be tried.
 module _ (masks : List ℕ) (a b u v : ℕ) (uncovered : bit u v ≡ true) (P : ℕ → Bool)

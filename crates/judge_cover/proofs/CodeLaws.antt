@@ -1,9 +1,9 @@
 -- Each way out of the code of src/places.rt, src/edges.rt, src/bounds.rt and src/choice.rt.
-use mathlib.Core.Path.{_≡_, refl, sym, ap, ap₂, _∙_}
+use mathlib.Core.Path.{_≡_, refl, sym, ap, ap₂, _∙_, subst}
 use mathlib.Core.Bool.{Bool, true, false, not, _&&_, _||_, true≢false}
-use mathlib.Core.List.{List, [], _∷_, _++_, map, map-append}
+use mathlib.Core.List.{List, [], _∷_, _++_, map, map-append, List·Memᴰ, List·Memᴰ·cases-cons, List·Memᴰ·not-nil}
 use mathlib.Core.Logic.{_⊎_, inl, inr}
-use Prim.Native.Nat.{ℕ, zero, suc, _+_, _-_, _/_, _%_, _^_, _≤_, _<_}
+use Prim.Native.Nat.{ℕ, zero, suc, _+_, _-_, _/_, _%_, _^_, _≤_, _<_, min}
 use native.Mathlib.Omega.{arith}
 use native.Mathlib.Numerals.{add-one}
 use native.Mathlib.Nat.{pow-succ'}
@@ -16,11 +16,20 @@ use borrow.Author.Tests.{eqb-true, eqb-false, eq-eqb, lt-ltb, le-ltb, ltb-true, 
 use Rattle.model.specs.Basic.{every, exists, keep, countUp, sum}
 use Rattle.model.specs.Bounds.{maxAutomata}
 use Rattle.model.specs.Table.{bit}
-use Rattle.model.proofs.Tests.{both-ways}
-use Rattle.judge_cover.specs.Cover.{within, leftBy, dominated, skippedAt, worth, namedIn, useful, past, allFilled}
-use Rattle.judge_cover.specs.Steps.{advanced, Without, CoversAtMost, PartOf}
+use Rattle.model.proofs.Tests.{both-ways, eq-self, exists-elim, exists-map}
+use Rattle.judge_cover.specs.Cover.{within, leftBy, dominated, skippedAt, worth, namedIn, useful, past, allFilled, group}
+use Rattle.judge_cover.specs.Steps.{advanced, Without, CoversAtMost, PartOf, NextNamed}
 use Rattle.judge_cover.proofs.BitLaws.{bit-and, bit-next, bit-first, and-assoc, and-swap}
+use Rattle.judge_cover.proofs.Counting.{found}
 use Rattle.judge_cover.proofs.CoverLaws.{within-is, is-within}
+
+-- a number is another one, or below it
+pub other : (j i : ℕ) → j < i + 1 → (j ≡ i) ⊎ (j < i)
+other j i h = go (ltb j i) refl
+  where
+    go : (b : Bool) → ltb j i ≡ b → (j ≡ i) ⊎ (j < i)
+    go true e = inr (ltb-true j i e)
+    go false e = let l = ltb-false j i e in inl (omega arith)
 
 -- sets and edges
 pub inside-is : (w u : ℕ) → eqb (bitAnd w u) w ≡ within w u
@@ -107,11 +116,25 @@ names-start masks from to v = refl
 
 pub ruleset names-laws = (names-start, names-end, names-here, names-later)
 
--- `useful`
-pub useful-never : (u total gain r : ℕ) → total < gain → false ≡ useful u total gain r
-unfolding useful
-useful-never u total gain r h = sym (lt-leb (ones (bitAnd u r) + gain) total (omega arith))
+-- `next_named`
+pub named-start : (masks starts ends : List ℕ) (k v : ℕ) → NextNamed masks starts ends k v k
+named-start masks starts ends k v = record { after = omega arith; each = λ j l h. absurd (omega arith) }
 
+pub named-later : (masks starts ends : List ℕ) (k v j a b : ℕ) → NextNamed masks starts ends k v j → a ≡ getD starts j 0 → b ≡ getD ends j 0
+    → (t : Bool) → t ≡ namedIn masks a b v → t ≡ false → NextNamed masks starts ends k v (j + 1)
+named-later masks starts ends k v j a b s ea eb t et h = record {
+  after = omega (arith, s .after);
+  each = λ i l m. elim (other i j m) [
+    | inl e ↦
+        ap (λ x. namedIn masks (getD starts x 0) (getD ends x 0) v) e
+        ∙ ap₂ (λ x y. namedIn masks x y v) (sym ea) (sym eb) ∙ sym et ∙ h
+    | inr e ↦ s .each i l e
+  ];
+}
+
+pub ruleset named-laws = (named-start, named-later)
+
+-- `useful`
 pub useful-is : (u total gain r x : ℕ) → gain ≤ total → x ≡ ones (bitAnd u r) → leb x (total - gain) ≡ useful u total gain r
 unfolding useful
 useful-is u total gain r x h e =
@@ -119,8 +142,6 @@ useful-is u total gain r x h e =
     ∙ both-ways (leb (ones (bitAnd u r)) (total - gain)) (leb (ones (bitAnd u r) + gain) total)
     (λ l. let g = leb-true (ones (bitAnd u r)) (total - gain) l in le-leb (ones (bitAnd u r) + gain) total (omega arith))
     (λ l. let g = leb-true (ones (bitAnd u r) + gain) total l in le-leb (ones (bitAnd u r)) (total - gain) (omega arith))
-
-pub ruleset useful-laws = (useful-never, useful-is)
 
 -- `advanced`, `past`
 pub advanced-more : (n : ℕ) (b : Bool) → b ≡ true → n + 1 ≡ advanced n b
@@ -140,14 +161,6 @@ unfolding past
 past-after k i h = rw (le-ltb i k h, past)
 
 pub ruleset step-laws = (advanced-more, advanced-same, past-before, past-after)
-
--- a number is another one, or below it
-pub other : (j i : ℕ) → j < i + 1 → (j ≡ i) ⊎ (j < i)
-other j i h = go (ltb j i) refl
-  where
-    go : (b : Bool) → ltb j i ≡ b → (j ≡ i) ⊎ (j < i)
-    go true e = inr (ltb-true j i e)
-    go false e = let l = ltb-false j i e in inl (omega arith)
 
 -- `without`
 pub record Removing (k : ℕ) (list all : List ℕ) (i : ℕ) : Type 0 where
@@ -207,18 +220,46 @@ module _ (starts ends : List ℕ) where
 
 pub ruleset filled-laws = (all-first, all-end, all-not, all-more)
 
+-- the edges of a group, by their places
+record Placed (masks : List ℕ) (a n r : ℕ) : Type 0 where
+  at : ℕ
+  low : a ≤ at
+  high : at < a + n
+  is : r ≡ getD masks at 0
+
+placed : (masks : List ℕ) (n a r : ℕ) → List·Memᴰ r (map (λ i. getD masks i 0) (countUp a n)) → Placed masks a n r
+unfolding countUp
+placed masks zero a r h = absurd (List·Memᴰ·not-nil h)
+placed masks (suc n) a r h = go (λ i. placed masks n (suc a) r i) (List·Memᴰ·cases-cons h)
+  where
+    go : (List·Memᴰ r (map (λ i. getD masks i 0) (countUp (suc a) n)) → Placed masks (suc a) n r)
+        → (r ≡ getD masks a 0) ⊎ List·Memᴰ r (map (λ i. getD masks i 0) (countUp (suc a) n)) → Placed masks a (suc n) r
+    go ih (inl e) = record { at = a; low = omega arith; high = omega arith; is = e }
+    go ih (inr i) =
+        let p = ih i in
+        let l = p .low in
+        let h = p .high in
+        record { at = p .at; low = omega arith; high = omega arith; is = p .is }
+
+pub edge-at : (masks : List ℕ) (a b i : ℕ) → a ≤ i → i < b → List·Memᴰ (getD masks i 0) (group masks a b)
+unfolding group
+edge-at masks a b i l h =
+    let x = getD masks i 0 in
+    let e = exists-elim (λ r. eqb r x) (map (λ j. getD masks j 0) (countUp a (b - a)))
+    (exists-map (λ r. eqb r x) (λ j. getD masks j 0) (countUp a (b - a)) ∙ found (λ j. eqb (getD masks j 0) x) (b - a) a i l (omega arith) (eq-self x)) in
+    subst (λ r. List·Memᴰ r (map (λ j. getD masks j 0) (countUp a (b - a)))) (eqb-true (e .0) x (e .2)) (e .1)
+
 -- `gain`
 pub record Least (masks : List ℕ) (from u all least i : ℕ) : Type 0 where
   pub most : least ≤ all
-  pub each : (j : ℕ) → from ≤ j → j < i → least ≤ ones (leftBy masks u j)
+  pub each : (j : ℕ) → from ≤ j → j < i → least ≤ ones (bitAnd u (getD masks j 0))
 
 pub least-first : (masks : List ℕ) (from u all : ℕ) → Least masks from u all all from
 least-first masks from u all = record { most = omega arith; each = λ j a b. absurd (omega arith) }
 
-pub least-more : (masks : List ℕ) (from u all least i left next : ℕ) → Least masks from u all least i → left ≡ ones (bitAnd u (getD masks i 0)) → next ≤ least → next ≤ left
+pub least-more : (masks : List ℕ) (from u all least i left next : ℕ) → Least masks from u all least i → left ≡ ones (bitAnd u (getD masks i 0)) → next ≡ min least left
     → Least masks from u all next (i + 1)
-unfolding leftBy
-least-more masks from u all least i left next s e a b = record {
+least-more masks from u all least i left next s e m = record {
   most = omega (arith, s .most);
   each = λ j l h. elim (other j i h) [
     | inl z ↦ omega (arith, e, ap (λ y. ones (bitAnd u (getD masks y 0))) z)
@@ -226,19 +267,33 @@ least-more masks from u all least i left next s e a b = record {
   ];
 }
 
-pub gain-is : (masks : List ℕ) (from to u all least i : ℕ) → Least masks from u all least i → to ≤ i → all ≡ ones u → CoversAtMost masks from to u (all - least)
-gain-is masks from to u all least i s h e j l m = omega (arith, s .most, s .each j l (omega arith))
+pub gain-is : (masks : List ℕ) (from to u all least i : ℕ) → Least masks from u all least i → to ≤ i → all ≡ ones u → CoversAtMost u (group masks from to) (all - least)
+unfolding group
+gain-is masks from to u all least i s h e r m =
+    let p = placed masks (to - from) from r m in
+    let l = p .low in
+    let g = p .high in
+    omega (arith, s .most, s .each (p .at) l (omega arith), ap (λ x. ones (bitAnd u x)) (p .is))
 
 pub ruleset gain-laws = (least-first, least-more, gain-is)
 
-pub gain-all : (masks : List ℕ) (from to u all : ℕ) → all ≡ ones u → CoversAtMost masks from to u all
-gain-all masks from to u all e j l m = omega (arith, e)
+pub gain-all : (masks : List ℕ) (from to u all : ℕ) → all ≡ ones u → CoversAtMost u (group masks from to) all
+gain-all masks from to u all e r m = omega (arith, e)
 
 pub gain-few : (u all : ℕ) → u < 2 ^ 64 → all ≡ ones u → all ≤ 64
 gain-few u all h e = omega (arith, ones-le 64 u h)
 
 pub gain-small : (u all least : ℕ) → u < 2 ^ 64 → all ≡ ones u → all - least ≤ 64
 gain-small u all least h e = omega (arith, ones-le 64 u h)
+
+pub size-fits : (u : ℕ) → u < 2 ^ 64 → ones u < 2 ^ 64
+size-fits u h = omega (arith, ones-le 64 u h)
+
+-- `last`
+pub last-none : (ends : List ℕ) (n x : ℕ) → n ≡ 0 → x ≡ getD ends 0 0 → x ≡ getD ends (n - 1) 0
+last-none ends n x z e =
+    let y : n - 1 ≡ 0 = omega arith in
+    rw y e
 
 -- `fewer`, `rarest`
 pub part-self : (u : ℕ) → PartOf u u

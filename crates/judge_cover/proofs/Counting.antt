@@ -1,12 +1,14 @@
 -- Tests of the numbers from one up to another.
-use mathlib.Core.Path.{_≡_, refl, sym, ap, ap₂, _∙_}
+use mathlib.Core.Path.{_≡_, refl, sym, ap, ap₂, _∙_, subst}
 use mathlib.Core.Bool.{Bool, true, false, _||_, true≢false}
-use mathlib.Core.List.{List, [], _∷_, _++_, map}
+use mathlib.Core.List.{List, [], _∷_, _++_, map, List·Memᴰ}
 use mathlib.Core.Logic.{_⊎_, inl, inr}
 use Prim.Native.Nat.{ℕ, zero, suc, _+_, _-_, _≤_, _<_}
 use native.Mathlib.Omega.{arith}
-use Rattle.model.specs.Basic.{exists, countUp}
-use Rattle.model.proofs.Tests.{or-left, or-right, or-cases}
+use Rattle.model.specs.Basic.{every, exists, countUp}
+use lib.Dec.{eqb}
+use borrow.Author.Tests.{eqb-true}
+use Rattle.model.proofs.Tests.{or-left, or-right, or-cases, eq-self, and-intro, exists-elim}
 use Rattle.model.proofs.Lists.{count-split}
 
 -- around one of them
@@ -16,6 +18,12 @@ count-around a n k low high =
     let e : n ≡ (k - a) + suc (a + n - suc k) = omega arith in
     let z : a + (k - a) ≡ k = omega arith in
     ap (countUp a) e ∙ count-split a (k - a) (suc (a + n - suc k)) ∙ ap (λ j. countUp a (k - a) ++ countUp j (suc (a + n - suc k))) z
+
+pub count-at : (n k : ℕ) → k < n → countUp 0 n ≡ countUp 0 k ++ k ∷ countUp (suc k) (n - suc k)
+count-at n k h =
+    let z : k - 0 ≡ k = omega arith in
+    let y : 0 + n - suc k ≡ n - suc k = omega arith in
+    count-around 0 n k (omega arith) (omega arith) ∙ ap₂ (λ i j. countUp 0 i ++ k ∷ countUp (suc k) j) z y
 
 pub exists-count : (f g : ℕ → Bool) (n c : ℕ) → ((k : ℕ) → n ≤ k → k < n + c → f k ≡ g k) → exists f (countUp n c) ≡ exists g (countUp n c)
 unfolding exists countUp
@@ -74,3 +82,13 @@ found f (suc n) a (suc k) l h e = go (λ g. found f n (suc a) (suc k) g (omega a
     go : (suc a ≤ suc k → exists f (countUp (suc a) n) ≡ true) → (a ≡ suc k) ⊎ (suc a ≤ suc k) → (f a || exists f (countUp (suc a) n)) ≡ true
     go ih (inl z) = or-left (exists f (countUp (suc a) n)) (ap f z ∙ e)
     go ih (inr g) = or-right (f a) (ih g)
+
+pub member-of : (n a k : ℕ) → a ≤ k → k < a + n → List·Memᴰ k (countUp a n)
+member-of n a k l h =
+    let e = exists-elim (λ j. eqb j k) (countUp a n) (found (λ j. eqb j k) n a k l h (eq-self k)) in
+    subst (λ j. List·Memᴰ j (countUp a n)) (eqb-true (e .0) k (e .2)) (e .1)
+
+pub every-count : (f : ℕ → Bool) (n a : ℕ) → ((k : ℕ) → a ≤ k → k < a + n → f k ≡ true) → every f (countUp a n) ≡ true
+unfolding every countUp
+every-count f zero a h = refl
+every-count f (suc n) a h = and-intro (h a (omega arith) (omega arith)) (every-count f n (suc a) (λ k x y. h k (omega arith) (omega arith)))

@@ -12,9 +12,10 @@ use lib.Dec.{eqb, leb}
 use borrow.Author.Tests.{eqb-true, eq-eqb, le-leb}
 use Rattle.model.specs.Basic.{every, exists, keep, sum}
 use Rattle.model.specs.Table.{bit}
-use Rattle.model.proofs.Tests.{and-intro, and-left, and-right, or-same, exists-intro, exists-elim, exists-ext, both-ways}
+use Rattle.model.proofs.Tests.{and-intro, and-left, and-right, or-same, or-none-left, or-none-right, exists-intro, exists-elim, exists-ext, both-ways}
 use Rattle.model.proofs.Lists.{keep-out, sum-append}
 use Rattle.judge_cover.specs.Cover.{coverable, within, useful}
+use Rattle.judge_cover.specs.Steps.{CoversAtMost}
 use Rattle.judge_cover.proofs.BitLaws.{bit-and, no-bits, and-assoc, and-swap, parts-cover-less}
 
 -- `exists` in another order, beside a constant, and over what is kept
@@ -29,7 +30,7 @@ exists-or f g (x ∷ l) = ap (λ b. (f x || g x) || b) (exists-or f g l) ∙ tur
     turn false true false d = refl
     turn false false c d = refl
 
-exists-none : {A : Type 0} (l : List A) → exists (λ x. false) l ≡ false
+pub exists-none : {A : Type 0} (l : List A) → exists (λ x. false) l ≡ false
 unfolding exists
 exists-none [] = refl
 exists-none (x ∷ l) = exists-none l
@@ -62,6 +63,20 @@ front (x ∷ xs) g ys u =
     exists-ext _ _ x (λ s i. front xs g ys (bitAnd u s))
     ∙ exists-swap (λ s r. coverable (xs ++ ys) (bitAnd (bitAnd u s) r)) x g
     ∙ exists-ext _ _ g (λ r i. exists-ext _ _ x (λ s j. ap (coverable (xs ++ ys)) (and-swap u s r)))
+
+-- Edges that have all been tried without success may be dropped.
+kept-tries : (a b : Bool) → (not a && b) ≡ false → (a && b) ≡ b
+kept-tries true b h = refl
+kept-tries false b h = sym h
+
+pub exists-dropped : (f p : ℕ → Bool) (g : List ℕ) → exists (λ r. not (p r) && f r) g ≡ false → exists f (keep p g) ≡ exists f g
+unfolding exists
+exists-dropped f p g h = exists-keep f p g ∙ go g h
+  where
+    go : (g : List ℕ) → exists (λ r. not (p r) && f r) g ≡ false → exists (λ r. p r && f r) g ≡ exists f g
+    go [] h = refl
+    go (r ∷ g) h =
+        or-same (kept-tries (p r) (f r) (or-none-left (not (p r) && f r) _ h)) (go g (or-none-right (not (p r) && f r) _ h))
 
 -- A group with no edge covers nothing; where nothing is left to cover, an edge in each group is enough.
 abbrev pub filled : List ℕ → Bool
@@ -108,16 +123,12 @@ coverable-falls (g ∷ gs) w u i h =
     let e = exists-elim _ g h in
     exists-intro _ (e .1) (coverable-falls gs (bitAnd w (e .0)) (bitAnd u (e .0)) (within-and w u (e .0) i) (e .2))
 
--- No edge of the group covers more than b variables of u.
-abbrev pub Above : (u : ℕ) (g : List ℕ) (b : ℕ) → Type 0
-Above u g b = (r : ℕ) → List·Memᴰ r g → ones u ≤ b + ones (bitAnd u r)
-
--- A list of such bounds, one for each group.
+-- A list of bounds, one for each group.
 pub data Bounded (u : ℕ) : List (List ℕ) → List ℕ → Type 0 where
   none : Bounded u [] []
-  one : {g : List ℕ} {b : ℕ} {gs : List (List ℕ)} {bs : List ℕ} → Above u g b → Bounded u gs bs → Bounded u (g ∷ gs) (b ∷ bs)
+  one : {g : List ℕ} {b : ℕ} {gs : List (List ℕ)} {bs : List ℕ} → CoversAtMost u g b → Bounded u gs bs → Bounded u (g ∷ gs) (b ∷ bs)
 
-above-part : (u r : ℕ) (g : List ℕ) (b : ℕ) → Above u g b → Above (bitAnd u r) g b
+pub above-part : (u r : ℕ) (g : List ℕ) (b : ℕ) → CoversAtMost u g b → CoversAtMost (bitAnd u r) g b
 above-part u r g b a s i = omega (arith, a s i, parts-cover-less u r s)
 
 bounded-part : (u r : ℕ) {gs : List (List ℕ)} {bs : List ℕ} → Bounded u gs bs → Bounded (bitAnd u r) gs bs
@@ -132,20 +143,15 @@ bound (g ∷ gs) (b ∷ bs) u (one a rest) h =
     let e = exists-elim _ g h in
     omega (arith, a (e .0) (e .1), bound gs bs (bitAnd u (e .0)) (bounded-part u (e .0) rest) (e .2))
 
-bounded-append : (u : ℕ) {gs hs : List (List ℕ)} {bs cs : List ℕ} → Bounded u gs bs → Bounded u hs cs → Bounded u (gs ++ hs) (bs ++ cs)
+pub bounded-append : (u : ℕ) {gs hs : List (List ℕ)} {bs cs : List ℕ} → Bounded u gs bs → Bounded u hs cs → Bounded u (gs ++ hs) (bs ++ cs)
 bounded-append u none y = y
 bounded-append u (one a x) y = one a (bounded-append u x y)
 
--- the useful edges of each group
-unfoldable pub sift : (u total : ℕ) → List (List ℕ) → List ℕ → List (List ℕ)
-sift u total [] bs = []
-sift u total (g ∷ gs) [] = g ∷ gs
-sift u total (g ∷ gs) (b ∷ bs) = keep (useful u total b) g ∷ sift u total gs bs
-
-above-kept : (u : ℕ) (p : ℕ → Bool) (g : List ℕ) (b : ℕ) → Above u g b → Above u (keep p g) b
+pub above-kept : (u : ℕ) (p : ℕ → Bool) (g : List ℕ) (b : ℕ) → CoversAtMost u g b → CoversAtMost u (keep p g) b
 above-kept u p g b a r i = a r (keep-out p g i .0)
 
-sift-one : (u : ℕ) {xs ys : List (List ℕ)} {cs bs : List ℕ} (g : List ℕ) (b total : ℕ) → Bounded u xs cs → Bounded u ys bs → total ≡ sum cs + (b + sum bs)
+-- Where each group has a bound, edges of one that leave more than the others can cover may be dropped.
+pub sift-one : (u : ℕ) {xs ys : List (List ℕ)} {cs bs : List ℕ} (g : List ℕ) (b total : ℕ) → Bounded u xs cs → Bounded u ys bs → total ≡ sum cs + (b + sum bs)
     → coverable (xs ++ keep (useful u total b) g ∷ ys) u ≡ coverable (xs ++ g ∷ ys) u
 unfolding useful
 sift-one u {xs} {ys} {cs} {bs} g b total x y e =
@@ -154,20 +160,3 @@ sift-one u {xs} {ys} {cs} {bs} g b total x y e =
     ∙ exists-ext _ _ g (λ r i. and-known _ _ (λ h.
     le-leb (ones (bitAnd u r) + b) total (omega (arith, bound (xs ++ ys) (cs ++ bs) (bitAnd u r) (bounded-part u r (bounded-append u x y)) h, sum-append cs bs))))
     ∙ sym (front xs g ys u)
-
-sift-after : (u total : ℕ) {xs gs : List (List ℕ)} {cs bs : List ℕ} → Bounded u xs cs → Bounded u gs bs → total ≡ sum cs + sum bs
-    → coverable (xs ++ sift u total gs bs) u ≡ coverable (xs ++ gs) u
-unfolding sift sum
-sift-after u total x none e = refl
-sift-after u total {xs} {cs = cs} x (one {g} {b} {gs} {bs} a y) e =
-    let h = keep (useful u total b) g in
-    let z : Bounded u (xs ++ h ∷ []) (cs ++ b ∷ []) = bounded-append u x (one (above-kept u (useful u total b) g b a) none) in
-    ap (λ l. coverable l u) (sym (append-assoc xs (h ∷ []) (sift u total gs bs)))
-    ∙ sift-after u total z y (omega (arith, sum-append cs (b ∷ [])))
-    ∙ ap (λ l. coverable l u) (append-assoc xs (h ∷ []) gs)
-    ∙ sift-one u g b total x y e
-
--- Edges that are of no use may be dropped.
-pub sift-same : (u total : ℕ) {gs : List (List ℕ)} {bs : List ℕ} → Bounded u gs bs → total ≡ sum bs → coverable (sift u total gs bs) u ≡ coverable gs u
-unfolding sum
-sift-same u total {bs = bs} y e = sift-after u total none y (omega (arith, e))

@@ -1,24 +1,25 @@
--- Groups by their places, and each way out of the code of src/sift.rt, of `bounds::find` and of `places::groups`.
+-- Groups by their places, and each way out of `narrow::sift`, `edges::drop_named`, `bounds::find` and `places::groups`.
 use mathlib.Core.Path.{_≡_, refl, sym, ap, ap₂, _∙_}
 use mathlib.Core.Bool.{Bool, true, false, not, _&&_, _||_, true≢false}
 use mathlib.Core.List.{List, [], _∷_, _++_, map, map-append, append-assoc, append-nil}
 use mathlib.Core.Logic.{_⊎_, inl, inr}
-use Prim.Native.Nat.{ℕ, zero, suc, _+_, _-_, _*_, _≤_, _<_}
+use Prim.Native.Nat.{ℕ, zero, suc, _+_, _-_, _*_, _≤_, _<_, min}
 use native.Mathlib.Omega.{arith}
 use native.Mathlib.Numerals.{add-one}
 use lib.ListN.{length, getD, set, length-set}
 use lib.Seq.{getD-set-same, getD-set-other}
+use lib.Bits.{bitAnd}
+use lib.Count.{ones}
+use lib.Dec.{leb}
 use Rattle.model.specs.Basic.{keep, countUp, sum}
 use Rattle.model.specs.Bounds.{maxAutomata}
 use Rattle.model.specs.Table.{bit}
 use Rattle.model.proofs.Lists.{keep-append, keep-first, keep-skip, sum-append, count-split}
 use Rattle.model.proofs.Tests.{not-false}
-use Rattle.judge_cover.specs.declared.sift.Room.{Room}
-use Rattle.judge_cover.specs.declared.sift.Room.the-variants.{At, Full}
-use Rattle.judge_cover.specs.Cover.{group, groups, groupsOf, useful, siftedGroup, siftedGroups}
-use Rattle.judge_cover.specs.Steps.{advanced, CoversAtMost, BoundsOf, SiftedTo, SiftedAs}
+use Rattle.judge_cover.specs.Cover.{group, groups, groupsOf, useful, spares}
+use Rattle.judge_cover.specs.Steps.{advanced, CoversAtMost, BoundsOf, SiftedTo, Passed}
 use Rattle.judge_cover.proofs.Counting.{map-count, count-last}
-use Rattle.judge_cover.proofs.CodeLaws.{other}
+use Rattle.judge_cover.proofs.CodeLaws.{other, Least, least-first, least-more, gain-is, edge-at, useful-is}
 
 -- a group's first edge, and its last
 pub group-cons : (masks : List ℕ) (i to : ℕ) → i < to → group masks i to ≡ getD masks i 0 ∷ group masks (i + 1) to
@@ -48,99 +49,162 @@ group-last l a b r h len =
     (map-count f (λ j. getD l j 0) (b - a) a (λ j x y. getD-set-other l b j r 0 (λ w. omega arith)))
     (ap (λ y. y ∷ []) (ap f z ∙ getD-set-same l b r 0 len))
 
--- `sift_group`
-pub record Sifting (masks : List ℕ) (from to u total gain : ℕ) (before : List ℕ) (count : ℕ) (kept : List ℕ) (next i : ℕ) : Type 0 where
-  pub size : length kept ≡ 512
+-- `sift` and `drop_named`: edges that pass a test are copied
+pub record Sifting (p : ℕ → Bool) (masks : List ℕ) (from to : ℕ) (before : List ℕ) (count : ℕ) (kept : List ℕ) (next i : ℕ) : Type 0 where
+  pub low : from ≤ i
+  pub high : i ≤ to
+  pub size : length kept ≡ length before
   pub grown : count ≤ next
-  pub room : next ≤ 512
-  pub fits : next + to ≤ 512 + i
-  pub inside : to ≤ length masks
+  pub slow : next + from ≤ count + i
   pub same : (j : ℕ) → j < count → getD kept j 0 ≡ getD before j 0
-  pub edges : group kept count next ++ keep (useful u total gain) (group masks i to) ≡ siftedGroup masks from to u total gain
+  pub rest : (j : ℕ) → i ≤ j → count ≤ from → getD kept j 0 ≡ getD before j 0
+  pub edges : group kept count next ++ keep p (group masks i to) ≡ keep p (group masks from to)
 
-module _ (masks : List ℕ) (from to u total gain : ℕ) (before : List ℕ) (count : ℕ) where
-  pub sifting-first : length before ≡ 512 → count ≤ 512 → (b : Bool) → not b ≡ false
-      → (b ≡ true → (from ≤ to) × (to ≤ length masks) × (count + to ≤ 512 + from))
-      → Sifting masks from to u total gain before count before count from
-  unfolding siftedGroup
-  sifting-first len h b taken f = record {
-    size = len;
+module _ (p : ℕ → Bool) (masks : List ℕ) (from to : ℕ) (before : List ℕ) (count : ℕ) where
+  pub sifting-first : from ≤ to → Sifting p masks from to before count before count from
+  sifting-first h = record {
+    low = omega arith;
+    high = h;
+    size = refl;
     grown = omega arith;
-    room = h;
-    fits = f (not-false b taken) .2;
-    inside = f (not-false b taken) .1;
+    slow = omega arith;
     same = λ j l. refl;
-    edges = ap (λ l. l ++ keep (useful u total gain) (group masks from to)) (group-none before count count (omega arith));
+    rest = λ j l m. refl;
+    edges = ap (λ l. l ++ keep p (group masks from to)) (group-none before count count (omega arith));
   }
 
-  module _ (kept : List ℕ) (next i : ℕ) (s : Sifting masks from to u total gain before count kept next i) where
-    pub sifting-more : i < to → (r : ℕ) → r ≡ getD masks i 0 → (b : Bool) → b ≡ useful u total gain r → (n : ℕ) → n ≡ advanced next b
-        → Sifting masks from to u total gain before count (set kept next r) n (i + 1)
+  module _ (kept : List ℕ) (next i : ℕ) (s : Sifting p masks from to before count kept next i) where
+    pub sifting-more : i < to → (r : ℕ) → r ≡ getD masks i 0 → next < length kept → (b : Bool) → b ≡ p r → (n : ℕ) → n ≡ advanced next b
+        → Sifting p masks from to before count (set kept next r) n (i + 1)
     unfolding advanced
-    sifting-more l r er b eb n en = go b eb n en
+    sifting-more l r er len b eb n en = go b eb n en
       where
         grown : count ≤ next
         grown = s .grown
 
-        fits : next + to ≤ 512 + i
-        fits = s .fits
+        slow : next + from ≤ count + i
+        slow = s .slow
 
-        inside : to ≤ length masks
-        inside = s .inside
+        low : from ≤ i
+        low = s .low
 
-        size : length (set kept next r) ≡ 512
+        size : length (set kept next r) ≡ length before
         size = length-set kept next r ∙ s .size
 
         same : (j : ℕ) → j < count → getD (set kept next r) j 0 ≡ getD before j 0
         same j m = getD-set-other kept next j r 0 (λ w. omega arith) ∙ s .same j m
 
-        whole : group kept count next ++ keep (useful u total gain) (r ∷ group masks (i + 1) to) ≡ siftedGroup masks from to u total gain
-        whole = ap (λ x. group kept count next ++ keep (useful u total gain) (x ∷ group masks (i + 1) to)) er
-            ∙ ap (λ l. group kept count next ++ keep (useful u total gain) l) (sym (group-cons masks i to l)) ∙ s .edges
+        rest : (j : ℕ) → i + 1 ≤ j → count ≤ from → getD (set kept next r) j 0 ≡ getD before j 0
+        rest j m c = getD-set-other kept next j r 0 (λ w. omega arith) ∙ s .rest j (omega arith) c
 
-        go : (b : Bool) → b ≡ useful u total gain r → (n : ℕ) → n ≡ advanced next b
-            → Sifting masks from to u total gain before count (set kept next r) n (i + 1)
+        whole : group kept count next ++ keep p (r ∷ group masks (i + 1) to) ≡ keep p (group masks from to)
+        whole = ap (λ x. group kept count next ++ keep p (x ∷ group masks (i + 1) to)) er
+            ∙ ap (λ l. group kept count next ++ keep p l) (sym (group-cons masks i to l)) ∙ s .edges
+
+        go : (b : Bool) → b ≡ p r → (n : ℕ) → n ≡ advanced next b → Sifting p masks from to before count (set kept next r) n (i + 1)
         go true e n en = record {
+          low = omega arith;
+          high = omega arith;
           size = size;
           grown = omega arith;
-          room = omega arith;
-          fits = omega arith;
-          inside = inside;
+          slow = omega arith;
           same = same;
+          rest = rest;
           edges =
-              ap (λ m. group (set kept next r) count m ++ keep (useful u total gain) (group masks (i + 1) to)) en
-              ∙ ap (λ l. l ++ keep (useful u total gain) (group masks (i + 1) to)) (group-last kept count next r grown (omega (arith, s .size, fits)))
-              ∙ append-assoc (group kept count next) (r ∷ []) (keep (useful u total gain) (group masks (i + 1) to))
-              ∙ ap (λ l. group kept count next ++ l) (sym (keep-first (useful u total gain) r (group masks (i + 1) to) (sym e))) ∙ whole;
+              ap (λ m. group (set kept next r) count m ++ keep p (group masks (i + 1) to)) en
+              ∙ ap (λ l. l ++ keep p (group masks (i + 1) to)) (group-last kept count next r grown len)
+              ∙ append-assoc (group kept count next) (r ∷ []) (keep p (group masks (i + 1) to))
+              ∙ ap (λ l. group kept count next ++ l) (sym (keep-first p r (group masks (i + 1) to) (sym e))) ∙ whole;
         }
         go false e n en = record {
+          low = omega arith;
+          high = omega arith;
           size = size;
           grown = omega arith;
-          room = omega arith;
-          fits = omega arith;
-          inside = inside;
+          slow = omega arith;
           same = same;
+          rest = rest;
           edges =
-              ap (λ m. group (set kept next r) count m ++ keep (useful u total gain) (group masks (i + 1) to)) en
-              ∙ ap (λ l. l ++ keep (useful u total gain) (group masks (i + 1) to))
+              ap (λ m. group (set kept next r) count m ++ keep p (group masks (i + 1) to)) en
+              ∙ ap (λ l. l ++ keep p (group masks (i + 1) to))
               (group-same (set kept next r) kept count next (λ j x y. getD-set-other kept next j r 0 (λ w. omega arith)))
-              ∙ ap (λ l. group kept count next ++ l) (sym (keep-skip (useful u total gain) r (group masks (i + 1) to) (sym e))) ∙ whole;
+              ∙ ap (λ l. group kept count next ++ l) (sym (keep-skip p r (group masks (i + 1) to) (sym e))) ∙ whole;
         }
 
-    pub sifting-done : to ≤ i → SiftedAs masks from to u total gain before kept count (At next)
-    unfolding SiftedAs keep
-    sifting-done h = record {
-      grown = s .grown;
-      room = s .room;
-      same = s .same;
-      edges = sym (append-nil (group kept count next)) ∙ ap (λ l. group kept count next ++ keep (useful u total gain) l) (sym (group-none masks i to h)) ∙ s .edges;
+    pub sifting-done : to ≤ i → SiftedTo p masks from to before kept count next
+    unfolding keep
+    sifting-done h =
+        let high = s .high in
+        let e : i ≡ to = omega arith in
+        record {
+          size = s .size;
+          grown = s .grown;
+          slow = omega (arith, s .slow);
+          same = s .same;
+          rest = λ j l c. s .rest j (omega arith) c;
+          edges = sym (append-nil (group kept count next)) ∙ ap (λ l. group kept count next ++ keep p l) (sym (group-none masks i to h)) ∙ s .edges;
+        }
+
+-- `drop_named`
+module _ (before : List ℕ) (from to v : ℕ) where
+  pub dropping-first : from ≤ to → Sifting (spares v) before from to before from before from from
+  dropping-first h = sifting-first (spares v) before from to before from h
+
+  module _ (kept : List ℕ) (next i : ℕ) (s : Sifting (spares v) before from to before from kept next i) where
+    pub dropping-more : i < to → to ≤ length before → (b : Bool) → b ≡ bit (getD kept i 0) v → (n : ℕ) → n ≡ advanced next b
+        → Sifting (spares v) before from to before from (set kept next (getD kept i 0)) n (i + 1)
+    unfolding spares
+    dropping-more l len b eb n en =
+        sifting-more (spares v) before from to before from kept next i s l (getD kept i 0) (s .rest i (omega arith) (omega arith)) (omega (arith, s .slow, s .size)) b eb n en
+
+    pub dropping-done : to ≤ i → SiftedTo (spares v) before from to before kept from next
+    dropping-done h = sifting-done (spares v) before from to before from kept next i s h
+
+pub ruleset dropping-laws = (dropping-first, dropping-more, dropping-done)
+
+-- `sift`
+pub record Passing (masks : List ℕ) (from to u total gain : ℕ) (before : List ℕ) (count : ℕ) (kept : List ℕ) (next least i : ℕ) : Type 0 where
+  pub sifting : Sifting (useful u total gain) masks from to before count kept next i
+  pub below : Least masks from u (ones u) least i
+  pub enough : ones u ≤ gain + least
+
+module _ (masks : List ℕ) (from to u total gain : ℕ) (before : List ℕ) (count : ℕ) where
+  pub passing-first : from ≤ to → (all : ℕ) → all ≡ ones u → Passing masks from to u total gain before count before count all from
+  passing-first h all e = record {
+    sifting = sifting-first (useful u total gain) masks from to before count h;
+    below = rw e (least-first masks from u (ones u));
+    enough = omega (arith, e);
+  }
+
+  module _ (kept : List ℕ) (next least i : ℕ) (s : Passing masks from to u total gain before count kept next least i) where
+    pub passing-room : i < to → count + to ≤ from + length before → next < length kept
+    passing-room l room = omega (arith, s .sifting .slow, s .sifting .size)
+
+    pub passing-more : i < to → count + to ≤ from + length before → gain ≤ total → CoversAtMost u (group masks from to) gain
+        → (left : ℕ) → left ≡ ones (bitAnd u (getD masks i 0)) → (n : ℕ) → n ≡ advanced next (leb left (total - gain)) → (m : ℕ) → m ≡ min least left
+        → Passing masks from to u total gain before count (set kept next (getD masks i 0)) n m (i + 1)
+    passing-more l room h c left e n en m em = record {
+      sifting = sifting-more (useful u total gain) masks from to before count kept next i (s .sifting) l (getD masks i 0) refl (passing-room l room)
+          (leb left (total - gain)) (useful-is u total gain (getD masks i 0) left h e) n en;
+      below = least-more masks from u (ones u) least i left m (s .below) e em;
+      enough = omega (arith, s .enough, c (getD masks i 0) (edge-at masks from to i (s .sifting .low) l));
     }
 
-  pub sifting-full : (after : List ℕ) → SiftedAs masks from to u total gain before after count Full
-  unfolding SiftedAs
-  sifting-full after = tt
+    pub passing-least : (all : ℕ) → all ≡ ones u → least ≤ all
+    passing-least all e = omega (arith, s .below .most)
 
-pub ruleset sifting-laws = (sifting-first, sifting-more, sifting-done, sifting-full)
+    pub passing-sum : (all : ℕ) → all ≡ ones u → gain ≤ total → (total - gain) + (all - least) ≤ total
+    passing-sum all e h = omega (arith, s .enough)
+
+    pub passing-done : to ≤ i → gain ≤ total → (all : ℕ) → all ≡ ones u
+        → Passed masks from to u total gain before kept count next (all - least) ((total - gain) + (all - least))
+    passing-done h l all e = record {
+      sifted = sifting-done (useful u total gain) masks from to before count kept next i (s .sifting) h;
+      bound = rw e (gain-is masks from to u (ones u) least i (s .below) h refl);
+      all = omega arith;
+    }
+
+pub ruleset passing-laws = (passing-first, passing-more, passing-done)
 
 -- one group more
 module _ (masks starts ends : List ℕ) (n a b : ℕ) where
@@ -149,7 +213,7 @@ module _ (masks starts ends : List ℕ) (n a b : ℕ) where
   groups-kept = map-count _ _ n 0 (λ j x y. ap₂ (group masks)
       (getD-set-other starts n j a 0 (λ w. omega arith)) (getD-set-other ends n j b 0 (λ w. omega arith)))
 
-  groups-more : n < length starts → n < length ends → groups masks (set starts n a) (set ends n b) (n + 1) ≡ groups masks starts ends n ++ group masks a b ∷ []
+  pub groups-more : n < length starts → n < length ends → groups masks (set starts n a) (set ends n b) (n + 1) ≡ groups masks starts ends n ++ group masks a b ∷ []
   unfolding groups
   groups-more p q =
       let f : ℕ → List ℕ = λ k. group masks (getD (set starts n a) k 0) (getD (set ends n b) k 0) in
@@ -233,7 +297,7 @@ pub record Bounding (masks starts ends : List ℕ) (n u : ℕ) (gains : List ℕ
   pub few : k ≤ n
   pub size : length gains ≡ 16
   pub small : total ≤ 64 * k
-  pub each : (j : ℕ) → j < k → CoversAtMost masks (getD starts j 0) (getD ends j 0) u (getD gains j 0)
+  pub each : (j : ℕ) → j < k → CoversAtMost u (group masks (getD starts j 0) (getD ends j 0)) (getD gains j 0)
   pub all : total ≡ sum (map (λ j. getD gains j 0) (countUp 0 k))
 
 module _ (masks starts ends : List ℕ) (n u : ℕ) where
@@ -242,7 +306,7 @@ module _ (masks starts ends : List ℕ) (n u : ℕ) where
   bounding-first gains h = record { few = omega arith; size = h; small = omega arith; each = λ j l. absurd (omega arith); all = refl }
 
   module _ (gains : List ℕ) (total k : ℕ) (s : Bounding masks starts ends n u gains total k) where
-    pub bounding-more : k < n → n ≤ 16 → (a b most : ℕ) → a ≡ getD starts k 0 → b ≡ getD ends k 0 → CoversAtMost masks a b u most → most ≤ 64
+    pub bounding-more : k < n → n ≤ 16 → (a b most : ℕ) → a ≡ getD starts k 0 → b ≡ getD ends k 0 → CoversAtMost u (group masks a b) most → most ≤ 64
         → Bounding masks starts ends n u (set gains k most) (total + most) (k + 1)
     unfolding sum
     bounding-more h g a b most ea eb c l =
@@ -265,10 +329,10 @@ module _ (masks starts ends : List ℕ) (n u : ℕ) where
           all = sym sums;
         }
       where
-        here : (j : ℕ) → j ≡ k → getD (set gains k most) k 0 ≡ most → CoversAtMost masks (getD starts j 0) (getD ends j 0) u (getD (set gains k most) j 0)
+        here : (j : ℕ) → j ≡ k → getD (set gains k most) k 0 ≡ most → CoversAtMost u (group masks (getD starts j 0) (getD ends j 0)) (getD (set gains k most) j 0)
         here j e last = rw (e, last, ← ea, ← eb) c
 
-        before : (j : ℕ) → j < k → CoversAtMost masks (getD starts j 0) (getD ends j 0) u (getD (set gains k most) j 0)
+        before : (j : ℕ) → j < k → CoversAtMost u (group masks (getD starts j 0) (getD ends j 0)) (getD (set gains k most) j 0)
         before j e =
             let x : getD (set gains k most) j 0 ≡ getD gains j 0 = getD-set-other gains k j most 0 (λ w. omega arith) in
             rw x (s .each j e)
@@ -277,68 +341,6 @@ module _ (masks starts ends : List ℕ) (n u : ℕ) where
     bounding-done h =
         let few = s .few in
         let e : k ≡ n = omega arith in
-        record { each = λ j l. s .each j (omega arith); size = s .size; all = s .all ∙ ap (λ m. sum (map (λ j. getD gains j 0) (countUp 0 m))) e }
+        record { each = λ j l. s .each j (omega arith); all = s .all ∙ ap (λ m. sum (map (λ j. getD gains j 0) (countUp 0 m))) e }
 
 pub ruleset bounding-laws = (bounding-first, bounding-more, bounding-done)
-
--- `sift`
-pub record Sifts (masks from to gains : List ℕ) (n u total : ℕ) (kept starts ends : List ℕ) (count k : ℕ) : Type 0 where
-  pub few : k ≤ n
-  pub room : count ≤ 512
-  pub size : length kept ≡ 512
-  pub starts-size : length starts ≡ 16
-  pub ends-size : length ends ≡ 16
-  pub ended : (j : ℕ) → j < k → getD ends j 0 ≤ count
-  pub sifted : groups kept starts ends k ≡ siftedGroups masks from to gains k u total
-
-module _ (masks from to gains : List ℕ) (n u total : ℕ) where
-  pub sifts-first : (kept starts ends : List ℕ) → length kept ≡ 512 → length starts ≡ 16 → length ends ≡ 16 → Sifts masks from to gains n u total kept starts ends 0 0
-  unfolding groups siftedGroups countUp
-  sifts-first kept starts ends len p q = record { few = omega arith; room = omega arith; size = len; starts-size = p; ends-size = q; ended = λ j l. absurd (omega arith); sifted = refl }
-
-  module _ (kept starts ends : List ℕ) (count k : ℕ) (s : Sifts masks from to gains n u total kept starts ends count k) where
-    grow : k < n → n ≤ 16 → (a b g next : ℕ) (after : List ℕ) → a ≡ getD from k 0 → b ≡ getD to k 0 → g ≡ getD gains k 0
-        → SiftedTo masks a b u total g kept after count next → length after ≡ 512
-        → Sifts masks from to gains n u total after (set starts k count) (set ends k next) next (k + 1)
-    unfolding siftedGroups groups
-    grow h few a b g next after ea eb eg x len =
-        let p = s .starts-size in
-        let q = s .ends-size in
-        let up = x .grown in
-        let f : ℕ → List ℕ = λ j. siftedGroup masks (getD from j 0) (getD to j 0) u total (getD gains j 0) in
-        record {
-          few = omega arith;
-          room = x .room;
-          size = len;
-          starts-size = length-set starts k count ∙ p;
-          ends-size = length-set ends k next ∙ q;
-          ended = λ j m. elim (other j k m) [
-            | inl e ↦ omega (arith, ap (λ i. getD (set ends k next) i 0) e, getD-set-same ends k next 0 (omega arith))
-            | inr e ↦ omega (arith, getD-set-other ends k j next 0 (λ w. omega arith), s .ended j e)
-          ];
-          sifted =
-              groups-more after starts ends k count next (omega arith) (omega arith)
-              ∙ ap₂ (λ y z. y ++ z ∷ []) (old ∙ s .sifted) (x .edges ∙ here)
-              ∙ sym (ap (map f) (count-last k) ∙ map-append f (countUp 0 k) (k ∷ []));
-        }
-      where
-        old : groups after starts ends k ≡ groups kept starts ends k
-        old = map-count _ _ k 0 (λ j y z. group-same after kept (getD starts j 0) (getD ends j 0) (λ i v w. x .same i (omega (arith, s .ended j (omega arith)))))
-
-        here : siftedGroup masks a b u total g ≡ siftedGroup masks (getD from k 0) (getD to k 0) u total (getD gains k 0)
-        here = rw (ea, eb, eg)
-
-    pub sifts-more : k < n → n ≤ 16 → (a b g next : ℕ) (after : List ℕ) (x : Room) → a ≡ getD from k 0 → b ≡ getD to k 0 → g ≡ getD gains k 0
-        → SiftedAs masks a b u total g kept after count x → x ≡ At next → length after ≡ 512
-        → Sifts masks from to gains n u total after (set starts k count) (set ends k next) next (k + 1)
-    unfolding SiftedAs
-    sifts-more h few a b g next after room ea eb eg how e len = grow h few a b g next after ea eb eg (rw e at how) len
-
-    pub sifts-done : n ≤ k → (r : Bool) → r ≡ true → groups kept starts ends n ≡ siftedGroups masks from to gains n u total
-    sifts-done h r e =
-        let few = s .few in
-        let z : k ≡ n = omega arith in
-        ap (groups kept starts ends) (sym z) ∙ s .sifted ∙ ap (λ m. siftedGroups masks from to gains m u total) z
-
--- where there was no room nothing is promised
-pub ruleset sifts-laws = (sifts-first, sifts-more, sifts-done)

@@ -3,5 +3,7 @@ pub mod Counting
 pub mod CoverLaws
 pub mod Branching
 pub mod CodeLaws
+pub mod PlaceLaws
 pub mod GroupLaws
+pub mod NarrowLaws
 pub mod SeekLaws

@@ -1,26 +1,30 @@
--- Each way out of the code of src/seek.rt.
+-- Each way out of the code of src/seek.rt, src/plain.rt and of `covered`.
 use mathlib.Core.Path.{_≡_, refl, sym, ap, ap₂, _∙_}
-use mathlib.Core.Bool.{Bool, true, false, not, _&&_, _||_, true≢false}
-use mathlib.Core.List.{List, [], _∷_, _++_, map, map-append, List·Memᴰ, List·Memᴰ·cases-cons, List·Memᴰ·not-nil}
+use mathlib.Core.Bool.{Bool, true, false, not, _&&_, true≢false}
+use mathlib.Core.List.{List, [], _∷_, _++_, map, map-append}
 use mathlib.Core.Logic.{_⊎_, inl, inr}
 use Prim.Native.Nat.{ℕ, zero, suc, _+_, _-_, _≤_, _<_}
 use native.Mathlib.Omega.{arith}
-use lib.ListN.{getD}
+use native.Mathlib.Numerals.{add-one}
+use lib.ListN.{length, getD, set, length-set}
+use lib.Seq.{getD-set-same, getD-set-other}
 use lib.Bits.{bitAnd}
 use lib.Count.{ones}
-use lib.Dec.{ltb}
-use borrow.Author.Tests.{lt-ltb, le-ltb, ltb-true, ltb-false}
+use lib.Dec.{eqb, ltb}
+use borrow.Author.Tests.{lt-ltb, ltb-true, ltb-false}
 use Rattle.model.specs.Basic.{every, exists, keep, countUp, sum}
 use Rattle.model.specs.Table.{bit}
-use Rattle.model.proofs.Tests.{exists-map, every-ext, not-true, not-false}
-use Rattle.model.proofs.Lists.{every-map, none-narrower, count-split}
-use Rattle.judge_cover.specs.Cover.{coverable, group, groups, groupsOf, leftBy, worth, namedIn, past, allFilled, useful, siftedGroup, siftedGroups}
-use Rattle.judge_cover.specs.Steps.{Without, CoversAtMost, BoundsOf, triesAt, triedIn}
-use Rattle.judge_cover.proofs.Counting.{map-count, exists-count}
-use Rattle.judge_cover.proofs.CoverLaws.{filled, nothing-left, one-empty, coverable-falls, Above, Bounded, none, one, bound, sift, sift-same}
-use Rattle.judge_cover.proofs.Branching.{others, through, branch-is, tries, worth-is-enough}
+use Rattle.model.proofs.Tests.{and-no-right, exists-map, every-ext, not-true, not-not}
+use Rattle.model.proofs.Lists.{every-map, sum-append}
+use Rattle.judge_cover.specs.Cover.{coverable, group, groups, groupsOf, leftBy, worth, namedIn, spares, past, allFilled}
+use Rattle.judge_cover.specs.Steps.{Without, Laid, Spans, CoversAtMost, BoundsOf, SiftedTo, Narrowed, NarrowedTo, NextNamed, groupsFrom, othersAt, throughAt, triesAt}
+use Rattle.judge_cover.proofs.Counting.{map-count, count-at, every-count}
+use Rattle.judge_cover.proofs.CoverLaws.{exists-none, exists-keep, exists-dropped, filled, nothing-left, one-empty, coverable-falls, above-part, above-kept}
+use Rattle.judge_cover.proofs.Branching.{group-out, through-covers, unnamed-uncovered, worth-is-enough}
 use Rattle.judge_cover.proofs.CodeLaws.{some-here, some-later, some-none}
-use Rattle.judge_cover.proofs.GroupLaws.{group-cons, group-none}
+use Rattle.judge_cover.proofs.PlaceLaws.{laid-before, laid-cut, past-some, map-past}
+use Rattle.judge_cover.proofs.GroupLaws.{group-cons, group-none, group-same}
+use Rattle.judge_cover.proofs.NarrowLaws.{bounded, too-few, from-cons, from-first, from-none}
 
 -- a group has an edge exactly when its places are some
 filled-group : (masks : List ℕ) (a b : ℕ) → filled (group masks a b) ≡ ltb a b
@@ -31,201 +35,295 @@ filled-group masks a b = go (ltb a b) refl
     go true e = ap filled (group-cons masks a b (ltb-true a b e)) ∙ sym e
     go false e = ap filled (group-none masks a b (ltb-false a b e)) ∙ sym e
 
--- an edge of a group stands at one of its places
-record Placed (masks : List ℕ) (a n r : ℕ) : Type 0 where
-  at : ℕ
-  low : a ≤ at
-  high : at < a + n
-  is : r ≡ getD masks at 0
+all-filled : (masks starts ends : List ℕ) (n : ℕ) → allFilled starts ends n ≡ every filled (groups masks starts ends n)
+unfolding allFilled groups
+all-filled masks starts ends n =
+    every-ext _ _ (countUp 0 n) (λ k i. sym (filled-group masks (getD starts k 0) (getD ends k 0)))
+    ∙ sym (every-map filled (λ k. group masks (getD starts k 0) (getD ends k 0)) (countUp 0 n))
 
-placed : (masks : List ℕ) (n a r : ℕ) → List·Memᴰ r (map (λ i. getD masks i 0) (countUp a n)) → Placed masks a n r
-unfolding countUp
-placed masks zero a r h = absurd (List·Memᴰ·not-nil h)
-placed masks (suc n) a r h = go (λ i. placed masks n (suc a) r i) (List·Memᴰ·cases-cons h)
-  where
-    go : (List·Memᴰ r (map (λ i. getD masks i 0) (countUp (suc a) n)) → Placed masks (suc a) n r)
-        → (r ≡ getD masks a 0) ⊎ List·Memᴰ r (map (λ i. getD masks i 0) (countUp (suc a) n)) → Placed masks a (suc n) r
-    go ih (inl e) = record { at = a; low = omega arith; high = omega arith; is = e }
-    go ih (inr i) =
-        let p = ih i in
-        let l = p .low in
-        let h = p .high in
-        record { at = p .at; low = omega arith; high = omega arith; is = p .is }
+-- `seek`
+module _ (masks starts ends : List ℕ) (n u : ℕ) where
+  pub seek-covered : (size : ℕ) → Laid starts ends n size → u ≡ 0 → true ≡ coverable (groups masks starts ends n) u
+  unfolding allFilled
+  seek-covered size s z =
+      let all : allFilled starts ends n ≡ true = every-count _ n 0 (λ k x y. lt-ltb (getD starts k 0) (getD ends k 0) (s .some k (omega arith))) in
+      sym (ap (coverable (groups masks starts ends n)) z ∙ nothing-left (groups masks starts ends n) ∙ sym (all-filled masks starts ends n) ∙ all)
 
-above-group : (masks : List ℕ) (a b u c : ℕ) → CoversAtMost masks a b u c → Above u (group masks a b) c
-unfolding group leftBy
-above-group masks a b u c h r i =
-    let p = placed masks (b - a) a r i in
-    let l = p .low in
-    let g = p .high in
-    omega (arith, h (p .at) l (omega arith), ap (λ x. ones (bitAnd u x)) (p .is))
+  pub seek-short : (gains : List ℕ) (total x : ℕ) → BoundsOf masks starts ends n u gains total → x ≡ ones u → total < x → false ≡ coverable (groups masks starts ends n) u
+  seek-short gains total x s e l =
+      sym (too-few (groups masks starts ends n) (map (λ k. getD gains k 0) (countUp 0 n)) u (bounded masks starts ends n u gains total s) (omega (arith, s .all, e)))
 
--- bounds and sifted groups as lists
-bounded-count : (u : ℕ) (G : ℕ → List ℕ) (B : ℕ → ℕ) (n a : ℕ) → ((k : ℕ) → a ≤ k → k < a + n → Above u (G k) (B k))
-    → Bounded u (map G (countUp a n)) (map B (countUp a n))
-unfolding countUp
-bounded-count u G B zero a h = none
-bounded-count u G B (suc n) a h = one (h a (omega arith) (omega arith)) (bounded-count u G B n (suc a) (λ k x y. h k (omega arith) (omega arith)))
+pub ruleset seek-laws = (seek-covered, seek-short)
 
-sift-count : (u total : ℕ) (G : ℕ → List ℕ) (B : ℕ → ℕ) (n a : ℕ)
-    → sift u total (map G (countUp a n)) (map B (countUp a n)) ≡ map (λ k. keep (useful u total (B k)) (G k)) (countUp a n)
-unfolding countUp sift
-sift-count u total G B zero a = refl
-sift-count u total G B (suc n) a = ap (λ l. keep (useful u total (B a)) (G a) ∷ l) (sift-count u total G B n (suc a))
+-- `narrowed`
+module _ (masks from to : List ℕ) (n u : ℕ) (before kept starts ends gains : List ℕ) (t : ℕ)
+    (s : NarrowedTo masks from to n u before kept starts ends gains t) (x : ℕ) (ex : x ≡ ones u) where
+  pub narrowed-short : t < x → false ≡ coverable (groups masks from to n) u
+  narrowed-short l = sym (s .short (omega arith))
 
-module _ (masks starts ends : List ℕ) where
-  abbrev pub G : ℕ → List ℕ
-  G k = group masks (getD starts k 0) (getD ends k 0)
+  pub narrowed-is : x ≤ t → (r : Bool) → r ≡ coverable (groups kept starts ends n) u → r ≡ coverable (groups masks from to n) u
+  narrowed-is l r e = e ∙ s .enough (omega arith) .same
 
-  all-filled : (n : ℕ) → allFilled starts ends n ≡ every filled (groups masks starts ends n)
-  unfolding allFilled groups
-  all-filled n =
-      every-ext _ _ (countUp 0 n) (λ k i. sym (filled-group masks (getD starts k 0) (getD ends k 0)))
-      ∙ sym (every-map filled G (countUp 0 n))
+  pub narrowed-laid : x ≤ t → Laid starts ends n (length kept)
+  narrowed-laid l = s .enough (omega arith) .laid
 
-  -- `seek`
-  module _ (n u : ℕ) (b : Bool) (e : b ≡ allFilled starts ends n) where
-    pub seek-empty : not b ≡ true → false ≡ coverable (groups masks starts ends n) u
-    seek-empty h = sym (one-empty (groups masks starts ends n) u (sym (all-filled n) ∙ sym e ∙ not-true b h))
+  pub narrowed-bounds : x ≤ t → BoundsOf kept starts ends n u gains t
+  narrowed-bounds l = s .enough (omega arith) .bounds
 
-    pub seek-covered : not b ≡ false → u ≡ 0 → true ≡ coverable (groups masks starts ends n) u
-    seek-covered h z = sym (ap (coverable (groups masks starts ends n)) z ∙ nothing-left (groups masks starts ends n) ∙ sym (all-filled n) ∙ sym e ∙ not-false b h)
+pub ruleset narrowed-laws = (narrowed-short, narrowed-is, narrowed-laid, narrowed-bounds)
 
-  module _ (n u : ℕ) (gains : List ℕ) (total : ℕ) (s : BoundsOf masks starts ends n u gains total) where
-    bounded : Bounded u (groups masks starts ends n) (map (λ k. getD gains k 0) (countUp 0 n))
-    unfolding groups
-    bounded = bounded-count u G (λ k. getD gains k 0) n 0 (λ k x y. above-group masks (getD starts k 0) (getD ends k 0) u (getD gains k 0) (s .each k (omega arith)))
+-- `tried`: without group k
+module _ (masks starts ends : List ℕ) (n k : ℕ) (few : n ≤ 16) (l : k < n) (from to : List ℕ) (f : Without k starts from) (g : Without k ends to) where
+  other-groups : groups masks from to (n - 1) ≡ othersAt masks starts ends n k
+  unfolding groups othersAt groupsFrom
+  other-groups = map-past (λ i. group masks (getD from i 0) (getD to i 0)) (λ j. group masks (getD starts j 0) (getD ends j 0)) n k l
+      (λ i m. ap₂ (group masks) (f .each i (omega arith)) (g .each i (omega arith)))
 
-    pub seek-short : (x : ℕ) → x ≡ ones u → total < x → false ≡ coverable (groups masks starts ends n) u
-    seek-short x e l = go (coverable (groups masks starts ends n) u) refl
-      where
-        go : (b : Bool) → coverable (groups masks starts ends n) u ≡ b → false ≡ b
-        go false h = refl
-        go true h = absurd (omega (arith, bound (groups masks starts ends n) (map (λ k. getD gains k 0) (countUp 0 n)) u bounded h, s .all))
+  module _ (u : ℕ) (gains less : List ℕ) (total : ℕ) (h : Without k gains less) (s : BoundsOf masks starts ends n u gains total) (b : ℕ) (eb : b ≡ getD gains k 0) where
+    sums : total ≡ sum (map (λ j. getD gains j 0) (countUp 0 k)) + (b + sum (map (λ j. getD gains j 0) (countUp (suc k) (n - suc k))))
+    unfolding sum
+    sums =
+        s .all ∙ ap (λ m. sum (map (λ j. getD gains j 0) m)) (count-at n k l)
+        ∙ ap sum (map-append (λ j. getD gains j 0) (countUp 0 k) (k ∷ countUp (suc k) (n - suc k)))
+        ∙ sum-append (map (λ j. getD gains j 0) (countUp 0 k)) (getD gains k 0 ∷ map (λ j. getD gains j 0) (countUp (suc k) (n - suc k)))
+        ∙ ap (λ x. sum (map (λ j. getD gains j 0) (countUp 0 k)) + (x + sum (map (λ j. getD gains j 0) (countUp (suc k) (n - suc k))))) (sym eb)
 
-    pub seek-sifted : (kept from to : List ℕ) (t : Bool) → t ≡ true
-        → (t ≡ true → groups kept from to n ≡ siftedGroups masks starts ends gains n u total)
-        → (r : Bool) → r ≡ coverable (groups kept from to n) u → r ≡ coverable (groups masks starts ends n) u
-    unfolding groups siftedGroups siftedGroup
-    seek-sifted kept from to t et same r e =
-        e ∙ ap (λ l. coverable l u) (same et ∙ sym (sift-count u total G (λ k. getD gains k 0) n 0)) ∙ sift-same u total bounded (s .all)
+    pub gain-part : b ≤ total
+    gain-part = omega (arith, sums)
 
-  -- `branch`
-  abbrev pub throughAt : (n u v k : ℕ) → Bool
-  throughAt n u v = through G n u v
+    -- what an edge leaves is covered no better
+    pub bounds-without : (i x : ℕ) → x ≡ leftBy masks u i → BoundsOf masks from to (n - 1) x less (total - b)
+    unfolding leftBy
+    bounds-without i x e = record {
+      each = λ j m. rw (e, f .each j (omega arith), g .each j (omega arith), h .each j (omega arith))
+          (past-some (λ p. CoversAtMost (bitAnd u (getD masks i 0)) (group masks (getD starts p 0) (getD ends p 0)) (getD gains p 0)) n k j
+          (λ p q. above-part u (getD masks i 0) (group masks (getD starts p 0) (getD ends p 0)) (getD gains p 0) (s .each p q)) m);
+      all = omega (
+        arith,
+        sums,
+        ap sum (map-past (λ i. getD less i 0) (λ j. getD gains j 0) n k l (λ i m. h .each i (omega arith))),
+        sum-append (map (λ j. getD gains j 0) (countUp 0 k)) (map (λ j. getD gains j 0) (countUp (suc k) (n - suc k))),
+      );
+    }
 
-map-shift : (f g : ℕ → List ℕ) (c k : ℕ) → ((i : ℕ) → k ≤ i → i < k + c → f i ≡ g (suc i)) → map f (countUp k c) ≡ map g (countUp (suc k) c)
-unfolding countUp
-map-shift f g zero k h = refl
-map-shift f g (suc c) k h = ap₂ (λ x l. x ∷ l) (h k (omega arith) (omega arith)) (map-shift f g c (suc k) (λ i x y. h i (omega arith) (omega arith)))
+  module _ (u v a b : ℕ) (uncovered : bit u v ≡ true) (ea : a ≡ getD starts k 0) (eb : b ≡ getD ends k 0) where
+    abbrev T : Bool
+    T = throughAt masks starts ends n u v k
 
-module _ (masks starts ends : List ℕ) (n k : ℕ) (l : k < n) (few : n ≤ 16) (from to : List ℕ) (f : Without k starts from) (g : Without k ends to) where
-  abbrev H : ℕ → List ℕ
-  H = G masks starts ends
+    abbrev tries : ℕ → Bool
+    tries = triesAt masks a b from to (n - 1) u v
 
-  other-groups : groups masks from to (n - 1) ≡ others H 0 n k
-  unfolding groups past
-  other-groups =
-      let c = n - suc k in
-      let e : n - 1 ≡ k + c = omega arith in
-      let z : 0 + k ≡ k = omega arith in
-      let y : k - 0 ≡ k = omega arith in
-      let x : 0 + n - suc k ≡ c = omega arith in
-      let F : ℕ → List ℕ = λ i. group masks (getD from i 0) (getD to i 0) in
-      let before : map F (countUp 0 k) ≡ map H (countUp 0 k) = map-count F H k 0 (λ i a b.
-      let p : past k i ≡ i = rw (lt-ltb i k (omega arith), past) in
-      ap₂ (group masks) (f .each i (omega arith) ∙ ap (λ j. getD starts j 0) p) (g .each i (omega arith) ∙ ap (λ j. getD ends j 0) p)) in
-      let behind : map F (countUp k c) ≡ map H (countUp (suc k) c) = map-shift F H c k (λ i a b.
-      let p : past k i ≡ suc i = rw (le-ltb i k a, past) (omega arith) in
-      ap₂ (group masks) (f .each i (omega arith) ∙ ap (λ j. getD starts j 0) p) (g .each i (omega arith) ∙ ap (λ j. getD ends j 0) p)) in
-      ap (λ m. map F (countUp 0 m)) e ∙ ap (map F) (count-split 0 k c) ∙ map-append F (countUp 0 k) (countUp (0 + k) c)
-      ∙ ap₂ (λ p q. p ++ q) (before ∙ ap (λ m. map H (countUp 0 m)) (sym y))
-      (ap (λ m. map F (countUp m c)) z ∙ behind ∙ ap (λ m. map H (countUp (suc k) m)) (sym x))
+    pub tried-start : exists tries (countUp a (b - a)) ≡ T
+    unfolding throughAt group leftBy
+    tried-start =
+        let R = groups masks from to (n - 1) in
+        worth-is-enough masks a b u v uncovered (coverable R) (coverable-falls R)
+        ∙ sym (exists-map (λ r. not (bit r v) && coverable R (bitAnd u r)) (λ i. getD masks i 0) (countUp a (b - a)))
+        ∙ ap (λ S. exists (λ r. not (bit r v) && coverable S (bitAnd u r)) (group masks a b)) other-groups
+        ∙ ap₂ (λ x y. exists (λ r. not (bit r v) && coverable (othersAt masks starts ends n k) (bitAnd u r)) (group masks x y)) ea eb
 
-  tried-is : (u v a b : ℕ) → bit u v ≡ true → a ≡ getD starts k 0 → b ≡ getD ends k 0
-      → triedIn masks a b from to (n - 1) u v ≡ throughAt masks starts ends n u v k
-  unfolding triedIn group leftBy
-  tried-is u v a b uncovered ea eb =
-      let R = groups masks from to (n - 1) in
-      worth-is-enough masks a b u v uncovered (coverable R) (coverable-falls R)
-      ∙ sym (exists-map (λ r. not (bit r v) && coverable R (bitAnd u r)) (λ i. getD masks i 0) (countUp a (b - a)))
-      ∙ ap (λ S. exists (λ r. not (bit r v) && coverable S (bitAnd u r)) (group masks a b)) other-groups
-      ∙ ap₂ (λ x y. exists (λ r. not (bit r v) && coverable (others H 0 n k) (bitAnd u r)) (group masks x y)) ea eb
-
-module _ (masks starts ends : List ℕ) (n u v : ℕ) where
-  pub branch-start : (0 < u → bit u v ≡ true) → 0 < u → exists (throughAt masks starts ends n u v) (countUp 0 (n - 0)) ≡ coverable (groups masks starts ends n) u
-  unfolding groups
-  branch-start h some =
-      let e : n - 0 ≡ n = omega arith in
-      ap (λ m. exists (throughAt masks starts ends n u v) (countUp 0 m)) e ∙ branch-is (G masks starts ends) n u v (h some)
-
-  module _ (k : ℕ) (inv : exists (throughAt masks starts ends n u v) (countUp k (n - k)) ≡ coverable (groups masks starts ends n) u) where
-    pub branch-end : n ≤ k → false ≡ coverable (groups masks starts ends n) u
-    branch-end l = some-none (throughAt masks starts ends n u v) k n l ∙ inv
-
-    -- a group none of whose edges mentions v is passed over
-    pub branch-unnamed : k < n → (a b : ℕ) → a ≡ getD starts k 0 → b ≡ getD ends k 0 → (t : Bool) → t ≡ namedIn masks a b v → t ≡ false
-        → exists (throughAt masks starts ends n u v) (countUp (k + 1) (n - (k + 1))) ≡ coverable (groups masks starts ends n) u
-    unfolding namedIn group
-    branch-unnamed l a b ea eb t et z =
-        let R = others (G masks starts ends) 0 n k in
-        let none : exists (λ i. not (bit (getD masks i 0) v)) (countUp a (b - a)) ≡ false = sym et ∙ z in
-        let nowhere : throughAt masks starts ends n u v k ≡ false =
-        ap₂ (λ x y. exists (λ r. not (bit r v) && coverable R (bitAnd u r)) (group masks x y)) (sym ea) (sym eb)
-        ∙ exists-map (λ r. not (bit r v) && coverable R (bitAnd u r)) (λ i. getD masks i 0) (countUp a (b - a))
-        ∙ none-narrower (λ i. not (bit (getD masks i 0) v)) (λ i. not (bit (getD masks i 0) v) && coverable R (bitAnd u (getD masks i 0)))
-        (λ i y. ap (λ c. c && coverable R (bitAnd u (getD masks i 0))) y) (countUp a (b - a)) none in
-        some-later (throughAt masks starts ends n u v) k n l nowhere ∙ inv
-
-    module _ (l : k < n) (few : n ≤ 16) (h : 0 < u → bit u v ≡ true) (some : 0 < u) (from to : List ℕ) (f : Without k starts from) (g : Without k ends to)
-        (a b : ℕ) (ea : a ≡ getD starts k 0) (eb : b ≡ getD ends k 0) (r : Bool) (er : r ≡ triedIn masks a b from to (n - 1) u v) where
-      is-tried : throughAt masks starts ends n u v k ≡ r
-      is-tried = sym (er ∙ tried-is masks starts ends n k l few from to f g u v a b (h some) ea eb)
-
-      pub branch-here : r ≡ true → true ≡ coverable (groups masks starts ends n) u
-      branch-here y = some-here (throughAt masks starts ends n u v) k n l (is-tried ∙ y) ∙ inv
-
-      pub branch-later : r ≡ false → exists (throughAt masks starts ends n u v) (countUp (k + 1) (n - (k + 1))) ≡ coverable (groups masks starts ends n) u
-      branch-later y = some-later (throughAt masks starts ends n u v) k n l (is-tried ∙ y) ∙ inv
-
--- `tried`
-module _ (masks : List ℕ) (from to : ℕ) (starts ends : List ℕ) (m u v : ℕ) where
-  abbrev T : Bool
-  T = triedIn masks from to starts ends m u v
-
+module _ (masks starts ends : List ℕ) (n u v k : ℕ) (a b : ℕ) (from to : List ℕ) (m i : ℕ)
+    (inv : exists (triesAt masks a b from to m u v) (countUp i (b - i)) ≡ throughAt masks starts ends n u v k) where
   abbrev at : ℕ → Bool
-  at = triesAt masks from to starts ends m u v
+  at = triesAt masks a b from to m u v
 
-  pub tried-start : exists at (countUp from (to - from)) ≡ T
-  unfolding triedIn
-  tried-start = refl
+  pub tried-end : b ≤ i → false ≡ throughAt masks starts ends n u v k
+  tried-end l = some-none at i b l ∙ inv
 
-  module _ (i : ℕ) (inv : exists at (countUp i (to - i)) ≡ T) where
-    pub tried-end : to ≤ i → false ≡ T
-    tried-end l = some-none at i to l ∙ inv
+  module _ (l : i < b) (w : Bool) (ew : w ≡ worth masks a b u v i) where
+    pub tried-skip : w ≡ false → exists at (countUp (i + 1) (b - (i + 1))) ≡ throughAt masks starts ends n u v k
+    tried-skip h = some-later at i b l (rw (← ew, h)) ∙ inv
 
-    module _ (l : i < to) (w : Bool) (ew : w ≡ worth masks from to u v i) where
-      pub tried-skip : w ≡ false → exists at (countUp (i + 1) (to - (i + 1))) ≡ T
-      tried-skip h = some-later at i to l (rw (← ew, h)) ∙ inv
+    module _ (h : w ≡ true) (x : ℕ) (ex : x ≡ leftBy masks u i) (c : Bool) (ec : c ≡ coverable (groups masks from to m) x) where
+      is-covered : at i ≡ c
+      is-covered = rw (← ew, h, ← ex, ec)
 
-      module _ (h : w ≡ true) (x : ℕ) (ex : x ≡ leftBy masks u i) (b : Bool) (eb : b ≡ coverable (groups masks starts ends m) x) where
-        is-covered : at i ≡ b
-        is-covered = rw (← ew, h, ← ex, eb)
+      pub tried-here : c ≡ true → true ≡ throughAt masks starts ends n u v k
+      tried-here y = some-here at i b l (is-covered ∙ y) ∙ inv
 
-        pub tried-here : b ≡ true → true ≡ T
-        tried-here y = some-here at i to l (is-covered ∙ y) ∙ inv
-
-        pub tried-later : b ≡ false → exists at (countUp (i + 1) (to - (i + 1))) ≡ T
-        tried-later y = some-later at i to l (is-covered ∙ y) ∙ inv
-
-pub ruleset seek-laws = (seek-empty, seek-covered, seek-short, seek-sifted)
-
-pub ruleset branch-laws = (branch-start, branch-end, branch-unnamed, branch-here, branch-later)
+      pub tried-later : c ≡ false → exists at (countUp (i + 1) (b - (i + 1))) ≡ throughAt masks starts ends n u v k
+      tried-later y = some-later at i b l (is-covered ∙ y) ∙ inv
 
 pub ruleset tried-laws = (tried-start, tried-end, tried-skip, tried-here, tried-later)
 
+-- `branch`
+named-is : (masks : List ℕ) (a b v : ℕ) → namedIn masks a b v ≡ exists (λ r. not (bit r v)) (group masks a b)
+unfolding namedIn group
+named-is masks a b v = sym (exists-map (λ r. not (bit r v)) (λ i. getD masks i 0) (countUp a (b - a)))
+
+never-both : (v : ℕ) (g : List ℕ) → exists (λ r. not (bit r v)) (keep (spares v) g) ≡ false
+unfolding spares exists
+never-both v g = exists-keep (λ r. not (bit r v)) (spares v) g ∙ go g
+  where
+    neither : (b : Bool) → (b && not b) ≡ false
+    neither true = refl
+    neither false = refl
+
+    go : (g : List ℕ) → exists (λ r. bit r v && not (bit r v)) g ≡ false
+    go [] = refl
+    go (r ∷ g) = rw (neither (bit r v), go g)
+
+pub record Branching (before starts first gains : List ℕ) (n u total v : ℕ) (kept ends : List ℕ) (k : ℕ) : Type 0 where
+  pub size : length kept ≡ length before
+  pub ends-size : length ends ≡ 16
+  pub laid : Laid starts ends n (length kept)
+  pub bounds : BoundsOf kept starts ends n u gains total
+  pub unnamed : (j : ℕ) → j < k → namedIn kept (getD starts j 0) (getD ends j 0) v ≡ false
+  pub same : coverable (groups kept starts ends n) u ≡ coverable (groups before starts first n) u
+
+module _ (before starts first gains : List ℕ) (n u total v : ℕ) where
+  abbrev answer : Bool
+  answer = coverable (groups before starts first n) u
+
+  pub branching-first : length first ≡ 16 → Laid starts first n (length before) → BoundsOf before starts first n u gains total
+      → (k : ℕ) → NextNamed before starts first 0 v k → Branching before starts first gains n u total v before first k
+  branching-first len s b k f = record {
+    size = refl;
+    ends-size = len;
+    laid = s;
+    bounds = b;
+    unnamed = λ j l. f .each j (omega arith) l;
+    same = refl;
+  }
+
+  module _ (kept ends : List ℕ) (k : ℕ) (s : Branching before starts first gains n u total v kept ends k) where
+    pub branching-end : n ≤ k → bit u v ≡ true → false ≡ answer
+    unfolding groups
+    branching-end l b = sym (sym (s .same) ∙ unnamed-uncovered (λ j. group kept (getD starts j 0) (getD ends j 0)) v n 0 u b
+        (λ j x y. sym (named-is kept (getD starts j 0) (getD ends j 0) v) ∙ s .unnamed j (omega arith)))
+
+    pub branching-places : k < n → (a b : ℕ) → a ≡ getD starts k 0 → b ≡ getD ends k 0 → length before ≤ 512 → (a ≤ b) × (b ≤ length kept) × (b ≤ 512)
+    branching-places l a b ea eb low =
+        let inside = s .laid .inside k l in
+        (omega (arith, s .laid .some k l), omega arith, omega (arith, s .size))
+
+    module _ (l : k < n) (t : Bool) (et : t ≡ throughAt kept starts ends n u v k) where
+      pub branching-here : t ≡ true → true ≡ answer
+      branching-here h = sym (sym (s .same) ∙ through-covers kept starts ends n u v k l (sym et ∙ h))
+
+      module _ (h : t ≡ false) (few : n ≤ 16) (a b : ℕ) (ea : a ≡ getD starts k 0) (eb : b ≡ getD ends k 0) (after : List ℕ) (end : ℕ)
+          (f : SiftedTo (spares v) kept a b kept after a end) where
+        abbrev ends⁺ : List ℕ
+        ends⁺ = set ends k end
+
+        end-here : getD ends⁺ k 0 ≡ end
+        end-here = getD-set-same ends k end 0 (omega (arith, s .ends-size))
+
+        end-other : (j : ℕ) → (j ≡ k → ⊥) → getD ends⁺ j 0 ≡ getD ends j 0
+        end-other j w = getD-set-other ends k j end 0 w
+
+        group-before : (j : ℕ) → j < k → group after (getD starts j 0) (getD ends⁺ j 0) ≡ group kept (getD starts j 0) (getD ends j 0)
+        group-before j m =
+            ap (group after (getD starts j 0)) (end-other j (λ w. omega arith))
+            ∙ group-same after kept (getD starts j 0) (getD ends j 0) (λ i x y. f .same i (omega (arith, laid-before starts ends n (length kept) (s .laid) j k m l)))
+
+        group-behind : (j : ℕ) → k < j → j < n → group after (getD starts j 0) (getD ends⁺ j 0) ≡ group kept (getD starts j 0) (getD ends j 0)
+        group-behind j m o =
+            ap (group after (getD starts j 0)) (end-other j (λ w. omega arith))
+            ∙ group-same after kept (getD starts j 0) (getD ends j 0)
+            (λ i x y. f .rest i (omega (arith, laid-before starts ends n (length kept) (s .laid) k j m o)) (omega arith))
+
+        group-here : group after (getD starts k 0) (getD ends⁺ k 0) ≡ keep (spares v) (group kept (getD starts k 0) (getD ends k 0))
+        group-here = ap₂ (group after) (sym ea) end-here ∙ f .edges ∙ ap₂ (λ x y. keep (spares v) (group kept x y)) ea eb
+
+        others-same : othersAt after starts ends⁺ n k ≡ othersAt kept starts ends n k
+        unfolding othersAt groups groupsFrom
+        others-same = ap₂ (λ x y. x ++ y)
+            (map-count _ _ k 0 (λ j x y. group-before j (omega arith)))
+            (map-count _ _ (n - suc k) (suc k) (λ j x y. group-behind j (omega arith) (omega arith)))
+
+        dropped : coverable (groups after starts ends⁺ n) u ≡ coverable (groups kept starts ends n) u
+        unfolding throughAt spares
+        dropped =
+            group-out after starts ends⁺ n k u l
+            ∙ ap₂ (λ R g. exists (λ r. coverable R (bitAnd u r)) g) others-same group-here
+            ∙ exists-dropped (λ r. coverable (othersAt kept starts ends n k) (bitAnd u r)) (spares v) (group kept (getD starts k 0) (getD ends k 0)) (sym et ∙ h)
+            ∙ sym (group-out kept starts ends n k u l)
+
+        pub branching-none : end ≤ a → false ≡ answer
+        unfolding exists
+        branching-none m =
+            sym (sym (s .same) ∙ sym dropped ∙ group-out after starts ends⁺ n k u l
+            ∙ ap (λ g. exists (λ r. coverable (othersAt after starts ends⁺ n k) (bitAnd u r)) g)
+            (ap₂ (group after) (sym ea) end-here ∙ group-none after a end m))
+
+        bound-now : (j : ℕ) → j < n → (j < k) ⊎ ((j ≡ k) ⊎ (k < j)) → CoversAtMost u (group after (getD starts j 0) (getD ends⁺ j 0)) (getD gains j 0)
+        bound-now j o (inl m) = rw (group-before j m) (s .bounds .each j o)
+        bound-now j o (inr (inl e)) = rw (e, group-here) (above-kept u (spares v) (group kept (getD starts k 0) (getD ends k 0)) (getD gains k 0) (s .bounds .each k l))
+        bound-now j o (inr (inr m)) = rw (group-behind j m o) (s .bounds .each j o)
+
+        split : (j : ℕ) → (j < k) ⊎ ((j ≡ k) ⊎ (k < j))
+        split j = go (ltb j k) (ltb k j) refl refl
+          where
+            go : (p q : Bool) → ltb j k ≡ p → ltb k j ≡ q → (j < k) ⊎ ((j ≡ k) ⊎ (k < j))
+            go true q x y = inl (ltb-true j k x)
+            go false true x y = inr (inr (ltb-true k j y))
+            go false false x y = let p = ltb-false j k x in let q = ltb-false k j y in inr (inl (omega arith))
+
+        spared-now : (j : ℕ) → (j < k) ⊎ ((j ≡ k) ⊎ (k < j)) → (k' : ℕ) → NextNamed after starts ends⁺ (k + 1) v k' → j < k'
+            → namedIn after (getD starts j 0) (getD ends⁺ j 0) v ≡ false
+        spared-now j (inl m) k' f o =
+            named-is after (getD starts j 0) (getD ends⁺ j 0) v ∙ ap (exists (λ r. not (bit r v))) (group-before j m)
+            ∙ sym (named-is kept (getD starts j 0) (getD ends j 0) v) ∙ s .unnamed j m
+        spared-now j (inr (inl e)) k' f o =
+            ap (λ i. namedIn after (getD starts i 0) (getD ends⁺ i 0) v) e ∙ named-is after (getD starts k 0) (getD ends⁺ k 0) v
+            ∙ ap (exists (λ r. not (bit r v))) group-here ∙ never-both v (group kept (getD starts k 0) (getD ends k 0))
+        spared-now j (inr (inr m)) k' f o = f .each j (omega arith) o
+
+        pub branching-more : a < end → (k' : ℕ) → NextNamed after starts ends⁺ (k + 1) v k' → Branching before starts first gains n u total v after ends⁺ k'
+        branching-more m k' g = record {
+          size = f .size ∙ s .size;
+          ends-size = length-set ends k end ∙ s .ends-size;
+          laid = rw (f .size) (laid-cut starts ends n k end (length kept) (s .laid) l (omega (arith, s .ends-size)) (omega arith) (omega (arith, f .slow)));
+          bounds = record { each = λ j o. bound-now j o (split j); all = s .bounds .all };
+          unnamed = λ j o. spared-now j (split j) k' g o;
+          same = dropped ∙ s .same;
+        }
+
+pub ruleset branching-laws = (branching-first, branching-here)
+
+-- `plain::cover`
+abbrev pub choosesAt : (masks starts ends : List ℕ) (k n u i : ℕ) → Bool
+choosesAt masks starts ends k n u i = coverable (groupsFrom masks starts ends (k + 1) n) (leftBy masks u i)
+
+module _ (masks starts ends : List ℕ) (k n u : ℕ) where
+  abbrev all : Bool
+  all = coverable (groupsFrom masks starts ends k n) u
+
+  pub plain-none : n ≤ k → eqb u 0 ≡ all
+  unfolding coverable
+  plain-none h = sym (ap (λ l. coverable l u) (from-none masks starts ends k n h))
+
+  pub plain-start : k < n → (a b : ℕ) → a ≡ getD starts k 0 → b ≡ getD ends k 0 → exists (choosesAt masks starts ends k n u) (countUp a (b - a)) ≡ all
+  unfolding coverable group leftBy
+  plain-start l a b ea eb =
+      ap (λ j. exists (λ i. coverable (groupsFrom masks starts ends j n) (bitAnd u (getD masks i 0))) (countUp a (b - a))) (add-one k)
+      ∙ sym (exists-map (λ r. coverable (groupsFrom masks starts ends (suc k) n) (bitAnd u r)) (λ i. getD masks i 0) (countUp a (b - a)))
+      ∙ ap₂ (λ x y. exists (λ r. coverable (groupsFrom masks starts ends (suc k) n) (bitAnd u r)) (group masks x y)) ea eb
+      ∙ sym (ap (λ m. coverable m u) (from-cons masks starts ends k n l))
+
+  module _ (i to : ℕ) (inv : exists (choosesAt masks starts ends k n u) (countUp i (to - i)) ≡ all) where
+    pub plain-end : to ≤ i → false ≡ all
+    plain-end l = some-none (choosesAt masks starts ends k n u) i to l ∙ inv
+
+    module _ (l : i < to) (x : ℕ) (ex : x ≡ leftBy masks u i) (r : Bool) (er : r ≡ coverable (groupsFrom masks starts ends (k + 1) n) x) where
+      pub plain-here : r ≡ true → true ≡ all
+      plain-here h = some-here (choosesAt masks starts ends k n u) i to l (rw (← ex, ← er, h)) ∙ inv
+
+      pub plain-later : r ≡ false → exists (choosesAt masks starts ends k n u) (countUp (i + 1) (to - (i + 1))) ≡ all
+      plain-later h = some-later (choosesAt masks starts ends k n u) i to l (rw (← ex, ← er, h)) ∙ inv
+
+pub ruleset plain-laws = (plain-none, plain-start, plain-end, plain-here, plain-later)
+
 -- `covered`
-pub covered-by : (masks first starts ends : List ℕ) (takers n changed : ℕ) (r : Bool)
-    → ((l : List ℕ) → groups l starts ends n ≡ groupsOf l first takers) → r ≡ coverable (groups masks starts ends n) changed
-    → r ≡ coverable (groupsOf masks first takers) changed
-covered-by masks first starts ends takers n changed r same e = e ∙ ap (λ l. coverable l changed) (same masks)
+module _ (masks first starts ends : List ℕ) (takers n changed : ℕ) (same : (l : List ℕ) → groups l starts ends n ≡ groupsOf l first takers) where
+  pub covered-by : (r : Bool) → r ≡ coverable (groups masks starts ends n) changed → r ≡ coverable (groupsOf masks first takers) changed
+  covered-by r e = e ∙ ap (λ l. coverable l changed) (same masks)
+
+  pub covered-plain : (r : Bool) → r ≡ coverable (groupsFrom masks starts ends 0 n) changed → r ≡ coverable (groupsOf masks first takers) changed
+  covered-plain r e = covered-by r (e ∙ ap (λ l. coverable l changed) (from-first masks starts ends n))
+
+  pub covered-empty : (b : Bool) → b ≡ allFilled starts ends n → not b ≡ true → false ≡ coverable (groupsOf masks first takers) changed
+  covered-empty b e h = covered-by false (sym (one-empty (groups masks starts ends n) changed (sym (all-filled masks starts ends n) ∙ sym e ∙ not-true b h)))
+
+pub ruleset covered-laws = (covered-by, covered-plain, covered-empty)

@@ -52,6 +52,10 @@ skippedAt masks from to u i = exists (dominated masks u i) (countUp from (to - f
 unfoldable pub worth : (masks : List ℕ) (from to u v i : ℕ) → Bool
 worth masks from to u v i = not (bit (getD masks i 0) v) && not (skippedAt masks from to u i)
 
+-- edge r does not mention v
+unfoldable pub spares : (v r : ℕ) → Bool
+spares v r = bit r v
+
 -- an edge between two places mentions v
 unfoldable pub namedIn : (masks : List ℕ) (from to v : ℕ) → Bool
 namedIn masks from to v = exists (λ i. not (bit (getD masks i 0) v)) (countUp from (to - from))
@@ -68,11 +72,3 @@ past k i = elim (ltb i k) [ true ↦ i | false ↦ i + 1 ]
 -- that group is of use only if the others can cover what it leaves.
 unfoldable pub useful : (u total gain r : ℕ) → Bool
 useful u total gain r = leb (ones (bitAnd u r) + gain) total
-
--- the groups with their useful edges alone
-unfoldable pub siftedGroup : (masks : List ℕ) (from to u total gain : ℕ) → List ℕ
-siftedGroup masks from to u total gain = keep (useful u total gain) (group masks from to)
-
-unfoldable pub siftedGroups : (masks froms tos gains : List ℕ) (n u total : ℕ) → List (List ℕ)
-siftedGroups masks froms tos gains n u total =
-    map (λ k. siftedGroup masks (getD froms k 0) (getD tos k 0) u total (getD gains k 0)) (countUp 0 n)

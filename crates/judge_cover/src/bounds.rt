@@ -2,28 +2,30 @@
 use crate::edges::{self};
 use crate::places::{self};
 ghost use mathlib.Core.Path.{_≡_};
-ghost use Prim.Native.Nat.{ℕ, _+_, _≤_, _<_};
+ghost use Prim.Native.Nat.{ℕ, _+_, _≤_, _<_, min};
 ghost use lib.Count.{ones};
 ghost use lib.ListN.{length};
+ghost use Rattle.judge_cover.specs.Cover.{group};
 ghost use Rattle.judge_cover.specs.Steps.{CoversAtMost, BoundsOf};
 
 // For each group, how many variables of u an edge of it covers at most; and the sum of these.
 pub struct Bounds {
-    pub gains: [u32; 16],
-    pub total: u32,
+    pub gains: [usize; 16],
+    pub total: usize,
 }
 
-fn smaller(a: u32, b: u32) -> u32
-    ensures { λ r. ⌜ (r ≤ a) × (r ≤ b) ⌝ }
+// The smaller of two numbers.
+pub(crate) fn smaller(a: usize, b: usize) -> usize
+    ensures { λ r. ⌜ r ≡ min a b ⌝ }
 {
     if a < b { a } else { b }
 }
 
 // How many variables of u an edge between two places covers at most. No read needs a test, so that the compiler can
 // count several edges at once.
-fn gain_within(masks: &[u64], from: usize, to: usize, u: u64) -> u32
+fn gain_within(masks: &[u64], from: usize, to: usize, u: u64) -> usize
     requires { ⌜ to ≤ length (now masks) ⌝ }
-    ensures { λ r. ⌜ CoversAtMost (now (masks .entry)) from to u r ⌝ }
+    ensures { λ r. ⌜ CoversAtMost u (group (now (masks .entry)) from to) r ⌝ }
     ensures { λ r. ⌜ r ≤ 64 ⌝ }
 {
     let all = edges::size(u);
@@ -38,8 +40,8 @@ fn gain_within(masks: &[u64], from: usize, to: usize, u: u64) -> u32
 }
 
 // Past the end of the list stands 0, an edge that covers all.
-fn gain(masks: &[u64], from: usize, to: usize, u: u64) -> u32
-    ensures { λ r. ⌜ CoversAtMost (now (masks .entry)) from to u r ⌝ }
+fn gain(masks: &[u64], from: usize, to: usize, u: u64) -> usize
+    ensures { λ r. ⌜ CoversAtMost u (group (now (masks .entry)) from to) r ⌝ }
     ensures { λ r. ⌜ r ≤ 64 ⌝ }
 {
     if to <= masks.len() {
@@ -52,8 +54,9 @@ pub(crate) fn find(masks: &[u64], starts: &[usize], ends: &[usize], n: usize, u:
     requires { ⌜ n ≤ 16 ⌝ }
     ensures { λ r. ⌜ BoundsOf (now (masks .entry)) (now (starts .entry)) (now (ends .entry)) n u
         (r .gains) (r .total) ⌝ }
+    ensures { λ r. ⌜ length (r .gains) ≡ 16 ⌝ }
 {
-    let mut gains = [0u32; 16];
+    let mut gains = [0usize; 16];
     let mut total = 0;
     let mut k = 0;
     while k < n {

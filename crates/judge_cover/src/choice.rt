@@ -1,7 +1,6 @@
 // Which uncovered variable the search branches on: one that as few edges as can be mention. Any uncovered one would do,
 // so all that is promised of the choice is that.
 use crate::edges::{self};
-use crate::places::{self};
 ghost use mathlib.Core.Path.{_≡_};
 ghost use mathlib.Core.Bool.{true};
 ghost use Prim.Native.Nat.{_<_};
@@ -68,14 +67,6 @@ fn with_few(t: Tally, named: u64) -> Tally {
     }
 }
 
-fn last(ends: &[usize], n: usize) -> usize {
-    if n == 0 {
-        0
-    } else {
-        places::place(ends, n - 1)
-    }
-}
-
 fn count_few(masks: &[u64], to: usize, u: u64) -> Tally {
     let mut t = nothing();
     let mut i = 0;
@@ -133,8 +124,8 @@ fn first(set: u64) -> u32
     u64::trailing_zeros(set)
 }
 
-pub(crate) fn choose(masks: &[u64], ends: &[usize], n: usize, u: u64) -> u32
+pub(crate) fn choose(masks: &[u64], to: usize, u: u64) -> u32
     ensures { λ r. ⌜ (0 < u → bit u r ≡ true) ⌝ }
 {
-    first(rarest(u, count(masks, last(ends, n), u)))
+    first(rarest(u, count(masks, to, u)))
 }

@@ -1,14 +1,17 @@
 // Edges as sets of variables: bit K is set where the update does not mention variable K.
 use crate::places::{self};
 ghost use mathlib.Core.Path.{_≡_};
+ghost use Prim.Native.Nat.{_≤_};
 ghost use lib.Count.{ones};
-ghost use Rattle.judge_cover.specs.Cover.{within, leftBy, dominated, skippedAt, worth, namedIn, useful};
+ghost use lib.ListN.{length};
+ghost use Rattle.judge_cover.specs.Cover.{within, leftBy, dominated, skippedAt, worth, namedIn, spares};
+ghost use Rattle.judge_cover.specs.Steps.{NextNamed, SiftedTo};
 
 // How many variables there are in a set.
-pub(crate) fn size(u: u64) -> u32
+pub(crate) fn size(u: u64) -> usize
     ensures { λ r. ⌜ r ≡ ones u ⌝ }
 {
-    u64::count_ones(u)
+    u64::count_ones(u) as usize
 }
 
 // Is every variable of w in u?
@@ -71,12 +74,41 @@ pub(crate) fn names(masks: &[u64], from: usize, to: usize, v: u32) -> bool
     false
 }
 
-// Can the other groups cover what the edge r leaves of u?
-pub(crate) fn useful(u: u64, total: u32, gain: u32, r: u64) -> bool
-    ensures { λ s. ⌜ s ≡ useful u total gain r ⌝ }
+// The first group from group k on that has an edge that mentions v; n or more if there is none.
+pub(crate) fn next_named(
+    masks: &[u64],
+    starts: &[usize],
+    ends: &[usize],
+    k: usize,
+    n: usize,
+    v: u32,
+) -> usize
+    requires { ⌜ n ≤ 16 ⌝ }
+    ensures { λ r. ⌜ NextNamed (now (masks .entry)) (now (starts .entry)) (now (ends .entry)) k v r ⌝ }
 {
-    if total < gain {
-        return false;
+    let mut j = k;
+    while j < n {
+        if names(masks, places::place(starts, j), places::place(ends, j), v) {
+            return j;
+        }
+        j += 1;
     }
-    size(u & r) <= total - gain
+    j
+}
+
+// Drops the edges between two places that mention v: the others move to the front. The place after them.
+pub(crate) fn drop_named(masks: &mut [u64], from: usize, to: usize, v: u32) -> usize
+    requires { ⌜ (from ≤ to) × (to ≤ length (now masks)) × (to ≤ 512) ⌝ }
+    ensures { λ r. ⌜ SiftedTo (spares v) (now (masks .entry)) from to (now (masks .entry)) (now (masks .exit))
+        from r ⌝ }
+{
+    let mut next = from;
+    let mut i = from;
+    while i < to {
+        let r = masks[i];
+        masks[next] = r;
+        next = places::advanced(next, table_tree::in_word(r, v));
+        i += 1;
+    }
+    next
 }

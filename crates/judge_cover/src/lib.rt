@@ -4,9 +4,10 @@
 mod bounds;
 mod choice;
 mod edges;
+mod narrow;
 mod places;
+mod plain;
 mod seek;
-mod sift;
 
 ghost use mathlib.Core.Path.{_≡_};
 ghost use Rattle.judge_cover.specs.Cover.{coverable, groupsOf};
@@ -19,5 +20,14 @@ pub fn covered(masks: &[u64], first: &[usize], takers: u64, changed: u64) -> boo
     let mut starts = [0usize; 16];
     let mut ends = [0usize; 16];
     let n = places::groups(first, takers, &mut starts, &mut ends);
-    seek::seek(masks, &starts, &ends, n, changed)
+    if !places::all_filled(&starts, &ends, n) {
+        return false;
+    }
+    if !places::laid(masks.len(), &starts, &ends, n) {
+        return plain::cover(masks, &starts, &ends, 0, n, changed);
+    }
+    let b = bounds::find(masks, &starts, &ends, n, changed);
+    let gains = b.gains;
+    let total = b.total;
+    seek::seek(masks, &starts, &ends, &gains, n, changed, total)
 }

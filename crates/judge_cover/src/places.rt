@@ -1,10 +1,11 @@
 // Where the groups stand: group k has the places from `starts[k]` up to `ends[k]`. Past the end of a slice stands 0.
 ghost use mathlib.Core.Path.{_≡_};
+ghost use mathlib.Core.Bool.{true};
 ghost use mathlib.Core.List.{List};
-ghost use Prim.Native.Nat.{ℕ, _≤_};
+ghost use Prim.Native.Nat.{ℕ, _-_, _≤_};
 ghost use lib.ListN.{length, getD};
 ghost use Rattle.judge_cover.specs.Cover.{past, groups, groupsOf, allFilled};
-ghost use Rattle.judge_cover.specs.Steps.{advanced, Without};
+ghost use Rattle.judge_cover.specs.Steps.{advanced, Without, InRow, Laid, Spans};
 
 pub(crate) fn mask_at(masks: &[u64], i: usize) -> u64
     ensures { λ r. ⌜ r ≡ getD (now (masks .entry)) i 0 ⌝ }
@@ -59,6 +60,53 @@ pub(crate) fn all_filled(starts: &[usize], ends: &[usize], n: usize) -> bool
         k += 1;
     }
     true
+}
+
+// Does every group end where the next one begins, or before, and within the first 512 places of a list of this length?
+pub(crate) fn laid(length: usize, starts: &[usize], ends: &[usize], n: usize) -> bool
+    requires { ⌜ n ≤ 16 ⌝ }
+    ensures { λ r. ⌜ (r ≡ true → InRow (now (starts .entry)) (now (ends .entry)) n length) ⌝ }
+{
+    let mut least = 0;
+    let mut k = 0;
+    while k < n {
+        if place(starts, k) < least {
+            return false;
+        }
+        let end = place(ends, k);
+        if length < end {
+            return false;
+        }
+        if 512 < end {
+            return false;
+        }
+        least = end;
+        k += 1;
+    }
+    true
+}
+
+// The end of the last group.
+pub(crate) fn last(ends: &[usize], n: usize) -> usize
+    ensures { λ r. ⌜ r ≡ getD (now (ends .entry)) (n - 1) 0 ⌝ }
+{
+    if n == 0 {
+        return place(ends, 0);
+    }
+    place(ends, n - 1)
+}
+
+// Would all edges of the groups have room in a list of length 128?
+pub(crate) fn short(starts: &[usize], ends: &[usize], n: usize) -> bool
+    requires { ⌜ n ≤ 16 ⌝ }
+    requires { ⌜ Laid (now starts) (now ends) n 512 ⌝ }
+    ensures { λ r. ⌜ (r ≡ true → Spans (now (starts .entry)) (now (ends .entry)) n 128) ⌝ }
+{
+    let end = last(ends, n);
+    if end <= 128 {
+        return true;
+    }
+    end - 128 <= place(starts, 0)
 }
 
 // The places of the takers' groups, one after the other, and how many there are.

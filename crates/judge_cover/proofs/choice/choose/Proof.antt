@@ -6,29 +6,23 @@ use Rattle.judge_cover.proofs.choice.choose.Reads as reads
 use Rattle.judge_cover.proofs.choice.choose.Lts as lts
 use Rattle.judge_cover.proofs.choice.count.Reads as count-reads
 use Rattle.judge_cover.proofs.choice.first.Reads as first-reads
-use Rattle.judge_cover.proofs.choice.last.Reads as last-reads
 use Rattle.judge_cover.proofs.choice.rarest.Reads as rarest-reads
 
--- src/choice.rt:86:34
-last-requires : tie.Need-last-requires
-last-requires c κs = search needs
-
--- src/choice.rt:86:21
+-- src/choice.rt:130:21
 count-requires : tie.Need-count-requires
 count-requires c κs = search needs
 
--- src/choice.rt:86:11
+-- src/choice.rt:130:11
 rarest-requires : tie.Need-rarest-requires
 rarest-requires c κs = search needs
 
--- src/choice.rt:86:5
+-- src/choice.rt:130:5
 first-requires : tie.Need-first-requires
 first-requires c κs = search needs
 
--- src/choice.rt:83:1
+-- src/choice.rt:127:1
 returns : tie.Need-returns
 returns c = search (needs, chosen)
 
 pub choose-spec : {M : Type 1} → statement M
-choose-spec =
-    tie.close (tie.spec last-requires count-requires rarest-requires first-requires returns)
+choose-spec = tie.close (tie.spec count-requires rarest-requires first-requires returns)
