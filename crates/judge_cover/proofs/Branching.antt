@@ -1,8 +1,8 @@
 -- The search may branch on any uncovered variable, and try of each group only the edges that leave the least.
-use mathlib.Core.Path.{_≡_, refl, sym, ap, _∙_, subst}
-use mathlib.Core.Bool.{Bool, true, false, not, _&&_, _||_, true≢false}
-use mathlib.Core.List.{List, [], _∷_, _++_, map, map-append, List·Memᴰ}
-use mathlib.Core.Logic.{_⊎_, inl, inr}
+use mathlib.Core.Path.{_≡_, refl, sym, ap, _∙_}
+use mathlib.Core.Bool.{Bool, true, false, not, _&&_, true≢false}
+use mathlib.Core.List.{List, _∷_, map, map-append, List·Memᴰ}
+use mathlib.Core.Logic.{inl, inr}
 use Prim.Native.Nat.{ℕ, zero, suc, _+_, _-_, _≤_, _<_}
 use native.Mathlib.Omega.{arith}
 use lib.ListN.{getD}
@@ -15,8 +15,8 @@ use Rattle.model.proofs.Tests.{and-intro, and-left, and-right, or-cases, not-tr
 use Rattle.judge_cover.specs.Cover.{coverable, group, groups, within, leftBy, dominated, skippedAt, worth}
 use Rattle.judge_cover.specs.Steps.{groupsFrom, othersAt, throughAt}
 use Rattle.judge_cover.proofs.BitLaws.{bit-and, no-bits}
-use Rattle.judge_cover.proofs.Counting.{count-at, Found, find, found}
-use Rattle.judge_cover.proofs.CoverLaws.{exists-none, front, within-is, is-within, coverable-falls}
+use Rattle.judge_cover.proofs.Counting.{count-at, find, found}
+use Rattle.judge_cover.proofs.CoverLaws.{exists-none, front, within-is, is-within}
 
 -- Any group may be the first.
 pub group-out : (masks starts ends : List ℕ) (n k u : ℕ) → k < n

@@ -1,20 +1,19 @@
 -- Each way out of the code of src/places.rt, src/edges.rt, src/bounds.rt and src/choice.rt.
 use mathlib.Core.Path.{_≡_, refl, sym, ap, ap₂, _∙_, subst}
 use mathlib.Core.Bool.{Bool, true, false, not, _&&_, _||_, true≢false}
-use mathlib.Core.List.{List, [], _∷_, _++_, map, map-append, List·Memᴰ, List·Memᴰ·cases-cons, List·Memᴰ·not-nil}
+use mathlib.Core.List.{List, map, List·Memᴰ, List·Memᴰ·cases-cons, List·Memᴰ·not-nil}
 use mathlib.Core.Logic.{_⊎_, inl, inr}
 use Prim.Native.Nat.{ℕ, zero, suc, _+_, _-_, _/_, _%_, _^_, _≤_, _<_, min}
 use native.Mathlib.Omega.{arith}
 use native.Mathlib.Numerals.{add-one}
 use native.Mathlib.Nat.{pow-succ'}
-use lib.ListN.{length, getD, set, replicate, length-set, length-replicate}
+use lib.ListN.{length, getD, set, length-set}
 use lib.Seq.{getD-set-same, getD-set-other}
 use lib.Bits.{bitAnd, and-self}
 use lib.Count.{ones, ones-le, trailingZeros, under}
 use lib.Dec.{eqb, leb, ltb}
-use borrow.Author.Tests.{eqb-true, eqb-false, eq-eqb, lt-ltb, le-ltb, ltb-true, ltb-false, le-leb, lt-leb, leb-true}
-use Rattle.model.specs.Basic.{every, exists, keep, countUp, sum}
-use Rattle.model.specs.Bounds.{maxAutomata}
+use borrow.Author.Tests.{eqb-true, eq-eqb, lt-ltb, le-ltb, ltb-true, ltb-false, le-leb, leb-true}
+use Rattle.model.specs.Basic.{every, exists, countUp}
 use Rattle.model.specs.Table.{bit}
 use Rattle.model.proofs.Tests.{both-ways, eq-self, exists-elim, exists-map}
 use Rattle.judge_cover.specs.Cover.{within, leftBy, dominated, skippedAt, worth, namedIn, useful, past, allFilled, group}
@@ -288,12 +287,6 @@ gain-small u all least h e = omega (arith, ones-le 64 u h)
 
 pub size-fits : (u : ℕ) → u < 2 ^ 64 → ones u < 2 ^ 64
 size-fits u h = omega (arith, ones-le 64 u h)
-
--- `last`
-pub last-none : (ends : List ℕ) (n x : ℕ) → n ≡ 0 → x ≡ getD ends 0 0 → x ≡ getD ends (n - 1) 0
-last-none ends n x z e =
-    let y : n - 1 ≡ 0 = omega arith in
-    rw y e
 
 -- `fewer`, `rarest`
 pub part-self : (u : ℕ) → PartOf u u

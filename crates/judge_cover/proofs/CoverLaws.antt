@@ -1,22 +1,19 @@
 -- Why the search for a cover is exact: it may take the groups in any order, branch on any uncovered variable, pass over edges that
 -- cannot be part of a cover, and of two edges that leave the same or more keep one.
-use mathlib.Core.Path.{_≡_, refl, sym, ap, _∙_, subst}
+use mathlib.Core.Path.{_≡_, refl, sym, ap, _∙_}
 use mathlib.Core.Bool.{Bool, true, false, not, _&&_, _||_, true≢false}
-use mathlib.Core.List.{List, [], _∷_, _++_, map, append-assoc, List·Memᴰ, List·Memᴰ·head, List·Memᴰ·tail, List·Memᴰ·not-nil}
-use mathlib.Core.Logic.{inl, inr}
-use Prim.Native.Nat.{ℕ, zero, suc, _+_, _-_, _≤_, _<_}
+use mathlib.Core.List.{List, [], _∷_, _++_}
+use Prim.Native.Nat.{ℕ, _+_, _≤_}
 use native.Mathlib.Omega.{arith}
 use lib.Bits.{bitAnd, and-zero-l, and-le-r, and-self}
 use lib.Count.{ones, onesIn}
-use lib.Dec.{eqb, leb}
 use borrow.Author.Tests.{eqb-true, eq-eqb, le-leb}
 use Rattle.model.specs.Basic.{every, exists, keep, sum}
-use Rattle.model.specs.Table.{bit}
-use Rattle.model.proofs.Tests.{and-intro, and-left, and-right, or-same, or-none-left, or-none-right, exists-intro, exists-elim, exists-ext, both-ways}
+use Rattle.model.proofs.Tests.{or-same, or-none-left, or-none-right, exists-intro, exists-elim, exists-ext}
 use Rattle.model.proofs.Lists.{keep-out, sum-append}
 use Rattle.judge_cover.specs.Cover.{coverable, within, useful}
 use Rattle.judge_cover.specs.Steps.{CoversAtMost}
-use Rattle.judge_cover.proofs.BitLaws.{bit-and, no-bits, and-assoc, and-swap, parts-cover-less}
+use Rattle.judge_cover.proofs.BitLaws.{and-assoc, and-swap, parts-cover-less}
 
 -- `exists` in another order, beside a constant, and over what is kept
 exists-or : {A : Type 0} (f g : A → Bool) (l : List A) → exists (λ x. f x || g x) l ≡ (exists f l || exists g l)

@@ -1,9 +1,9 @@
 -- Groups by their places, and each way out of `narrow::sift`, `edges::drop_named`, `bounds::find` and `places::groups`.
 use mathlib.Core.Path.{_≡_, refl, sym, ap, ap₂, _∙_}
-use mathlib.Core.Bool.{Bool, true, false, not, _&&_, _||_, true≢false}
+use mathlib.Core.Bool.{Bool, true, false}
 use mathlib.Core.List.{List, [], _∷_, _++_, map, map-append, append-assoc, append-nil}
-use mathlib.Core.Logic.{_⊎_, inl, inr}
-use Prim.Native.Nat.{ℕ, zero, suc, _+_, _-_, _*_, _≤_, _<_, min}
+use mathlib.Core.Logic.{inl, inr}
+use Prim.Native.Nat.{ℕ, suc, _+_, _-_, _*_, _≤_, _<_, min}
 use native.Mathlib.Omega.{arith}
 use native.Mathlib.Numerals.{add-one}
 use lib.ListN.{length, getD, set, length-set}
@@ -12,10 +12,8 @@ use lib.Bits.{bitAnd}
 use lib.Count.{ones}
 use lib.Dec.{leb}
 use Rattle.model.specs.Basic.{keep, countUp, sum}
-use Rattle.model.specs.Bounds.{maxAutomata}
 use Rattle.model.specs.Table.{bit}
 use Rattle.model.proofs.Lists.{keep-append, keep-first, keep-skip, sum-append, count-split}
-use Rattle.model.proofs.Tests.{not-false}
 use Rattle.judge_cover.specs.Cover.{group, groups, groupsOf, useful, spares}
 use Rattle.judge_cover.specs.Steps.{advanced, CoversAtMost, BoundsOf, SiftedTo, Passed}
 use Rattle.judge_cover.proofs.Counting.{map-count, count-last}

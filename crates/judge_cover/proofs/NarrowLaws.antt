@@ -12,7 +12,7 @@ use lib.Count.{ones}
 use Rattle.model.specs.Basic.{exists, keep, countUp, sum}
 use Rattle.model.proofs.Lists.{sum-append}
 use Rattle.judge_cover.specs.Cover.{coverable, group, groups, useful}
-use Rattle.judge_cover.specs.Steps.{Laid, Spans, CoversAtMost, BoundsOf, SiftedTo, Passed, Narrowed, NarrowedTo, groupsFrom}
+use Rattle.judge_cover.specs.Steps.{Laid, Spans, CoversAtMost, BoundsOf, SiftedTo, Passed, NarrowedTo, groupsFrom}
 use Rattle.judge_cover.proofs.BitLaws.{ones-some}
 use Rattle.judge_cover.proofs.Counting.{map-count, count-last}
 use Rattle.judge_cover.proofs.CoverLaws.{Bounded, none, one, bound, bounded-append, above-kept, sift-one, front}

@@ -2,7 +2,7 @@
 -- `places::laid` and `places::short`.
 use mathlib.Core.Path.{_≡_, refl, sym, ap, ap₂, _∙_}
 use mathlib.Core.Bool.{Bool, true, false}
-use mathlib.Core.List.{List, [], _∷_, _++_, map, map-append}
+use mathlib.Core.List.{List, _∷_, _++_, map, map-append}
 use mathlib.Core.Logic.{_⊎_, inl, inr}
 use Prim.Native.Nat.{ℕ, zero, suc, _+_, _-_, _≤_, _<_}
 use native.Mathlib.Omega.{arith}
@@ -10,11 +10,11 @@ use lib.ListN.{length, getD, set}
 use lib.Seq.{getD-set-same, getD-set-other}
 use lib.Dec.{eqb, leb, ltb}
 use borrow.Author.Tests.{eqb-true, eqb-false, lt-ltb, le-ltb, ltb-true, ltb-false, leb-true}
-use Rattle.model.specs.Basic.{every, countUp}
+use Rattle.model.specs.Basic.{countUp}
 use Rattle.model.proofs.Tests.{every-elim}
 use Rattle.model.proofs.Lists.{count-split}
 use Rattle.judge_cover.specs.Cover.{past, allFilled}
-use Rattle.judge_cover.specs.Steps.{Without, InRow, Laid, Spans}
+use Rattle.judge_cover.specs.Steps.{Without, InRow, Laid, Spans, Last}
 use Rattle.judge_cover.proofs.Counting.{map-count, member-of}
 use Rattle.judge_cover.proofs.CodeLaws.{other}
 
@@ -93,12 +93,23 @@ module _ (starts ends : List ℕ) (n size : ℕ) (s : Laid starts ends n size) w
       go (inl e) = omega (arith, ap (λ i. getD ends i 0) e)
       go (inr m) = omega (arith, laid-before k (n - 1) m (omega arith), s .some (n - 1) (omega arith))
 
-  -- `short`
-  pub short-low : (end : ℕ) (r : Bool) → end ≡ getD ends (n - 1) 0 → end ≤ 128 → r ≡ true → Spans starts ends n 128
-  short-low end r e h t = record { near = λ k l. omega (arith, laid-last k l) }
+  pub last-inside : (end : ℕ) → Last ends n end → end ≤ size
+  last-inside end e = go n refl
+    where
+      go : (m : ℕ) → n ≡ m → end ≤ size
+      go zero z = omega (arith, e .none z)
+      go (suc m) z = omega (arith, e .some (omega arith), s .inside (n - 1) (omega arith))
 
-  pub short-near : (end a : ℕ) → end ≡ getD ends (n - 1) 0 → 128 < end → a ≡ getD starts 0 0 → leb (end - 128) a ≡ true → Spans starts ends n 128
-  short-near end a e g ea t = record { near = λ k l. omega (arith, laid-last k l, leb-true (end - 128) a t) }
+  -- the end of a group
+  pub end-inside : (k : ℕ) → k < n → (b : ℕ) → b ≡ getD ends k 0 → b ≤ size
+  end-inside k l b e = omega (arith, s .inside k l)
+
+  -- `short`
+  pub short-low : (end : ℕ) (r : Bool) → Last ends n end → end ≤ 128 → r ≡ true → Spans starts ends n 128
+  short-low end r e h t = record { near = λ k l. omega (arith, laid-last k l, e .some (omega arith)) }
+
+  pub short-near : (end a : ℕ) → Last ends n end → 128 < end → a ≡ getD starts 0 0 → leb (end - 128) a ≡ true → Spans starts ends n 128
+  short-near end a e g ea t = record { near = λ k l. omega (arith, laid-last k l, e .some (omega arith), leb-true (end - 128) a t) }
 
 pub spans-all : (starts ends : List ℕ) (n : ℕ) → Laid starts ends n 512 → Spans starts ends n 512
 spans-all starts ends n s = record { near = λ k l. omega (arith, s .inside k l) }

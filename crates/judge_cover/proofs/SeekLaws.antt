@@ -1,9 +1,9 @@
 -- Each way out of the code of src/seek.rt, src/plain.rt and of `covered`.
 use mathlib.Core.Path.{_≡_, refl, sym, ap, ap₂, _∙_}
-use mathlib.Core.Bool.{Bool, true, false, not, _&&_, true≢false}
+use mathlib.Core.Bool.{Bool, true, false, not, _&&_}
 use mathlib.Core.List.{List, [], _∷_, _++_, map, map-append}
 use mathlib.Core.Logic.{_⊎_, inl, inr}
-use Prim.Native.Nat.{ℕ, zero, suc, _+_, _-_, _≤_, _<_}
+use Prim.Native.Nat.{ℕ, suc, _+_, _-_, _≤_, _<_}
 use native.Mathlib.Omega.{arith}
 use native.Mathlib.Numerals.{add-one}
 use lib.ListN.{length, getD, set, length-set}
@@ -14,12 +14,12 @@ use lib.Dec.{eqb, ltb}
 use borrow.Author.Tests.{lt-ltb, ltb-true, ltb-false}
 use Rattle.model.specs.Basic.{every, exists, keep, countUp, sum}
 use Rattle.model.specs.Table.{bit}
-use Rattle.model.proofs.Tests.{and-no-right, exists-map, every-ext, not-true, not-not}
+use Rattle.model.proofs.Tests.{exists-map, every-ext, not-true}
 use Rattle.model.proofs.Lists.{every-map, sum-append}
-use Rattle.judge_cover.specs.Cover.{coverable, group, groups, groupsOf, leftBy, worth, namedIn, spares, past, allFilled}
-use Rattle.judge_cover.specs.Steps.{Without, Laid, Spans, CoversAtMost, BoundsOf, SiftedTo, Narrowed, NarrowedTo, NextNamed, groupsFrom, othersAt, throughAt, triesAt}
+use Rattle.judge_cover.specs.Cover.{coverable, group, groups, groupsOf, leftBy, worth, namedIn, spares, allFilled}
+use Rattle.judge_cover.specs.Steps.{Without, Laid, CoversAtMost, BoundsOf, SiftedTo, NarrowedTo, NextNamed, groupsFrom, othersAt, throughAt, triesAt}
 use Rattle.judge_cover.proofs.Counting.{map-count, count-at, every-count}
-use Rattle.judge_cover.proofs.CoverLaws.{exists-none, exists-keep, exists-dropped, filled, nothing-left, one-empty, coverable-falls, above-part, above-kept}
+use Rattle.judge_cover.proofs.CoverLaws.{exists-keep, exists-dropped, filled, nothing-left, one-empty, coverable-falls, above-part, above-kept}
 use Rattle.judge_cover.proofs.Branching.{group-out, through-covers, unnamed-uncovered, worth-is-enough}
 use Rattle.judge_cover.proofs.CodeLaws.{some-here, some-later, some-none}
 use Rattle.judge_cover.proofs.PlaceLaws.{laid-before, laid-cut, past-some, map-past}
@@ -270,11 +270,14 @@ module _ (before starts first gains : List ℕ) (n u total v : ℕ) where
             ∙ ap (exists (λ r. not (bit r v))) group-here ∙ never-both v (group kept (getD starts k 0) (getD ends k 0))
         spared-now j (inr (inr m)) k' f o = f .each j (omega arith) o
 
+        pub branching-laid : a < end → Laid starts ends⁺ n (length after)
+        branching-laid m = rw (f .size) (laid-cut starts ends n k end (length kept) (s .laid) l (omega (arith, s .ends-size)) (omega arith) (omega (arith, f .slow)))
+
         pub branching-more : a < end → (k' : ℕ) → NextNamed after starts ends⁺ (k + 1) v k' → Branching before starts first gains n u total v after ends⁺ k'
         branching-more m k' g = record {
           size = f .size ∙ s .size;
           ends-size = length-set ends k end ∙ s .ends-size;
-          laid = rw (f .size) (laid-cut starts ends n k end (length kept) (s .laid) l (omega (arith, s .ends-size)) (omega arith) (omega (arith, f .slow)));
+          laid = branching-laid m;
           bounds = record { each = λ j o. bound-now j o (split j); all = s .bounds .all };
           unnamed = λ j o. spared-now j (split j) k' g o;
           same = dropped ∙ s .same;

@@ -34,6 +34,11 @@ pub record Laid (starts ends : List ℕ) (n size : ℕ) : Type 0 where
 pub record Spans (starts ends : List ℕ) (n size : ℕ) : Type 0 where
   pub near : (k : ℕ) → k < n → getD ends k 0 ≤ getD starts 0 0 + size
 
+-- the end of the last group, if there is one
+pub record Last (ends : List ℕ) (n r : ℕ) : Type 0 where
+  pub none : n ≡ 0 → r ≡ 0
+  pub some : 0 < n → r ≡ getD ends (n - 1) 0
+
 -- no edge of a group covers more than b variables of u
 abbrev pub CoversAtMost : (u : ℕ) (g : List ℕ) (b : ℕ) → Type 0
 CoversAtMost u g b = (r : ℕ) → List·Memᴰ r g → ones u ≤ b + ones (bitAnd u r)

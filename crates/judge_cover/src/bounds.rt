@@ -2,8 +2,7 @@
 use crate::edges::{self};
 use crate::places::{self};
 ghost use mathlib.Core.Path.{_≡_};
-ghost use Prim.Native.Nat.{ℕ, _+_, _≤_, _<_, min};
-ghost use lib.Count.{ones};
+ghost use Prim.Native.Nat.{_≤_, _<_, min};
 ghost use lib.ListN.{length};
 ghost use Rattle.judge_cover.specs.Cover.{group};
 ghost use Rattle.judge_cover.specs.Steps.{CoversAtMost, BoundsOf};

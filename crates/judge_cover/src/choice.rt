@@ -1,9 +1,9 @@
 // Which uncovered variable the search branches on: one that as few edges as can be mention. Any uncovered one would do,
 // so all that is promised of the choice is that.
-use crate::edges::{self};
 ghost use mathlib.Core.Path.{_≡_};
 ghost use mathlib.Core.Bool.{true};
-ghost use Prim.Native.Nat.{_<_};
+ghost use Prim.Native.Nat.{_≤_, _<_};
+ghost use lib.ListN.{length};
 ghost use Rattle.model.specs.Table.{bit};
 ghost use Rattle.judge_cover.specs.Steps.{PartOf};
 
@@ -67,21 +67,25 @@ fn with_few(t: Tally, named: u64) -> Tally {
     }
 }
 
-fn count_few(masks: &[u64], to: usize, u: u64) -> Tally {
+fn count_few(masks: &[u64], to: usize, u: u64) -> Tally
+    requires { ⌜ to ≤ length (now masks) ⌝ }
+{
     let mut t = nothing();
     let mut i = 0;
     while i < to {
-        t = with_few(t, u ^ edges::left_by(masks, u, i));
+        t = with_few(t, u & !masks[i]);
         i += 1;
     }
     t
 }
 
-fn count_many(masks: &[u64], to: usize, u: u64) -> Tally {
+fn count_many(masks: &[u64], to: usize, u: u64) -> Tally
+    requires { ⌜ to ≤ length (now masks) ⌝ }
+{
     let mut t = nothing();
     let mut i = 0;
     while i < to {
-        t = with(t, u ^ edges::left_by(masks, u, i));
+        t = with(t, u & !masks[i]);
         i += 1;
     }
     t
@@ -89,7 +93,9 @@ fn count_many(masks: &[u64], to: usize, u: u64) -> Tally {
 
 // Counts the edges up to the end of the last group. Where other edges stand between the groups they are counted too,
 // which may make the choice a worse one.
-fn count(masks: &[u64], to: usize, u: u64) -> Tally {
+fn count(masks: &[u64], to: usize, u: u64) -> Tally
+    requires { ⌜ to ≤ length (now masks) ⌝ }
+{
     if to < 64 {
         count_few(masks, to, u)
     } else {
@@ -125,6 +131,7 @@ fn first(set: u64) -> u32
 }
 
 pub(crate) fn choose(masks: &[u64], to: usize, u: u64) -> u32
+    requires { ⌜ to ≤ length (now masks) ⌝ }
     ensures { λ r. ⌜ (0 < u → bit u r ≡ true) ⌝ }
 {
     first(rarest(u, count(masks, to, u)))

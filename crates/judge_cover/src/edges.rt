@@ -1,11 +1,11 @@
 // Edges as sets of variables: bit K is set where the update does not mention variable K.
 use crate::places::{self};
 ghost use mathlib.Core.Path.{_≡_};
-ghost use Prim.Native.Nat.{_≤_};
+ghost use Prim.Native.Nat.{_≤_, _<_};
 ghost use lib.Count.{ones};
 ghost use lib.ListN.{length};
 ghost use Rattle.judge_cover.specs.Cover.{within, leftBy, dominated, skippedAt, worth, namedIn, spares};
-ghost use Rattle.judge_cover.specs.Steps.{NextNamed, SiftedTo};
+ghost use Rattle.judge_cover.specs.Steps.{Laid, NextNamed, SiftedTo};
 
 // How many variables there are in a set.
 pub(crate) fn size(u: u64) -> usize
@@ -30,14 +30,16 @@ pub(crate) fn left_by(masks: &[u64], u: u64, i: usize) -> u64
 
 // Is edge i skipped for edge j, which leaves no more? Of two that leave the same the first stays.
 fn dominated(masks: &[u64], u: u64, i: usize, j: usize) -> bool
+    requires { ⌜ (i < length (now masks)) × (j < length (now masks)) ⌝ }
     ensures { λ r. ⌜ r ≡ dominated (now (masks .entry)) u i j ⌝ }
 {
-    let v = left_by(masks, u, i);
-    let w = left_by(masks, u, j);
+    let v = u & masks[i];
+    let w = u & masks[j];
     inside(w, v) & ((j < i) | !inside(v, w))
 }
 
 fn skipped(masks: &[u64], from: usize, to: usize, u: u64, i: usize) -> bool
+    requires { ⌜ (i < length (now masks)) × (to ≤ length (now masks)) ⌝ }
     ensures { λ r. ⌜ r ≡ skippedAt (now (masks .entry)) from to u i ⌝ }
 {
     let mut j = from;
@@ -52,9 +54,10 @@ fn skipped(masks: &[u64], from: usize, to: usize, u: u64, i: usize) -> bool
 
 // Is edge i worth a try for the variable v? It mentions v, and no other of its group leaves less.
 pub(crate) fn worth(masks: &[u64], from: usize, to: usize, u: u64, v: u32, i: usize) -> bool
+    requires { ⌜ (i < length (now masks)) × (to ≤ length (now masks)) ⌝ }
     ensures { λ r. ⌜ r ≡ worth (now (masks .entry)) from to u v i ⌝ }
 {
-    if table_tree::in_word(places::mask_at(masks, i), v) {
+    if table_tree::in_word(masks[i], v) {
         return false;
     }
     !skipped(masks, from, to, u, i)
@@ -62,11 +65,12 @@ pub(crate) fn worth(masks: &[u64], from: usize, to: usize, u: u64, v: u32, i: us
 
 // Does an edge between two places mention v?
 pub(crate) fn names(masks: &[u64], from: usize, to: usize, v: u32) -> bool
+    requires { ⌜ to ≤ length (now masks) ⌝ }
     ensures { λ r. ⌜ r ≡ namedIn (now (masks .entry)) from to v ⌝ }
 {
     let mut i = from;
     while i < to {
-        if !table_tree::in_word(places::mask_at(masks, i), v) {
+        if !table_tree::in_word(masks[i], v) {
             return true;
         }
         i += 1;
@@ -84,6 +88,7 @@ pub(crate) fn next_named(
     v: u32,
 ) -> usize
     requires { ⌜ n ≤ 16 ⌝ }
+    requires { ⌜ Laid (now starts) (now ends) n (length (now masks)) ⌝ }
     ensures { λ r. ⌜ NextNamed (now (masks .entry)) (now (starts .entry)) (now (ends .entry)) k v r ⌝ }
 {
     let mut j = k;

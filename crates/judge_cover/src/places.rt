@@ -2,10 +2,10 @@
 ghost use mathlib.Core.Path.{_≡_};
 ghost use mathlib.Core.Bool.{true};
 ghost use mathlib.Core.List.{List};
-ghost use Prim.Native.Nat.{ℕ, _-_, _≤_};
+ghost use Prim.Native.Nat.{ℕ, _≤_};
 ghost use lib.ListN.{length, getD};
 ghost use Rattle.judge_cover.specs.Cover.{past, groups, groupsOf, allFilled};
-ghost use Rattle.judge_cover.specs.Steps.{advanced, Without, InRow, Laid, Spans};
+ghost use Rattle.judge_cover.specs.Steps.{advanced, Without, InRow, Laid, Spans, Last};
 
 pub(crate) fn mask_at(masks: &[u64], i: usize) -> u64
     ensures { λ r. ⌜ r ≡ getD (now (masks .entry)) i 0 ⌝ }
@@ -86,12 +86,12 @@ pub(crate) fn laid(length: usize, starts: &[usize], ends: &[usize], n: usize) ->
     true
 }
 
-// The end of the last group.
+// The end of the last group; 0 if there is none.
 pub(crate) fn last(ends: &[usize], n: usize) -> usize
-    ensures { λ r. ⌜ r ≡ getD (now (ends .entry)) (n - 1) 0 ⌝ }
+    ensures { λ r. ⌜ Last (now (ends .entry)) n r ⌝ }
 {
     if n == 0 {
-        return place(ends, 0);
+        return 0;
     }
     place(ends, n - 1)
 }

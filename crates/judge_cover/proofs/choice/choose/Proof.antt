@@ -8,19 +8,15 @@ use Rattle.judge_cover.proofs.choice.count.Reads as count-reads
 use Rattle.judge_cover.proofs.choice.first.Reads as first-reads
 use Rattle.judge_cover.proofs.choice.rarest.Reads as rarest-reads
 
--- src/choice.rt:130:21
 count-requires : tie.Need-count-requires
 count-requires c κs = search needs
 
--- src/choice.rt:130:11
 rarest-requires : tie.Need-rarest-requires
 rarest-requires c κs = search needs
 
--- src/choice.rt:130:5
 first-requires : tie.Need-first-requires
 first-requires c κs = search needs
 
--- src/choice.rt:127:1
 returns : tie.Need-returns
 returns c = search (needs, chosen)
 

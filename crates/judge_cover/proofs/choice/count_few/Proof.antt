@@ -6,7 +6,6 @@ use Rattle.judge_cover.proofs.choice.count_few.Reads as reads
 use Rattle.judge_cover.proofs.choice.count_few.Lts as lts
 use Rattle.judge_cover.proofs.choice.nothing.Reads as nothing-reads
 use Rattle.judge_cover.proofs.choice.with_few.Reads as with-few-reads
-use Rattle.judge_cover.proofs.edges.left_by.Reads as left-by-reads
 
 abbrev Inv-loop : tie.InvT-loop
 Inv-loop masks to u t₀ i₀ t i = Unit {0}
@@ -20,8 +19,11 @@ nothing-requires c κs = search needs
 loop-holds : tie.Need-loop-holds Inv-loop μ-loop
 loop-holds c = search needs
 
-left-by-requires : tie.Need-left-by-requires Inv-loop μ-loop
-left-by-requires c κs = search needs
+mul-with-few : tie.Need-mul-with-few Inv-loop μ-loop
+mul-with-few c = search needs
+
+shared-slice-read-with-few : tie.Need-shared-slice-read-with-few Inv-loop μ-loop
+shared-slice-read-with-few c = search needs
 
 with-few-requires : tie.Need-with-few-requires Inv-loop μ-loop
 with-few-requires c κs = search needs
@@ -46,7 +48,8 @@ count-few-spec =
     μ-loop
     nothing-requires
     loop-holds
-    left-by-requires
+    mul-with-few
+    shared-slice-read-with-few
     with-few-requires
     add-i
     loop-less

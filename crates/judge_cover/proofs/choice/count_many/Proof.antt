@@ -6,7 +6,6 @@ use Rattle.judge_cover.proofs.choice.count_many.Reads as reads
 use Rattle.judge_cover.proofs.choice.count_many.Lts as lts
 use Rattle.judge_cover.proofs.choice.nothing.Reads as nothing-reads
 use Rattle.judge_cover.proofs.choice.with.Reads as with-reads
-use Rattle.judge_cover.proofs.edges.left_by.Reads as left-by-reads
 
 abbrev Inv-loop : tie.InvT-loop
 Inv-loop masks to u t₀ i₀ t i = Unit {0}
@@ -20,8 +19,11 @@ nothing-requires c κs = search needs
 loop-holds : tie.Need-loop-holds Inv-loop μ-loop
 loop-holds c = search needs
 
-left-by-requires : tie.Need-left-by-requires Inv-loop μ-loop
-left-by-requires c κs = search needs
+mul-with : tie.Need-mul-with Inv-loop μ-loop
+mul-with c = search needs
+
+shared-slice-read-with : tie.Need-shared-slice-read-with Inv-loop μ-loop
+shared-slice-read-with c = search needs
 
 with-requires : tie.Need-with-requires Inv-loop μ-loop
 with-requires c κs = search needs
@@ -46,7 +48,8 @@ count-many-spec =
     μ-loop
     nothing-requires
     loop-holds
-    left-by-requires
+    mul-with
+    shared-slice-read-with
     with-requires
     add-i
     loop-less

@@ -1,33 +1,40 @@
-use Rattle.judge_cover.proofs.CodeLaws.{dominated-is}
+use Rattle.judge_cover.proofs.CodeLaws.{dominated-is, left-is}
 use borrow.Author.Needs.{needs}
 use Rattle.judge_cover.proofs.edges.dominated.Statement.{statement}
 use Rattle.judge_cover.proofs.edges.dominated.Tie as tie
 use Rattle.judge_cover.proofs.edges.dominated.Reads as reads
 use Rattle.judge_cover.proofs.edges.dominated.Lts as lts
 use Rattle.judge_cover.proofs.edges.inside.Reads as inside-reads
-use Rattle.judge_cover.proofs.edges.left_by.Reads as left-by-reads
 
--- src/edges.rt:32:9
-left-by-requires : tie.Need-left-by-requires
-left-by-requires c κs = search needs
+mul-v : tie.Need-mul-v
+mul-v c = search needs
 
--- src/edges.rt:33:9
-left-by-requires-2 : tie.Need-left-by-requires-2
-left-by-requires-2 c κs = search needs
+shared-slice-read-v : tie.Need-shared-slice-read-v
+shared-slice-read-v c = search needs
 
--- src/edges.rt:34:5
+mul-w : tie.Need-mul-w
+mul-w c = search needs
+
+shared-slice-read-w : tie.Need-shared-slice-read-w
+shared-slice-read-w c = search needs
+
 inside-requires : tie.Need-inside-requires
 inside-requires c κs = search needs
 
--- src/edges.rt:34:32
 inside-requires-2 : tie.Need-inside-requires-2
 inside-requires-2 c κs = search needs
 
--- src/edges.rt:29:1
 returns : tie.Need-returns
-returns c = search (needs, dominated-is)
+returns c = search (needs, dominated-is, left-is)
 
 pub dominated-spec : {M : Type 1} → statement M
 dominated-spec =
     tie.close
-    (tie.spec left-by-requires left-by-requires-2 inside-requires inside-requires-2 returns)
+    (tie.spec
+    mul-v
+    shared-slice-read-v
+    mul-w
+    shared-slice-read-w
+    inside-requires
+    inside-requires-2
+    returns)

@@ -1,4 +1,4 @@
--- `judge_cover::edges::names` meets its contract: from each turn on, the definition goes on to the same end.
+use Rattle.judge_cover.proofs.CodeLaws.{names-laws}
 use mathlib.Core.Path.{_≡_}
 use mathlib.Core.Bool.{not}
 use Prim.Native.Nat.{_-_}
@@ -6,13 +6,11 @@ use lib.ListN.{getD}
 use Rattle.model.specs.Basic.{exists, countUp}
 use Rattle.model.specs.Table.{bit}
 use Rattle.judge_cover.specs.Cover.{namedIn}
-use Rattle.judge_cover.proofs.CodeLaws.{names-laws}
 use borrow.Author.Needs.{needs}
 use Rattle.judge_cover.proofs.edges.names.Statement.{statement}
 use Rattle.judge_cover.proofs.edges.names.Tie as tie
 use Rattle.judge_cover.proofs.edges.names.Reads as reads
 use Rattle.judge_cover.proofs.edges.names.Lts as lts
-use Rattle.judge_cover.proofs.places.mask_at.Reads as mask-at-reads
 use Rattle.table_tree.proofs.in_word.Reads as in-word-reads
 
 abbrev Inv-loop : tie.InvT-loop
@@ -24,8 +22,11 @@ abbrev μ-loop : tie.MeasureT-loop
 loop-holds : tie.Need-loop-holds Inv-loop μ-loop
 loop-holds c = search (needs, names-laws)
 
-mask-at-requires : tie.Need-mask-at-requires Inv-loop μ-loop
-mask-at-requires c κs = search needs
+mul-in-word : tie.Need-mul-in-word Inv-loop μ-loop
+mul-in-word c = search needs
+
+shared-slice-read-in-word : tie.Need-shared-slice-read-in-word Inv-loop μ-loop
+shared-slice-read-in-word c = search needs
 
 in-word-requires : tie.Need-in-word-requires Inv-loop μ-loop
 in-word-requires c κs = search needs
@@ -52,7 +53,8 @@ names-spec =
     Inv-loop
     μ-loop
     loop-holds
-    mask-at-requires
+    mul-in-word
+    shared-slice-read-in-word
     in-word-requires
     returns
     add-i

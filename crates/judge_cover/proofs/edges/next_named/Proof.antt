@@ -1,6 +1,7 @@
 use Prim.Native.Nat.{_-_}
 use Rattle.judge_cover.specs.Steps.{NextNamed}
 use Rattle.judge_cover.proofs.CodeLaws.{named-laws}
+use Rattle.judge_cover.proofs.PlaceLaws.{end-inside}
 use borrow.Author.Needs.{needs}
 use Rattle.judge_cover.proofs.edges.next_named.Statement.{statement}
 use Rattle.judge_cover.proofs.edges.next_named.Tie as tie
@@ -15,39 +16,30 @@ Inv-loop masks starts ends k n v j₀ j = NextNamed masks starts ends k v j
 abbrev μ-loop : tie.MeasureT-loop
 μ-loop masks starts ends k n v j₀ j = n - j
 
--- src/edges.rt:84:5
 loop-holds : tie.Need-loop-holds Inv-loop μ-loop
 loop-holds c = search (needs, named-laws)
 
--- src/edges.rt:85:25
 place-requires : tie.Need-place-requires Inv-loop μ-loop
 place-requires c κs = search needs
 
--- src/edges.rt:85:51
 place-requires-2 : tie.Need-place-requires-2 Inv-loop μ-loop
 place-requires-2 c κs = search needs
 
--- src/edges.rt:85:12
 names-requires : tie.Need-names-requires Inv-loop μ-loop
-names-requires c κs = search needs
+names-requires c κs = search (needs, end-inside)
 
--- src/edges.rt:86:13
 returns : tie.Need-returns Inv-loop μ-loop
 returns c = search (needs, named-laws)
 
--- src/edges.rt:88:9
 add-j : tie.Need-add-j Inv-loop μ-loop
 add-j c = search needs
 
--- src/edges.rt:84:5
 loop-less : tie.Need-loop-less Inv-loop μ-loop
 loop-less c = search needs
 
--- src/edges.rt:84:5
 loop-again : tie.Need-loop-again Inv-loop μ-loop
 loop-again c = search (needs, named-laws)
 
--- src/edges.rt:79:1
 returns-2 : tie.Need-returns-2 Inv-loop μ-loop
 returns-2 c = search (needs, named-laws)
 

@@ -16,31 +16,24 @@ Inv-loop masks from to u i j₀ j = exists (dominated masks u i) (countUp j (to 
 abbrev μ-loop : tie.MeasureT-loop
 μ-loop masks from to u i j₀ j = to - j
 
--- src/edges.rt:41:5
 loop-holds : tie.Need-loop-holds Inv-loop μ-loop
 loop-holds c = search (needs, skipped-laws)
 
--- src/edges.rt:42:12
 dominated-requires : tie.Need-dominated-requires Inv-loop μ-loop
 dominated-requires c κs = search needs
 
--- src/edges.rt:43:13
 returns : tie.Need-returns Inv-loop μ-loop
 returns c = search (needs, skipped-laws)
 
--- src/edges.rt:45:9
 add-j : tie.Need-add-j Inv-loop μ-loop
 add-j c = search needs
 
--- src/edges.rt:41:5
 loop-less : tie.Need-loop-less Inv-loop μ-loop
 loop-less c = search needs
 
--- src/edges.rt:41:5
 loop-again : tie.Need-loop-again Inv-loop μ-loop
 loop-again c = search (needs, skipped-laws)
 
--- src/edges.rt:37:1
 returns-2 : tie.Need-returns-2 Inv-loop μ-loop
 returns-2 c = search (needs, skipped-laws)
 

@@ -5,11 +5,13 @@ use Rattle.judge_cover.proofs.edges.worth.Tie as tie
 use Rattle.judge_cover.proofs.edges.worth.Reads as reads
 use Rattle.judge_cover.proofs.edges.worth.Lts as lts
 use Rattle.judge_cover.proofs.edges.skipped.Reads as skipped-reads
-use Rattle.judge_cover.proofs.places.mask_at.Reads as mask-at-reads
 use Rattle.table_tree.proofs.in_word.Reads as in-word-reads
 
-mask-at-requires : tie.Need-mask-at-requires
-mask-at-requires c κs = search needs
+mul-in-word : tie.Need-mul-in-word
+mul-in-word c = search needs
+
+shared-slice-read-in-word : tie.Need-shared-slice-read-in-word
+shared-slice-read-in-word c = search needs
 
 in-word-requires : tie.Need-in-word-requires
 in-word-requires c κs = search needs
@@ -25,4 +27,11 @@ returns-2 c = search (needs, worth-laws)
 
 pub worth-spec : {M : Type 1} → statement M
 worth-spec =
-    tie.close (tie.spec mask-at-requires in-word-requires returns skipped-requires returns-2)
+    tie.close
+    (tie.spec
+    mul-in-word
+    shared-slice-read-in-word
+    in-word-requires
+    returns
+    skipped-requires
+    returns-2)

@@ -8,8 +8,8 @@ use native.Mathlib.Omega.{arith}
 use lib.ListN.{replicate}
 use Rattle.model.specs.Basic.{exists, countUp}
 use Rattle.judge_cover.specs.Steps.{throughAt, triesAt}
-use Rattle.judge_cover.proofs.PlaceLaws.{laid-more, laid-without, spans-all, spans-size}
-use Rattle.judge_cover.proofs.SeekLaws.{Branching, seek-laws, narrowed-laws, narrowed-laid, narrowed-bounds, branching-laws, branching-places, branching-none, branching-more, branching-end, tried-laws, tried-skip, tried-later, gain-part, bounds-without}
+use Rattle.judge_cover.proofs.PlaceLaws.{last-inside, end-inside, laid-more, laid-without, spans-all, spans-size}
+use Rattle.judge_cover.proofs.SeekLaws.{Branching, seek-laws, narrowed-laws, narrowed-laid, narrowed-bounds, branching-laws, branching-places, branching-none, branching-laid, branching-more, branching-end, tried-laws, tried-skip, tried-later, gain-part, bounds-without}
 use borrow.Fn.Kinds.{In}
 use borrow.Fn.PlainCycle.{Measures, is, falls, and}
 use Rattle.judge_cover.proofs.seek.branch.Reads as branch
@@ -97,10 +97,13 @@ branch-last-requires : (t : ℕ) → branch-lts.Need-last-requires (branch-calls
 branch-last-requires t c κs = search needs
 
 branch-choose-requires : (t : ℕ) → branch-lts.Need-choose-requires (branch-calls t) (branch-at t) branch.Post branch-Inv-loop branch-μ-loop
-branch-choose-requires t c κs = search needs
+branch-choose-requires t c κs =
+    last-inside _ _ _ _ (c .before .before .before .before .before .before .before .pre .1 .1 .1 .0) _ (c .last .ensures)
 
 branch-next-named-requires : (t : ℕ) → branch-lts.Need-next-named-requires (branch-calls t) (branch-at t) branch.Post branch-Inv-loop branch-μ-loop
-branch-next-named-requires t c κs = search needs
+branch-next-named-requires t c κs =
+    let asked = c .before .before .before .before .before .before .before .before .before .before .before .pre .1 in
+    (asked .0 .0, asked .1 .1 .0)
 
 branch-loop-holds : (t : ℕ) → branch-lts.Need-loop-holds (branch-calls t) (branch-at t) branch.Post branch-Inv-loop branch-μ-loop
 branch-loop-holds t c = search (needs, branching-laws)
@@ -177,7 +180,18 @@ branch-add-next-named t c =
 
 branch-next-named-requires-2 : (t : ℕ) → branch-lts.Need-next-named-requires-2 (branch-calls t) (branch-at t) branch.Post branch-Inv-loop branch-μ-loop
 branch-next-named-requires-2 t c κs =
-    c .before .before .before .before .before .before .before .before .before .before .before .before .before .before .before .before .before .before .before .before .before .before .before .before .before .before .before .before .before .before .before .pre .1 .0 .0
+    let drop = c .before .before .before .before .before .before in
+    let end = drop .before in
+    let start = end .before .before .before .before in
+    let failed = start .before in
+    let tried = failed .before in
+    let test = tried .before .before .before .before in
+    let loop = test .before in
+    let asked = loop .before .before .before .before .before .before .before .before .before .before .before .before .before .pre .1 in (
+      asked .0 .0,
+      branching-laid _ _ _ _ _ _ _ _ _ _ _ (loop .loop .inv) (test .loop-test .taken) _ (tried .tried .ensures) (failed .if1 .left)
+          (asked .0 .0) _ _ (start .place .ensures) (end .place2 .ensures) _ _ (drop .drop-named .ensures) (c .before .before .before .if2 .left),
+    )
 
 branch-loop-less : (t : ℕ) → branch-lts.Need-loop-less (branch-calls t) (branch-at t) branch.Post branch-Inv-loop branch-μ-loop
 branch-loop-less t c = search needs
@@ -339,7 +353,11 @@ tried-loop-holds : (t : ℕ) → tried-lts.Need-loop-holds (tried-calls t) (trie
 tried-loop-holds t c = search (needs, tried-laws)
 
 tried-worth-requires : (t : ℕ) → tried-lts.Need-worth-requires (tried-calls t) (tried-at t) tried.Post tried-Inv-loop tried-μ-loop
-tried-worth-requires t c κs = search needs
+tried-worth-requires t c κs =
+    let start = c .before .before in
+    let asked = start .before .before .before .before .before .before .before .before .before .before .pre .1 in
+    let room = end-inside _ _ _ _ (asked .1 .1 .0) _ (asked .0 .1) _ (start .place3 .ensures) in
+    (omega (arith, c .loop-test .taken), room)
 
 tried-slice-aggregate-seek : (t : ℕ) → tried-lts.Need-slice-aggregate-seek (tried-calls t) (tried-at t) tried.Post tried-Inv-loop tried-μ-loop
 tried-slice-aggregate-seek t c = search needs
