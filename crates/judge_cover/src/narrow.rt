@@ -83,16 +83,9 @@ pub(crate) fn narrow(
     let mut k = 0;
     while k < n {
         let gain = places::place(gains, k);
-        let s = sift(
-            masks,
-            places::place(from, k),
-            places::place(to, k),
-            u,
-            t,
-            gain,
-            kept,
-            count,
-        );
+        let a = places::place(from, k);
+        let b = places::place(to, k);
+        let s = sift(masks, a, b, u, t, gain, kept, count);
         let next = s.next;
         if next <= count {
             return 0;

@@ -145,15 +145,8 @@ fn tried(
     let mut i = a;
     while i < b {
         if edges::worth(masks, a, b, u, v, i) {
-            if seek(
-                masks,
-                &from,
-                &to,
-                &less,
-                n - 1,
-                edges::left_by(masks, u, i),
-                rest,
-            ) {
+            let left = edges::left_by(masks, u, i);
+            if seek(masks, &from, &to, &less, n - 1, left, rest) {
                 return true;
             }
         }

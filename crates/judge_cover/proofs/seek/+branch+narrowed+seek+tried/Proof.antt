@@ -369,7 +369,7 @@ tried-slice-aggregate-seek-3 : (t : ℕ) → tried-lts.Need-slice-aggregate-seek
 tried-slice-aggregate-seek-3 t c = search needs
 
 tried-sub-seek : (t : ℕ) → tried-lts.Need-sub-seek (tried-calls t) (tried-at t) tried.Post tried-Inv-loop tried-μ-loop
-tried-sub-seek t c = search needs
+tried-sub-seek t c = omega (arith, c .before .before .before .before .before .before .before .before .before .before .before .before .before .before .before .before .before .before .pre .1 .0 .1)
 
 tried-left-by-requires : (t : ℕ) → tried-lts.Need-left-by-requires (tried-calls t) (tried-at t) tried.Post tried-Inv-loop tried-μ-loop
 tried-left-by-requires t c κs = search needs
@@ -389,7 +389,7 @@ tried-seek-requires t c κs =
           (
             laid-without _ _ _ _ _ _ _ (asked .0 .0) (asked .0 .1) from to (asked .1 .1 .1 .0),
             bounds-without _ _ _ _ _ (asked .0 .0) (asked .0 .1) _ _ from to _ _ _ _ (place .before .without3 .ensures .0) (asked .1 .1 .1 .1) _ (place .place .ensures) _ _
-                (c .left-by .ensures),
+                (c .before .before .before .left-by .ensures),
           ),
         ),
       ),
@@ -410,7 +410,7 @@ tried-loop-again t c =
     let at = w .before .before .loop in
     let test = w .before .loop-test .taken in
     ⊎-elim
-    (λ x. tried-later _ _ _ _ _ _ _ _ _ _ _ _ (at .i) (at .inv) test _ (w .worth .ensures) (x .0 .taken) _ (x .4 .ensures) _ (x .5 .ensures) (x .6 .left))
+    (λ x. tried-later _ _ _ _ _ _ _ _ _ _ _ _ (at .i) (at .inv) test _ (w .worth .ensures) (x .0 .taken) _ (x .1 .ensures) _ (x .5 .ensures) (x .6 .left))
     (λ x. tried-skip _ _ _ _ _ _ _ _ _ _ _ _ (at .i) (at .inv) test _ (w .worth .ensures) (x .left))
     (c .if1 .came)
 
@@ -429,4 +429,4 @@ pub +branch+narrowed+seek+tried-spec : {M : Type 1} → statement M
     λ t. tried-lts.spec (tried-calls t) (tried-at t)
     tried.Post
     tried-Inv-loop
-    tried-μ-loop (tried-without-requires t) (tried-without-requires-2 t) (tried-without-requires-3 t) (tried-place-requires t) (tried-sub-rest t) (tried-place-requires-2 t) (tried-place-requires-3 t) (tried-loop-holds t) (tried-worth-requires t) (tried-slice-aggregate-seek t) (tried-slice-aggregate-seek-2 t) (tried-slice-aggregate-seek-3 t) (tried-sub-seek t) (tried-left-by-requires t) (tried-seek-requires t) (tried-returns t) (tried-add-i t) (tried-loop-less t) (tried-loop-again t) (tried-returns-2 t)
+    tried-μ-loop (tried-without-requires t) (tried-without-requires-2 t) (tried-without-requires-3 t) (tried-place-requires t) (tried-sub-rest t) (tried-place-requires-2 t) (tried-place-requires-3 t) (tried-loop-holds t) (tried-worth-requires t) (tried-left-by-requires t) (tried-slice-aggregate-seek t) (tried-slice-aggregate-seek-2 t) (tried-slice-aggregate-seek-3 t) (tried-sub-seek t) (tried-seek-requires t) (tried-returns t) (tried-add-i t) (tried-loop-less t) (tried-loop-again t) (tried-returns-2 t)
