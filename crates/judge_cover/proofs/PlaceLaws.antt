@@ -126,19 +126,12 @@ past-high : (k i : ℕ) → k ≤ i → past k i ≡ suc i
 unfolding past
 past-high k i h = rw (le-ltb i k h, past) (omega arith)
 
-below : (i k : ℕ) → (i < k) ⊎ (k ≤ i)
-below i k = go (ltb i k) refl
-  where
-    go : (b : Bool) → ltb i k ≡ b → (i < k) ⊎ (k ≤ i)
-    go true e = inl (ltb-true i k e)
-    go false e = inr (ltb-false i k e)
-
 pub past-some : (P : ℕ → Type 0) (n k i : ℕ) → ((j : ℕ) → j < n → P j) → i < n - 1 → P (past k i)
-past-some P n k i h l = go (below i k)
+past-some P n k i h l = go (ltb i k) refl
   where
-    go : (i < k) ⊎ (k ≤ i) → P (past k i)
-    go (inl m) = rw (past-low k i m) (h i (omega arith))
-    go (inr m) = rw (past-high k i m) (h (suc i) (omega arith))
+    go : (b : Bool) → ltb i k ≡ b → P (past k i)
+    go true e = rw (past-low k i (ltb-true i k e)) (h i (omega arith))
+    go false e = rw (past-high k i (ltb-false i k e)) (h (suc i) (omega arith))
 
 map-shift : {A : Type 0} (f g : ℕ → A) (c k : ℕ) → ((i : ℕ) → k ≤ i → i < k + c → f i ≡ g (suc i)) → map f (countUp k c) ≡ map g (countUp (suc k) c)
 unfolding countUp
@@ -161,15 +154,20 @@ module _ (starts ends from to : List ℕ) (n k size : ℕ) (few : n ≤ 16) (l :
   pub laid-without : Laid starts ends n size → Laid from to (n - 1) size
   laid-without s = record {
     some = λ i m. rw (f .each i (omega arith), g .each i (omega arith)) (past-some (λ j. getD starts j 0 < getD ends j 0) n k i (s .some) m);
-    next = λ i m. rw (f .each (suc i) (omega arith), g .each i (omega arith)) (near i m (below (suc i) k) (below i k));
+    next = λ i m. rw (f .each (suc i) (omega arith), g .each i (omega arith)) (near i m (ltb (suc i) k) (ltb i k) refl refl);
     inside = λ i m. rw (g .each i (omega arith)) (past-some (λ j. getD ends j 0 ≤ size) n k i (s .inside) m);
   }
     where
-      near : (i : ℕ) → suc i < n - 1 → (suc i < k) ⊎ (k ≤ suc i) → (i < k) ⊎ (k ≤ i) → getD ends (past k i) 0 ≤ getD starts (past k (suc i)) 0
-      near i m (inl a) (inl b) = rw (past-low k i b, past-low k (suc i) a) (s .next i (omega arith))
-      near i m (inr a) (inl b) = rw (past-low k i b, past-high k (suc i) a) (laid-before starts ends n size s i (suc (suc i)) (omega arith) (omega arith))
-      near i m (inl a) (inr b) = absurd (omega arith)
-      near i m (inr a) (inr b) = rw (past-high k i b, past-high k (suc i) a) (s .next (suc i) (omega arith))
+      near : (i : ℕ) → suc i < n - 1 → (p q : Bool) → ltb (suc i) k ≡ p → ltb i k ≡ q → getD ends (past k i) 0 ≤ getD starts (past k (suc i)) 0
+      near i m true q x y =
+          let a = ltb-true (suc i) k x in
+          rw (past-low k i (omega arith), past-low k (suc i) a) (s .next i (omega arith))
+      near i m false true x y =
+          let a = ltb-false (suc i) k x in
+          rw (past-low k i (ltb-true i k y), past-high k (suc i) a) (laid-before starts ends n size s i (suc (suc i)) (omega arith) (omega arith))
+      near i m false false x y =
+          let a = ltb-false (suc i) k x in
+          rw (past-high k i (ltb-false i k y), past-high k (suc i) a) (s .next (suc i) (omega arith))
 
 -- with group k cut short
 pub laid-cut : (starts ends : List ℕ) (n k end size : ℕ) → Laid starts ends n size → k < n → k < length ends → getD starts k 0 < end → end ≤ getD ends k 0
