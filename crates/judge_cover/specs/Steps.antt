@@ -64,7 +64,7 @@ pub record SiftedTo (p : ℕ → Bool) (masks : List ℕ) (from to : ℕ) (befor
   pub rest : (i : ℕ) → to ≤ i → count ≤ from → getD after i 0 ≡ getD before i 0
   pub edges : group after count next ≡ keep p (group masks from to)
 
--- the useful edges of a group, with a bound that is no higher and the total that has it in place of the old one
+-- the useful edges of a group, a bound for them, and the total that has it in place of the old one
 pub record Passed (masks : List ℕ) (from to u total gain : ℕ) (before after : List ℕ) (count next most less : ℕ)
     : Type 0 where
   pub sifted : SiftedTo (useful u total gain) masks from to before after count next
