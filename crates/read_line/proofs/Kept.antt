@@ -20,8 +20,7 @@ use Rattle.read_number_line.specs.Number.{numberAfter, boundsAfter}
 use Rattle.read_composition_line.specs.Sync.{syncFault, syncAfter}
 use Rattle.read_composition_line.specs.Composition.{composeFault, composeAfter}
 use Rattle.read_predicate_line.specs.Predicate.{mostWords}
-use Rattle.read_predicate_line.specs.Role.{roleWithAfter, roleAfter}
-use Rattle.read_line.specs.Line.{lineAfter}
+use Rattle.read_line.specs.Line.{lineWithAfter, lineAfter}
 use Rattle.table_append.proofs.AppendLaws.{put-kept}
 use Rattle.read_predicate_line.proofs.PredicateRows.{location-kept}
 use Rattle.read_predicate_line.proofs.EdgeRows.{edge-kept}
@@ -46,7 +45,7 @@ module _ (s : Bytes) (ended : Bool) (c : Counts) (words : List ℕ) (at : ℕ) w
   compose-kept = written-long (composeFault s ended c) _ words (put-kept _ at words)
 
 pub line-kept : (s : Bytes) (ended : Bool) (k : Key) (c : Counts) (words : List ℕ) (at : ℕ) → length (lineAfter s ended k c words at) ≡ length words
-unfolding lineAfter roleAfter roleWithAfter
+unfolding lineAfter lineWithAfter
 line-kept s ended Format c words at = number-kept _ at words
 line-kept s ended Actions c words at = number-kept _ at words
 line-kept s ended Variables c words at = number-kept _ at words

@@ -18,9 +18,8 @@ use Rattle.model.specs.Predicate.{range}
 use Rattle.read_form.specs.declared.LineRead.the-variants.{Sound, Fault}
 use Rattle.table_append.specs.Append.{nextPlace, put}
 use Rattle.read_form.specs.Form.{lineOf}
-use Rattle.read_predicate_line.specs.Role.{roleWith, roleWithAfter, roleRead, roleAfter}
 use Rattle.read_line.specs.Exact.{ReadsLines}
-use Rattle.read_line.specs.Line.{lineRead, lineAfter}
+use Rattle.read_line.specs.Line.{lineWith, lineWithAfter, lineRead, lineAfter}
 use Rattle.read_form.proofs.Outcomes.{answered-fault, answered-sound, written-sound}
 use Rattle.read_number_line.proofs.NumberLines.{format-read, format-left, actions-read, actions-left, variables-read, variables-left, automata-read, automata-left, locations-read, locations-left, edges-read, edges-left}
 use Rattle.read_number_line.proofs.RangeLines.{variable-read, variable-left}
@@ -31,7 +30,7 @@ use Rattle.read_predicate_line.proofs.EdgeRows.{edge-faulty, edge-sound}
 
 module _ (r : Reading) (c : Counts) (words : List ℕ) (at : ℕ) (s : Bytes) (ended : Bool) (n : Counted r c) (d : Declared words r) (short : length s ≤ maxBytes) where
   faulty : (k : Key) (row : ℕ) → fault r k (lineOf s ended) ≡ some row → lineRead s ended (codeOf k) c words at ≡ Fault row
-  unfolding lineRead roleRead roleWith codeOf
+  unfolding lineRead lineWith codeOf
   faulty format row h = format-read r s ended at words ∙ answered-fault _ row _ h
   faulty actions row h = actions-read r s ended at words ∙ answered-fault _ row _ h
   faulty variables row h = variables-read r s ended at words ∙ answered-fault _ row _ h
@@ -48,7 +47,7 @@ module _ (r : Reading) (c : Counts) (words : List ℕ) (at : ℕ) (s : Bytes) (e
   sound : (k : Key) → fault r k (lineOf s ended) ≡ none
       → (lineRead s ended (codeOf k) c words at ≡ Sound (numberOf (entry k (lineOf s ended))) (nodesOf (entry k (lineOf s ended))) (nextPlace at (length (lineWords (entry k (lineOf s ended))))))
       × (lineAfter s ended (codeOf k) c words at ≡ put at (lineWords (entry k (lineOf s ended))) words)
-  unfolding lineRead lineAfter roleRead roleAfter roleWith roleWithAfter codeOf entry numberOf nodesOf lineWords theRange range
+  unfolding lineRead lineAfter lineWith lineWithAfter codeOf entry numberOf nodesOf lineWords theRange range
   sound format h = (format-read r s ended at words ∙ answered-sound _ _ h, format-left r s ended at words ∙ written-sound _ _ words h)
   sound actions h = (actions-read r s ended at words ∙ answered-sound _ _ h, actions-left r s ended at words ∙ written-sound _ _ words h)
   sound variables h = (variables-read r s ended at words ∙ answered-sound _ _ h, variables-left r s ended at words ∙ written-sound _ _ words h)

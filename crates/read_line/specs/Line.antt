@@ -18,50 +18,58 @@ use Rattle.read_numbers.specs.Number.{countIn, fewEdges}
 use Rattle.read_numbers.specs.Range.{boundsIn}
 use Rattle.read_number_line.specs.Number.{numberRead, numberAfter, boundsRead, boundsAfter}
 use Rattle.read_composition_line.specs.Sync.{syncRead, syncAfter}
-use Rattle.read_predicate_line.specs.declared.Role.the-variants as Role
-use Rattle.read_predicate_line.specs.Role.{roleRead, roleAfter}
+use Rattle.read_predicate_line.specs.Predicate.{mostWords, locationRead, locationAfter}
+use Rattle.read_predicate_line.specs.Edge.{edgeRead, edgeAfter}
 use Rattle.read_composition_line.specs.Composition.{composeRead, composeAfter}
 
-unfoldable pub lineRead : Bytes → (ended : Bool) → Key → Counts → (words : List ℕ) (at : ℕ) → LineRead
-lineRead s ended Format c words at =
+-- with room for so many nodes and sorts of a predicate
+unfoldable pub lineWith : Bytes → (ended : Bool) → Key → Counts → (words : List ℕ) (at room high : ℕ) → LineRead
+lineWith s ended Format c words at room high =
     numberRead (countIn (spelling Lines.format) firstFormat lastFormat s ended) at
-lineRead s ended Actions c words at =
+lineWith s ended Actions c words at room high =
     numberRead (countIn (spelling Lines.actions) 0 maxActions s ended) at
-lineRead s ended Variables c words at =
+lineWith s ended Variables c words at room high =
     numberRead (countIn (spelling Lines.variables) 0 maxVariables s ended) at
-lineRead s ended Variable c words at =
+lineWith s ended Variable c words at room high =
     boundsRead (boundsIn (spelling Lines.variable) s ended) at
-lineRead s ended Automata c words at =
+lineWith s ended Automata c words at room high =
     numberRead (countIn (spelling Lines.automata) 1 maxAutomata s ended) at
-lineRead s ended Sync c words at = syncRead s ended c at
-lineRead s ended Locations c words at =
+lineWith s ended Sync c words at room high = syncRead s ended c at
+lineWith s ended Locations c words at room high =
     numberRead (countIn (spelling Lines.locations) 1 maxLocations s ended) at
-lineRead s ended Init c words at = roleRead Role.Init s ended c words at
-lineRead s ended Inv c words at = roleRead Role.Inv s ended c words at
-lineRead s ended Edges c words at =
+lineWith s ended Init c words at room high = locationRead (spelling Lines.init) s ended c words room high at
+lineWith s ended Inv c words at room high = locationRead (spelling Lines.inv) s ended c words room high at
+lineWith s ended Edges c words at room high =
     numberRead (fewEdges (c .edges) (countIn (spelling Lines.edges) 0 maxEdges s ended)) at
-lineRead s ended Edge c words at = roleRead Role.Update s ended c words at
-lineRead s ended Compose c words at = composeRead s ended c at
-lineRead s ended End c words at = Fault 2
+lineWith s ended Edge c words at room high = edgeRead s ended c words room high at
+lineWith s ended Compose c words at room high = composeRead s ended c at
+lineWith s ended End c words at room high = Fault 2
+
+unfoldable pub lineWithAfter : Bytes → (ended : Bool) → Key → Counts → (words : List ℕ) (at room high : ℕ) → List ℕ
+lineWithAfter s ended Format c words at room high =
+    numberAfter (countIn (spelling Lines.format) firstFormat lastFormat s ended) at words
+lineWithAfter s ended Actions c words at room high =
+    numberAfter (countIn (spelling Lines.actions) 0 maxActions s ended) at words
+lineWithAfter s ended Variables c words at room high =
+    numberAfter (countIn (spelling Lines.variables) 0 maxVariables s ended) at words
+lineWithAfter s ended Variable c words at room high =
+    boundsAfter (boundsIn (spelling Lines.variable) s ended) at words
+lineWithAfter s ended Automata c words at room high =
+    numberAfter (countIn (spelling Lines.automata) 1 maxAutomata s ended) at words
+lineWithAfter s ended Sync c words at room high = syncAfter s ended c words at
+lineWithAfter s ended Locations c words at room high =
+    numberAfter (countIn (spelling Lines.locations) 1 maxLocations s ended) at words
+lineWithAfter s ended Init c words at room high = locationAfter (spelling Lines.init) s ended c words room high at
+lineWithAfter s ended Inv c words at room high = locationAfter (spelling Lines.inv) s ended c words room high at
+lineWithAfter s ended Edges c words at room high =
+    numberAfter (fewEdges (c .edges) (countIn (spelling Lines.edges) 0 maxEdges s ended)) at words
+lineWithAfter s ended Edge c words at room high = edgeAfter s ended c words room high at
+lineWithAfter s ended Compose c words at room high = composeAfter s ended c words at
+lineWithAfter s ended End c words at room high = words
+
+-- and for as many as a text can have
+unfoldable pub lineRead : Bytes → (ended : Bool) → Key → Counts → (words : List ℕ) (at : ℕ) → LineRead
+lineRead s ended k c words at = lineWith s ended k c words at mostWords mostWords
 
 unfoldable pub lineAfter : Bytes → (ended : Bool) → Key → Counts → (words : List ℕ) (at : ℕ) → List ℕ
-lineAfter s ended Format c words at =
-    numberAfter (countIn (spelling Lines.format) firstFormat lastFormat s ended) at words
-lineAfter s ended Actions c words at =
-    numberAfter (countIn (spelling Lines.actions) 0 maxActions s ended) at words
-lineAfter s ended Variables c words at =
-    numberAfter (countIn (spelling Lines.variables) 0 maxVariables s ended) at words
-lineAfter s ended Variable c words at =
-    boundsAfter (boundsIn (spelling Lines.variable) s ended) at words
-lineAfter s ended Automata c words at =
-    numberAfter (countIn (spelling Lines.automata) 1 maxAutomata s ended) at words
-lineAfter s ended Sync c words at = syncAfter s ended c words at
-lineAfter s ended Locations c words at =
-    numberAfter (countIn (spelling Lines.locations) 1 maxLocations s ended) at words
-lineAfter s ended Init c words at = roleAfter Role.Init s ended c words at
-lineAfter s ended Inv c words at = roleAfter Role.Inv s ended c words at
-lineAfter s ended Edges c words at =
-    numberAfter (fewEdges (c .edges) (countIn (spelling Lines.edges) 0 maxEdges s ended)) at words
-lineAfter s ended Edge c words at = roleAfter Role.Update s ended c words at
-lineAfter s ended Compose c words at = composeAfter s ended c words at
-lineAfter s ended End c words at = words
+lineAfter s ended k c words at = lineWithAfter s ended k c words at mostWords mostWords

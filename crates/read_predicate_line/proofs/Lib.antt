@@ -2,4 +2,3 @@ pub mod PredicateLaws
 pub mod PredicateRows
 pub mod EdgeLaws
 pub mod EdgeRows
-pub mod RoleLaws

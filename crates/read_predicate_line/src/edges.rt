@@ -68,7 +68,7 @@ fn read_value(
 }
 
 // Row 2, and then those of the value.
-pub(crate) fn edge(
+pub fn edge(
     line: &[u8],
     ended: bool,
     counts: Counts,

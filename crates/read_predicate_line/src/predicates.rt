@@ -8,6 +8,8 @@ ghost use mathlib.Core.List.{_∷_};
 ghost use Prim.Native.Nat.{suc, _≤_};
 ghost use lib.ListN.{length, take};
 ghost use Rattle.model.specs.Bounds.{maxNodes};
+ghost use Rattle.model.specs.Lines as Lines;
+ghost use Rattle.format.specs.Spelling.{spelling};
 ghost use Rattle.read_predicate.specs.Scratch.{Scratch};
 ghost use Rattle.read_nodes.specs.Nodes.{nodesAfter};
 ghost use Rattle.table_append.specs.Append.{nextPlace, put};
@@ -72,7 +74,7 @@ fn located(
 }
 
 // A location's line with the key `name`: row 2, and those of P.
-pub(crate) fn location(
+fn location(
     line: &[u8],
     ended: bool,
     name: &[u8],
@@ -98,4 +100,39 @@ pub(crate) fn location(
         nodes,
         sorts,
     )
+}
+
+// The lines by their keys.
+pub fn init(
+    line: &[u8],
+    ended: bool,
+    counts: Counts,
+    words: &mut [u32; Model::WORDS],
+    at: usize,
+    nodes: &mut [u32],
+    sorts: &mut [bool],
+) -> LineRead
+    ensures { λ r. ⌜ r ≡ locationRead (spelling Lines.init) (now (line .entry)) ended counts (now (words .entry))
+        (length (now (nodes .entry))) (length (now (sorts .entry))) at ⌝ }
+    ensures { λ _. ⌜ now (words .exit) ≡ locationAfter (spelling Lines.init) (now (line .entry)) ended counts
+        (now (words .entry)) (length (now (nodes .entry))) (length (now (sorts .entry))) at ⌝ }
+{
+    location(line, ended, b"init=", counts, words, at, nodes, sorts)
+}
+
+pub fn inv(
+    line: &[u8],
+    ended: bool,
+    counts: Counts,
+    words: &mut [u32; Model::WORDS],
+    at: usize,
+    nodes: &mut [u32],
+    sorts: &mut [bool],
+) -> LineRead
+    ensures { λ r. ⌜ r ≡ locationRead (spelling Lines.inv) (now (line .entry)) ended counts (now (words .entry))
+        (length (now (nodes .entry))) (length (now (sorts .entry))) at ⌝ }
+    ensures { λ _. ⌜ now (words .exit) ≡ locationAfter (spelling Lines.inv) (now (line .entry)) ended counts
+        (now (words .entry)) (length (now (nodes .entry))) (length (now (sorts .entry))) at ⌝ }
+{
+    location(line, ended, b"inv=", counts, words, at, nodes, sorts)
 }

@@ -1,176 +1,58 @@
--- `read` meets its contract: the key that is due decides.
-use Rattle.read_line.specs.Line.{lineRead, lineAfter}
-use Rattle.read_line.proofs.DispatchLaws.{dispatch-laws}
+-- `read` meets its contract: there is as much room as the line needs.
+use Rattle.read_line.proofs.DispatchLaws.{short-laws, middle-laws, long-laws}
 use borrow.Author.Needs.{needs}
 use Rattle.read_line.proofs.read.Statement.{statement}
 use Rattle.read_line.proofs.read.Tie as tie
 
-enum-told : tie.Need-enum-told
-enum-told c = search needs
+slice-aggregate-read-with : tie.Need-slice-aggregate-read-with
+slice-aggregate-read-with c = search needs
 
-format-requires : tie.Need-format-requires
-format-requires c κs = search needs
+slice-aggregate-read-with-2 : tie.Need-slice-aggregate-read-with-2
+slice-aggregate-read-with-2 c = search needs
 
-enum-told-2 : tie.Need-enum-told-2
-enum-told-2 c = search needs
-
-actions-requires : tie.Need-actions-requires
-actions-requires c κs = search needs
-
-enum-told-3 : tie.Need-enum-told-3
-enum-told-3 c = search needs
-
-variables-requires : tie.Need-variables-requires
-variables-requires c κs = search needs
-
-enum-told-4 : tie.Need-enum-told-4
-enum-told-4 c = search needs
-
-variable-requires : tie.Need-variable-requires
-variable-requires c κs = search needs
-
-enum-told-5 : tie.Need-enum-told-5
-enum-told-5 c = search needs
-
-automata-requires : tie.Need-automata-requires
-automata-requires c κs = search needs
-
-enum-told-6 : tie.Need-enum-told-6
-enum-told-6 c = search needs
-
-sync-requires : tie.Need-sync-requires
-sync-requires c κs = search needs
-
-enum-told-7 : tie.Need-enum-told-7
-enum-told-7 c = search needs
-
-locations-requires : tie.Need-locations-requires
-locations-requires c κs = search needs
-
-enum-told-8 : tie.Need-enum-told-8
-enum-told-8 c = search needs
-
-read-requires : tie.Need-read-requires
-read-requires c κs = search needs
-
-enum-told-9 : tie.Need-enum-told-9
-enum-told-9 c = search needs
-
-read-requires-2 : tie.Need-read-requires-2
-read-requires-2 c κs = search needs
-
-enum-told-10 : tie.Need-enum-told-10
-enum-told-10 c = search needs
-
-edges-requires : tie.Need-edges-requires
-edges-requires c κs = search needs
-
-enum-told-11 : tie.Need-enum-told-11
-enum-told-11 c = search needs
-
-read-requires-3 : tie.Need-read-requires-3
-read-requires-3 c κs = search needs
-
-enum-told-12 : tie.Need-enum-told-12
-enum-told-12 c = search needs
-
-composition-requires : tie.Need-composition-requires
-composition-requires c κs = search needs
-
-enum-told-13 : tie.Need-enum-told-13
-enum-told-13 c = search needs
+read-with-requires : tie.Need-read-with-requires
+read-with-requires c κs = search needs
 
 returns : tie.Need-returns
-unfolding lineRead lineAfter
-returns c = search (needs, dispatch-laws)
+returns c = search (needs, short-laws)
+
+slice-aggregate-read-with-3 : tie.Need-slice-aggregate-read-with-3
+slice-aggregate-read-with-3 c = search needs
+
+slice-aggregate-read-with-4 : tie.Need-slice-aggregate-read-with-4
+slice-aggregate-read-with-4 c = search needs
+
+read-with-requires-2 : tie.Need-read-with-requires-2
+read-with-requires-2 c κs = search needs
 
 returns-2 : tie.Need-returns-2
-unfolding lineRead lineAfter
-returns-2 c = search (needs, dispatch-laws)
+returns-2 c = search (needs, middle-laws)
+
+slice-aggregate-read-with-5 : tie.Need-slice-aggregate-read-with-5
+slice-aggregate-read-with-5 c = search needs
+
+slice-aggregate-read-with-6 : tie.Need-slice-aggregate-read-with-6
+slice-aggregate-read-with-6 c = search needs
+
+read-with-requires-3 : tie.Need-read-with-requires-3
+read-with-requires-3 c κs = search needs
 
 returns-3 : tie.Need-returns-3
-unfolding lineRead lineAfter
-returns-3 c = search (needs, dispatch-laws)
-
-returns-4 : tie.Need-returns-4
-unfolding lineRead lineAfter
-returns-4 c = search (needs, dispatch-laws)
-
-returns-5 : tie.Need-returns-5
-unfolding lineRead lineAfter
-returns-5 c = search (needs, dispatch-laws)
-
-returns-6 : tie.Need-returns-6
-unfolding lineRead lineAfter
-returns-6 c = search (needs, dispatch-laws)
-
-returns-7 : tie.Need-returns-7
-unfolding lineRead lineAfter
-returns-7 c = search (needs, dispatch-laws)
-
-returns-8 : tie.Need-returns-8
-unfolding lineRead lineAfter
-returns-8 c = search (needs, dispatch-laws)
-
-returns-9 : tie.Need-returns-9
-unfolding lineRead lineAfter
-returns-9 c = search (needs, dispatch-laws)
-
-returns-10 : tie.Need-returns-10
-unfolding lineRead lineAfter
-returns-10 c = search (needs, dispatch-laws)
-
-returns-11 : tie.Need-returns-11
-unfolding lineRead lineAfter
-returns-11 c = search (needs, dispatch-laws)
-
-returns-12 : tie.Need-returns-12
-unfolding lineRead lineAfter
-returns-12 c = search (needs, dispatch-laws)
-
-returns-13 : tie.Need-returns-13
-unfolding lineRead lineAfter
-returns-13 c = search (needs, dispatch-laws)
+returns-3 c = search (needs, long-laws)
 
 pub read-spec : {M : Type 1} → statement M
 read-spec =
     tie.close
     (tie.spec
-    enum-told
-    format-requires
-    enum-told-2
-    actions-requires
-    enum-told-3
-    variables-requires
-    enum-told-4
-    variable-requires
-    enum-told-5
-    automata-requires
-    enum-told-6
-    sync-requires
-    enum-told-7
-    locations-requires
-    enum-told-8
-    read-requires
-    enum-told-9
-    read-requires-2
-    enum-told-10
-    edges-requires
-    enum-told-11
-    read-requires-3
-    enum-told-12
-    composition-requires
-    enum-told-13
+    slice-aggregate-read-with
+    slice-aggregate-read-with-2
+    read-with-requires
     returns
+    slice-aggregate-read-with-3
+    slice-aggregate-read-with-4
+    read-with-requires-2
     returns-2
-    returns-3
-    returns-4
-    returns-5
-    returns-6
-    returns-7
-    returns-8
-    returns-9
-    returns-10
-    returns-11
-    returns-12
-    returns-13)
+    slice-aggregate-read-with-5
+    slice-aggregate-read-with-6
+    read-with-requires-3
+    returns-3)
