@@ -46,9 +46,9 @@
 #define SHEET_STACK_WRITE 73728
 #define SHEET_STACK_MERGE 147456
 #define SHEET_STACK_SIZE 12288
-#define SHEET_STACK_STEP 172032
+#define SHEET_STACK_STEP 147456
 #define SHEET_STACK_ENVIRONMENT 16384
-#define SHEET_STACK_RUN 172032
+#define SHEET_STACK_RUN 147456
 
 /* The parts of the 64-bit answers. */
 #define SHEET_ROW(answer) ((uint32_t)((answer) >> 32))

@@ -15,7 +15,8 @@ use Rattle.read_nodes.specs.declared.Nodes.{Nodes}
 use Rattle.read_nodes.specs.declared.Nodes.the-variants.{Are, Unsound, Full}
 use Rattle.read_nodes.specs.Nodes.{codesOf, nodesRead, nodesAfter}
 use Rattle.read_form.proofs.Outcomes.{answered-fault, answered-sound, written-fault, written-sound}
-use Rattle.read_nodes.proofs.NodesRows.{accepted, accepted-stands, room-same}
+use Rattle.read_nodes.proofs.NodesRows.{accepted, accepted-stands, after-long, room-same}
+use Rattle.read_predicate.specs.Scratch.{Scratch}
 use Rattle.read_form.specs.declared.LineRead.{LineRead}
 use Rattle.read_form.specs.declared.LineRead.the-variants.{Sound, Fault}
 use Rattle.table_append.specs.Append.{nextPlace, put}
@@ -29,6 +30,15 @@ pub predicate-by : (part : Bytes) (o : Bool) (c : Counts) (words rs : List ℕ) 
     → r ≡ nodesRead part o (c .variables) rs (c .nodes) room high → r ≡ predicateRead part o c words room high
 unfolding predicateRead
 predicate-by part o c words rs room high r e h = rw (← e) h
+
+-- lent memory that nothing was written to, and that of the nodes
+pub scratch-same : {A : Type 0} (old : List A) → Scratch old old
+scratch-same old = record { long = refl }
+
+pub scratch-after : (part : Bytes) (old new : List ℕ) → new ≡ nodesAfter part old → Scratch old new
+scratch-after part old new e = record { long = ap (length {A = ℕ}) e ∙ after-long part old }
+
+pub ruleset scratch-laws = (scratch-same, scratch-after)
 
 -- what its answer says
 module _ (part : Bytes) (o : Bool) (c : Counts) (words : List ℕ) (room high : ℕ) (r : Nodes) (k : r ≡ predicateRead part o c words room high) where

@@ -13,6 +13,7 @@ ghost use mathlib.Core.List.{_∷_};
 ghost use Prim.Native.Nat.{suc, _≤_};
 ghost use lib.ListN.{length, take};
 ghost use Rattle.model.specs.Bounds.{maxNodes};
+ghost use Rattle.read_predicate.specs.Scratch.{Scratch};
 ghost use Rattle.table_append.specs.Append.{nextPlace, put};
 ghost use Rattle.read_predicate_line.specs.Edge.{valueRead, afterValue, edgeRead, edgeAfter};
 
@@ -50,6 +51,8 @@ fn read_value(
         (length (now (sorts .entry))) at ⌝ }
     ensures { λ _. ⌜ now (words .exit) ≡ afterValue counts (now (words .entry)) (now (value .entry))
         (length (now (nodes .entry))) (length (now (sorts .entry))) at ⌝ }
+    ensures { λ _. ⌜ Scratch (now (nodes .entry)) (now (nodes .exit))
+        × Scratch (now (sorts .entry)) (now (sorts .exit)) ⌝ }
 {
     let Ends::Are(from, action, to) = read_ends(value) else {
         return LineRead::Fault(3);
@@ -81,6 +84,8 @@ pub fn edge(
         (length (now (sorts .entry))) at ⌝ }
     ensures { λ _. ⌜ now (words .exit) ≡ edgeAfter (now (line .entry)) ended counts (now (words .entry))
         (length (now (nodes .entry))) (length (now (sorts .entry))) at ⌝ }
+    ensures { λ _. ⌜ Scratch (now (nodes .entry)) (now (nodes .exit))
+        × Scratch (now (sorts .entry)) (now (sorts .exit)) ⌝ }
 {
     if read_form::misformed(line, ended, b"edge=", 4) {
         return LineRead::Fault(2);

@@ -64,6 +64,8 @@ fn located(
         (length (now (sorts .entry))) at ⌝ }
     ensures { λ _. ⌜ now (words .exit) ≡ locatedAfter counts (now (words .entry)) (now (value .entry))
         (length (now (nodes .entry))) (length (now (sorts .entry))) at ⌝ }
+    ensures { λ _. ⌜ Scratch (now (nodes .entry)) (now (nodes .exit))
+        × Scratch (now (sorts .entry)) (now (sorts .exit)) ⌝ }
 {
     let read = predicate(value, true, counts, words, nodes, sorts);
     match read {
@@ -88,6 +90,8 @@ fn location(
         (length (now (nodes .entry))) (length (now (sorts .entry))) at ⌝ }
     ensures { λ _. ⌜ now (words .exit) ≡ locationAfter (now (name .entry)) (now (line .entry)) ended counts
         (now (words .entry)) (length (now (nodes .entry))) (length (now (sorts .entry))) at ⌝ }
+    ensures { λ _. ⌜ Scratch (now (nodes .entry)) (now (nodes .exit))
+        × Scratch (now (sorts .entry)) (now (sorts .exit)) ⌝ }
 {
     if read_form::misformed(line, ended, name, 1) {
         return LineRead::Fault(2);
@@ -116,6 +120,8 @@ pub fn init(
         (length (now (nodes .entry))) (length (now (sorts .entry))) at ⌝ }
     ensures { λ _. ⌜ now (words .exit) ≡ locationAfter (spelling Lines.init) (now (line .entry)) ended counts
         (now (words .entry)) (length (now (nodes .entry))) (length (now (sorts .entry))) at ⌝ }
+    ensures { λ _. ⌜ Scratch (now (nodes .entry)) (now (nodes .exit))
+        × Scratch (now (sorts .entry)) (now (sorts .exit)) ⌝ }
 {
     location(line, ended, b"init=", counts, words, at, nodes, sorts)
 }
@@ -133,6 +139,8 @@ pub fn inv(
         (length (now (nodes .entry))) (length (now (sorts .entry))) at ⌝ }
     ensures { λ _. ⌜ now (words .exit) ≡ locationAfter (spelling Lines.inv) (now (line .entry)) ended counts
         (now (words .entry)) (length (now (nodes .entry))) (length (now (sorts .entry))) at ⌝ }
+    ensures { λ _. ⌜ Scratch (now (nodes .entry)) (now (nodes .exit))
+        × Scratch (now (sorts .entry)) (now (sorts .exit)) ⌝ }
 {
     location(line, ended, b"inv=", counts, words, at, nodes, sorts)
 }

@@ -1,5 +1,6 @@
 -- `edge` meets its contract: each way out is a law of EdgeLaws.
 use Rattle.read_predicate_line.proofs.EdgeLaws.{edge-laws}
+use Rattle.read_predicate_line.proofs.PredicateLaws.{scratch-laws}
 use borrow.Author.Needs.{needs}
 use Rattle.read_predicate_line.proofs.edges.edge.Statement.{statement}
 use Rattle.read_predicate_line.proofs.edges.edge.Tie as tie
@@ -11,7 +12,7 @@ misformed-requires : tie.Need-misformed-requires
 misformed-requires c κs = search needs
 
 returns : tie.Need-returns
-returns c = search (needs, edge-laws)
+returns c = (search (needs, edge-laws), (search (needs, edge-laws), search (needs, scratch-laws)))
 
 slice-aggregate-value : tie.Need-slice-aggregate-value
 slice-aggregate-value c = search needs
@@ -29,7 +30,7 @@ same-length-2 : tie.Need-same-length-2
 same-length-2 c = search needs
 
 returns-2 : tie.Need-returns-2
-returns-2 c = search (needs, edge-laws)
+returns-2 c = (search (needs, edge-laws), (search (needs, edge-laws), search (needs, scratch-laws)))
 
 pub edge-spec : {M : Type 1} → statement M
 edge-spec =

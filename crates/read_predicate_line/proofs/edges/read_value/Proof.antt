@@ -1,5 +1,6 @@
 -- `read_value` meets its contract: each way out is a law of EdgeLaws.
 use Rattle.read_predicate_line.proofs.EdgeLaws.{value-laws, value-astray-kept}
+use Rattle.read_predicate_line.proofs.PredicateLaws.{scratch-laws}
 use borrow.Author.Needs.{needs}
 use Rattle.read_predicate_line.proofs.edges.read_value.Statement.{statement}
 use Rattle.read_predicate_line.proofs.edges.read_value.Tie as tie
@@ -14,7 +15,7 @@ enum-told : tie.Need-enum-told
 enum-told c = search needs
 
 returns : tie.Need-returns
-returns c = search (needs, value-laws)
+returns c = (search (needs, value-laws), (search (needs, value-laws), search (needs, scratch-laws)))
 
 field-requires : tie.Need-field-requires
 field-requires c κs = search needs
@@ -35,7 +36,7 @@ same-length-2 : tie.Need-same-length-2
 same-length-2 c = search needs
 
 returns-2 : tie.Need-returns-2
-returns-2 c = (search (needs, value-laws), search (needs, value-astray-kept))
+returns-2 c = (search (needs, value-laws), (search (needs, value-astray-kept), search (needs, scratch-laws)))
 
 append-edge-requires : tie.Need-append-edge-requires
 append-edge-requires c κs = search (needs, value-laws)
@@ -53,7 +54,7 @@ same-length-4 : tie.Need-same-length-4
 same-length-4 c = search needs
 
 returns-3 : tie.Need-returns-3
-returns-3 c = search (needs, value-laws)
+returns-3 c = (search (needs, value-laws), (search (needs, value-laws), search (needs, scratch-laws)))
 
 same-length-5 : tie.Need-same-length-5
 same-length-5 c = search needs
@@ -62,7 +63,7 @@ same-length-6 : tie.Need-same-length-6
 same-length-6 c = search needs
 
 returns-4 : tie.Need-returns-4
-returns-4 c = search (needs, value-laws)
+returns-4 c = (search (needs, value-laws), (search (needs, value-laws), search (needs, scratch-laws)))
 
 same-length-7 : tie.Need-same-length-7
 same-length-7 c = search needs
@@ -71,7 +72,7 @@ same-length-8 : tie.Need-same-length-8
 same-length-8 c = search needs
 
 returns-5 : tie.Need-returns-5
-returns-5 c = (search (needs, value-laws), search (needs, value-laws))
+returns-5 c = (search (needs, value-laws), (search (needs, value-laws), search (needs, scratch-laws)))
 
 pub read-value-spec : {M : Type 1} → statement M
 read-value-spec =

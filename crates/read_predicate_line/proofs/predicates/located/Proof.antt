@@ -1,5 +1,5 @@
 -- `located` meets its contract: each way out is a law of PredicateLaws.
-use Rattle.read_predicate_line.proofs.PredicateLaws.{located-laws}
+use Rattle.read_predicate_line.proofs.PredicateLaws.{located-laws, scratch-laws}
 use borrow.Author.Needs.{needs}
 use Rattle.read_predicate_line.proofs.predicates.located.Statement.{statement}
 use Rattle.read_predicate_line.proofs.predicates.located.Tie as tie
@@ -26,7 +26,7 @@ same-length-2 : tie.Need-same-length-2
 same-length-2 c = search needs
 
 returns : tie.Need-returns
-returns c = search (needs, located-laws)
+returns c = (search (needs, located-laws), (search (needs, located-laws), search (needs, scratch-laws)))
 
 same-length-3 : tie.Need-same-length-3
 same-length-3 c = search needs
@@ -35,7 +35,7 @@ same-length-4 : tie.Need-same-length-4
 same-length-4 c = search needs
 
 returns-2 : tie.Need-returns-2
-returns-2 c = search (needs, located-laws)
+returns-2 c = (search (needs, located-laws), (search (needs, located-laws), search (needs, scratch-laws)))
 
 same-length-5 : tie.Need-same-length-5
 same-length-5 c = search needs
@@ -44,7 +44,7 @@ same-length-6 : tie.Need-same-length-6
 same-length-6 c = search needs
 
 returns-3 : tie.Need-returns-3
-returns-3 c = search (needs, located-laws)
+returns-3 c = (search (needs, located-laws), (search (needs, located-laws), search (needs, scratch-laws)))
 
 pub located-spec : {M : Type 1} → statement M
 located-spec =
