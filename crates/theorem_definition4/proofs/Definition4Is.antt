@@ -7,7 +7,7 @@ use mathlib.Core.Option.{Option, none, some}
 use mathlib.Core.Logic.{_↔_, _⊎_, inl, inr, _≢_}
 use Prim.Native.Nat.{ℕ, zero, suc, pred, _+_, _≤_, _<_}
 use native.Mathlib.Omega.{arith}
-use borrow.Author.Tests.{leb-true, le-leb, ltb-false, le-ltb}
+use borrow.Author.Tests.{leb-true, ltb-false, le-ltb}
 use lib.IntN.{pos}
 use lib.ListN.{length, length-map}
 use lib.Dec.{eqb, leb, ltb}
@@ -19,15 +19,15 @@ use Rattle.model.specs.Model.{Model, Location, Edge, Automaton, automaton, inSe
 use Rattle.model.specs.Limits.{rises, treeRises, broken, limits}
 use Rattle.model.specs.Lawful.{Lawful}
 use Rattle.model.specs.Table.{modelOf, row18, row19, unopened, opened, openTable}
-use Rattle.model.specs.Rules.{Taker}
 use Rattle.model.specs.Moves.{moves}
 use Rattle.model.specs.Linear.{pointerRange, pointer, atLocations, atAutomata, mergedInit, mergedInv, mergedEdge, mergedEdges, mergedCount, linear, row31, row32, row33, row34, mergeFault}
-use Rattle.model.proofs.Tests.{and-intro, and-left, and-right, or-cases, of-lt, lt-of, eq-of, of-eq}
-use Rattle.model.proofs.Lists.{keep-in, keep-out, keep-first, keep-skip}
+use Rattle.model.proofs.Tests.{and-left, and-right, or-cases, lt-of, eq-of, eq-self, of-eq, exists-intro, exists-elim}
+use Rattle.model.proofs.Lists.{keep-in, keep-out}
 use Rattle.model.proofs.Bits.{rises-cons}
 use Rattle.model.proofs.Parsing.{none-some, got}
 use Rattle.model.proofs.TableLaws.{model-given, opened-model}
 use Rattle.model.proofs.LimitsLaws.{lawful-is}
+use Rattle.model.proofs.Numbered.{Numbered, numbered, size-is}
 use Rattle.model.proofs.Merged.{automaton-at}
 use Rattle.model.proofs.Count.{count-is}
 use Rattle.model.proofs.LinearLimits.{linear-limited, keep-rises}
@@ -38,9 +38,10 @@ use Rattle.format.specs.Writer.{row35}
 use Rattle.format.specs.Merger.{unmerged, merged, mergeModel, mergeAnswer}
 use Rattle.format.proofs.Given.{reader-exact}
 use Rattle.format.proofs.TextRuns.{no-merge}
-use Rattle.theorem_definition4.specs.Table3.{Transition, rule-17, rule-18-left, rule-18-right, rule-19, rule-21}
-use Rattle.theorem_definition4.specs.Definition4.{pointerTo, choices, clauses, Fresh, IsLinearization, breaks, firstRow}
-use Rattle.theorem_definition4.proofs.Table3Is.{transitions-are, valuesOf, leads-are}
+use Rattle.theorem_definition4.specs.Table3.{Position, Transition, rule-17, rule-18-left, rule-18-right, rule-19, rule-21}
+use Rattle.theorem_definition4.specs.Definition4.{pointerTo, choices, clauses, edgeFor, Fresh, IsLinearization, breaks, firstRow}
+use Rattle.theorem_definition4.proofs.Positions.{positions, positions-length, edge-is}
+use Rattle.theorem_definition4.proofs.Table3Is.{wilds-to, setOf, syncs-to, syncs-are, labels-own, transitions-are, valuesOf, leads-are}
 
 -- init and inv: the clauses of the automata's functions
 module _ (m : Model) (part : Location → Pred) where
@@ -71,7 +72,7 @@ fresh-is m lawful = record {
 }
 
 -- the numbers that are counted up
-counted-in : (a n count : ℕ) → n ≤ a → a < n + count → List·Memᴰ a (countUp n count)
+pub counted-in : (a n count : ℕ) → n ≤ a → a < n + count → List·Memᴰ a (countUp n count)
 unfolding countUp
 counted-in a n zero l h = absurd (omega arith)
 counted-in a n (suc count) l h = go (eqb a n) refl (λ i. counted-in a (suc n) count i (omega arith))
@@ -84,7 +85,7 @@ counted-in a n (suc count) l h = go (eqb a n) refl (λ i. counted-in a (suc n) c
 
 -- the items of a joined list of lists
 module _ {A B : Type 0} (f : A → List B) where
-  joined-in : {x : A} {y : B} {l : List A} → List·Memᴰ x l → List·Memᴰ y (f x) → List·Memᴰ y (flatMap f l)
+  pub joined-in : {x : A} {y : B} {l : List A} → List·Memᴰ x l → List·Memᴰ y (f x) → List·Memᴰ y (flatMap f l)
   unfolding flatMap
   joined-in {y = y} (List·Memᴰ·head {xs = l} e) h = Memᴰ·append-left (flatMap f l) (subst (λ z. List·Memᴰ y (f z)) e h)
   joined-in (List·Memᴰ·tail {x = z} i) h = Memᴰ·append-right (f z) (joined-in i h)
@@ -99,33 +100,42 @@ module _ {A B : Type 0} (f : A → List B) where
       go ih (inr i) = ih i
 
 -- row 12: a transition's action is one of the model's
-pub transition-bounded : (m : Model) → Lawful m → (a : ℕ) {c : Tree} {x : List Taker} → Transition m a c x → a ≤ m .actions
+pub transition-bounded : (m : Model) → Lawful m → (a : ℕ) {c : Tree} {vs : List Position} {r : List Pred} {vs' : List Position} → Transition m a c vs r vs' → a ≤ m .actions
 transition-bounded m lawful a (rule-17 {k = k} {e = e} i q) =
     subst (λ (b : ℕ). b ≤ m .actions) q
     (automaton-at m lawful (λ x. List·Memᴰ e (x .edges) → e .action ≤ m .actions) (λ j. absurd (List·Memᴰ·not-nil j)) (λ x h j. h .edges e j .action) k i)
-transition-bounded m lawful a (rule-18-left t i) = transition-bounded m lawful a t
-transition-bounded m lawful a (rule-18-right t i) = transition-bounded m lawful a t
-transition-bounded m lawful a (rule-19 t u i j) = transition-bounded m lawful a t
+transition-bounded m lawful a (rule-18-left t s w i) = transition-bounded m lawful a t
+transition-bounded m lawful a (rule-18-right t s w i) = transition-bounded m lawful a t
+transition-bounded m lawful a (rule-19 t u s z i j) = transition-bounded m lawful a t
 transition-bounded m lawful a (rule-21 t) = transition-bounded m lawful a t
 
 -- E: the merged edges are those of the transitions
-edges-are : (m : Model) → Lawful m → (e : Edge) → List·Memᴰ e (mergedEdges m) ↔ ((a : ℕ) × (x : List Taker) × Transition m a (m .tree) x × (e ≡ mergedEdge m a x))
+edges-are : (m : Model) → Lawful m → (e : Edge) → List·Memᴰ e (mergedEdges m)
+    ↔ ((a : ℕ) × (vs : List Position) × (r : List Pred) × (vs' : List Position) × Transition m a (m .tree) vs r vs' × (e ≡ edgeFor (length (m .variables)) a vs r vs'))
 unfolding mergedEdges
 edges-are m lawful e = (there, back)
   where
     edgesOf : ℕ → List Edge
     edgesOf a = map (mergedEdge m a) (moves m a (m .tree))
 
-    there : List·Memᴰ e (flatMap edgesOf (countUp 0 (suc (m .actions)))) → (a : ℕ) × (x : List Taker) × Transition m a (m .tree) x × (e ≡ mergedEdge m a x)
-    there h =
-        let r = joined-out edgesOf (countUp 0 (suc (m .actions))) h in
-        let q = Memᴰ·of-map (mergedEdge m (r .0)) (moves m (r .0) (m .tree)) (r .1) in
-        (r .0, q .0, transitions-are m (r .0) (m .tree) (q .0) .1 (q .1), sym (q .2))
+    in-order : Numbered 0 (m .tree)
+    in-order = numbered (m .tree) (length (m .automata)) (lawful .tree .in-order)
 
-    back : (a : ℕ) × (x : List Taker) × Transition m a (m .tree) x × (e ≡ mergedEdge m a x) → List·Memᴰ e (flatMap edgesOf (countUp 0 (suc (m .actions))))
-    back (a, x, t, q) =
+    there : List·Memᴰ e (flatMap edgesOf (countUp 0 (suc (m .actions))))
+        → (a : ℕ) × (vs : List Position) × (r : List Pred) × (vs' : List Position) × Transition m a (m .tree) vs r vs' × (e ≡ edgeFor (length (m .variables)) a vs r vs')
+    there h =
+        let (a, i) = joined-out edgesOf (countUp 0 (suc (m .actions))) h in
+        let (takers, listed, same) = Memᴰ·of-map (mergedEdge m a) (moves m a (m .tree)) i in
+        let labels = labels-own (m .tree) takers in
+        (a, _, _, _, transitions-are m a (m .tree) 0 in-order _ _ _ .1 (record { takers = takers; listed = listed; labels = labels }), sym (edge-is m a (m .tree) in-order listed labels ∙ same))
+
+    back : (a : ℕ) × (vs : List Position) × (r : List Pred) × (vs' : List Position) × Transition m a (m .tree) vs r vs' × (e ≡ edgeFor (length (m .variables)) a vs r vs')
+        → List·Memᴰ e (flatMap edgesOf (countUp 0 (suc (m .actions))))
+    back (a, vs, r, vs', t, q) =
         let l = transition-bounded m lawful a t in
-        joined-in edgesOf (counted-in a 0 (suc (m .actions)) (omega arith) (omega arith)) (Memᴰ·cast q (Memᴰ·map (mergedEdge m a) (transitions-are m a (m .tree) x .0 t)))
+        let x = transitions-are m a (m .tree) 0 in-order vs r vs' .0 t in
+        joined-in edgesOf (counted-in a 0 (suc (m .actions)) (omega arith) (omega arith))
+        (Memᴰ·cast (q ∙ edge-is m a (m .tree) in-order (x .listed) (x .labels)) (Memᴰ·map (mergedEdge m a) (x .listed)))
 
 -- row 5: what a rising list holds
 pub rises-in : (A last : ℕ) (ks : List ℕ) → rises A last ks ≡ true → (a : ℕ) → member a ks ≡ true → (last < a) × (a ≤ A)
@@ -141,6 +151,15 @@ rises-in A last (k ∷ ks) r a h =
     go : last < k → k ≤ A → (member a ks ≡ true → (k < a) × (a ≤ A)) → (eqb a k ≡ true) ⊎ (member a ks ≡ true) → (last < a) × (a ≤ A)
     go low high ih (inl e) = let q = eq-of a k e in (omega arith, omega arith)
     go low high ih (inr i) = let q = ih i in let p = q .0 in (omega arith, q .1)
+
+-- the members of a list
+in-member : (a : ℕ) {ks : List ℕ} → List·Memᴰ a ks → member a ks ≡ true
+unfolding member
+in-member a h = exists-intro (eqb a) h (eq-self a)
+
+member-in : (a : ℕ) (ks : List ℕ) → member a ks ≡ true → List·Memᴰ a ks
+unfolding member
+member-in a ks h = let (b, i, e) = exists-elim (eqb a) ks h in Memᴰ·cast (eq-of a b e) i
 
 -- so a composition's set holds actions of 1 to A only
 set-bounded : (m : Model) → Lawful m → (a : ℕ) (c : Tree) → treeRises (m .actions) c ≡ true → inSet m a c ≡ true → (0 < a) × (a ≤ m .actions)
@@ -159,11 +178,18 @@ set-bounded m lawful a (leaf k) r h =
     automaton-at m lawful (λ x. member a (x .sync) ≡ true → (0 < a) × (a ≤ m .actions)) (λ i. unfold member exists in absurd (true≢false (sym i))) (λ x p i. rises-in (m .actions) 0 (x .sync) (p .sync) a i) k h
 
 -- act_S: the merged set is the composition's, and rises
-sync-is : (m : Model) → Lawful m → (a : ℕ) → List·Memᴰ a (keep (λ b. inSet m b (m .tree)) (countUp 1 (m .actions))) ↔ (inSet m a (m .tree) ≡ true)
-sync-is m lawful a = (λ h. keep-out (λ b. inSet m b (m .tree)) (countUp 1 (m .actions)) h .1, back)
+sync-is : (m : Model) → Lawful m → (a : ℕ) → List·Memᴰ a (keep (λ b. inSet m b (m .tree)) (countUp 1 (m .actions))) ↔ List·Memᴰ a (setOf m (m .tree))
+sync-is m lawful a = (there, back)
   where
-    back : inSet m a (m .tree) ≡ true → List·Memᴰ a (keep (λ b. inSet m b (m .tree)) (countUp 1 (m .actions)))
-    back i =
+    its-set : member a (setOf m (m .tree)) ≡ inSet m a (m .tree)
+    its-set = syncs-are m a (syncs-to m (m .tree))
+
+    there : List·Memᴰ a (keep (λ b. inSet m b (m .tree)) (countUp 1 (m .actions))) → List·Memᴰ a (setOf m (m .tree))
+    there h = member-in a (setOf m (m .tree)) (its-set ∙ keep-out (λ b. inSet m b (m .tree)) (countUp 1 (m .actions)) h .1)
+
+    back : List·Memᴰ a (setOf m (m .tree)) → List·Memᴰ a (keep (λ b. inSet m b (m .tree)) (countUp 1 (m .actions)))
+    back h =
+        let i : inSet m a (m .tree) ≡ true = sym its-set ∙ in-member a h in
         let q = set-bounded m lawful a (m .tree) (lawful .tree .lists) i in
         let low = q .0 in
         let high = q .1 in
@@ -173,10 +199,17 @@ sync-is m lawful a = (λ h. keep-out (λ b. inSet m b (m .tree)) (countUp 1 (m .
 pub linear-is : (m : Model) → Lawful m → IsLinearization m (linear m)
 unfolding linear mergedInit mergedInv
 linear-is m lawful = record {
+  xs = positions (λ e. e .from) (m .tree) [];
   fs = map (valuesOf (λ l. l .init)) (m .automata);
   gs = map (valuesOf (λ l. l .inv)) (m .automata);
+  A = setOf m (m .tree);
+  leads-xs = wilds-to (λ e. e .from) (m .tree);
   leads-fs = leads-are m (λ l. l .init) lawful;
   leads-gs = leads-are m (λ l. l .inv) lawful;
+  leads-A = syncs-to m (m .tree);
+  as-many =
+      length-map (m .automata) (valuesOf (λ l. l .init)) ∙ sym (size-is (m .tree) (length (m .automata)) (lawful .tree .in-order))
+      ∙ sym (positions-length (λ e. e .from) (m .tree) []);
   format = refl;
   actions = refl;
   variables = ap (λ rs. m .variables ++ rs) (sym (pointers-are (λ l. l .init) (m .automata)));

@@ -16,7 +16,7 @@ use Rattle.model.specs.Linear.{linear}
 use Rattle.model.proofs.Tests.{and-right, eq-self, exists-intro}
 use Rattle.model.proofs.Bits.{rises-cons}
 use Rattle.theorem_definition4.specs.Definition4.{pointerTo, clauses, IsLinearization}
-use Rattle.theorem_definition4.proofs.Table3Is.{leads-one}
+use Rattle.theorem_definition4.proofs.Table3Is.{leads-one, syncs-one}
 use Rattle.theorem_definition4.proofs.Definition4Is.{rises-in, linear-is}
 
 -- a list that rises from above `last` holds only what is above
@@ -80,6 +80,7 @@ pub linearizations-same : (m l k : Model) → IsLinearization m l → IsLineariz
 linearizations-same m l k p q =
     let same-fs : p .fs ≡ q .fs = leads-one m (λ x. x .init) (m .tree) (p .fs) (q .fs) (p .leads-fs) (q .leads-fs) in
     let same-gs : p .gs ≡ q .gs = leads-one m (λ x. x .inv) (m .tree) (p .gs) (q .gs) (p .leads-gs) (q .leads-gs) in
+    let same-A : p .A ≡ q .A = syncs-one m (p .leads-A) (q .leads-A) in
     let init = p .init ∙ ap (λ fs. all (preds (clauses (length (m .variables)) 0 fs))) same-fs ∙ sym (q .init) in
     let inv = p .inv ∙ ap (λ gs. all (preds (clauses (length (m .variables)) 0 gs))) same-gs ∙ sym (q .inv) in
     record {
@@ -91,7 +92,9 @@ linearizations-same m l k p q =
       other = q .automaton;
       first-automata = p .automata;
       other-automata = q .automata;
-      sync = rising-same (m .actions) 0 (p .automaton .sync) (q .automaton .sync) (p .rising) (q .rising) (λ a i. q .sync a .1 (p .sync a .0 i)) (λ a i. p .sync a .1 (q .sync a .0 i));
+      sync =
+          rising-same (m .actions) 0 (p .automaton .sync) (q .automaton .sync) (p .rising) (q .rising)
+          (λ a i. q .sync a .1 (subst (List·Memᴰ a) same-A (p .sync a .0 i))) (λ a i. p .sync a .1 (subst (List·Memᴰ a) (sym same-A) (q .sync a .0 i)));
       locations = p .locations ∙ ap (λ x. x ∷ []) (location-same (p .x) (q .x) init inv) ∙ sym (q .locations);
       edges = λ e. (λ i. q .edges e .1 (p .edges e .0 i), λ i. p .edges e .1 (q .edges e .0 i));
     }

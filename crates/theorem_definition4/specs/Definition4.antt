@@ -8,30 +8,43 @@ use mathlib.Core.Logic.{_↔_}
 use Prim.Native.Nat.{ℕ, suc, pred, _+_}
 use lib.IntN.{pos}
 use lib.ListN.{length}
-use Rattle.model.specs.Predicate.{Pred, all, imp, eq, num, old, preds, words, namesOutside, Range, range}
+use Rattle.model.specs.Predicate.{Pred, all, imp, eq, num, old, new, preds, words, namesOutside, Range, range}
 use Rattle.model.specs.Composition.{leaf}
-use Rattle.model.specs.Model.{Model, Location, Edge, Automaton, inSet}
+use Rattle.model.specs.Model.{Model, Location, Edge, Automaton}
 use Rattle.model.specs.Limits.{rises, broken}
 use Rattle.model.specs.Table.{modelOf, row18, row19}
-use Rattle.model.specs.Rules.{Taker}
-use Rattle.model.specs.Linear.{linear, mergedEdge, row31, row32, row33, row34}
+use Rattle.model.specs.Linear.{linear, row31, row32, row33, row34}
 use Rattle.format.specs.Spelling.{textOf}
 use Rattle.format.specs.Writer.{row35}
-use Rattle.theorem_definition4.specs.Table3.{Leads, Transition}
+use Rattle.theorem_definition4.specs.Table3.{Position, wild, at, WildCards, Leads, Syncs, Transition}
 
 -- ls.i ∈ dom(fs.i): the locations of the i-th automaton are 0 to L-1
 unfoldable pub pointerTo : List Pred → Range
 pointerTo f = range (pos 0) (pos (pred (length f)))
 
--- ls.i = v ⇒ fs.i(v), for each v in dom(fs.i) from j on, where ls.i is variable `at`
-unfoldable pub choices : (at j : ℕ) → List Pred → List Pred
-choices at j [] = []
-choices at j (p ∷ ps) = imp (eq (old at) (num (pos j))) p ∷ choices at (suc j) ps
+-- ls.i = v ⇒ fs.i(v), for each v in dom(fs.i) from j on, where ls.i is variable k
+unfoldable pub choices : (k j : ℕ) → List Pred → List Pred
+choices k j [] = []
+choices k j (p ∷ ps) = imp (eq (old k) (num (pos j))) p ∷ choices k (suc j) ps
 
 -- the same for each i, from i on, where ls.0 is variable v
 unfoldable pub clauses : (v i : ℕ) → List (List Pred) → List Pred
 clauses v i [] = []
 clauses v i (f ∷ fs) = choices (v + i) 0 f ++ clauses v (suc i) fs
+
+-- ls.i = vs.i ∧ ls.i⁺ = vs'.i, for each i with vs.i other than the wild-card, from i on
+unfoldable pub pointed : (v i : ℕ) (vs vs' : List Position) → List Pred
+pointed v i (at l ∷ vs) (at l' ∷ vs') =
+    eq (old (v + i)) (num (pos l)) ∷ eq (new (v + i)) (num (pos l')) ∷ pointed v (suc i) vs vs'
+pointed v i (at l ∷ vs) (wild ∷ vs') = pointed v (suc i) vs vs'
+pointed v i (wild ∷ vs) (l' ∷ vs') = pointed v (suc i) vs vs'
+pointed v i (l ∷ vs) [] = []
+pointed v i [] vs' = []
+
+-- (x, a, r ∧ .., x), where x is location 0
+unfoldable pub edgeFor : (v a : ℕ) (vs : List Position) (r : List Pred) (vs' : List Position) → Edge
+edgeFor v a vs r vs' =
+    record { from = 0; action = a; to = 0; update = all (preds (r ++ pointed v 0 vs vs')) }
 
 -- ls.i ∉ FV(p): no predicate names a variable from number V on
 pub record Unnamed (m : Model) (p : Pred) : Type 0 where
@@ -47,13 +60,18 @@ pub record Fresh (m : Model) : Type 0 where
 
 -- L(p) = (({x}, init, inv, E, act_S), ls), where p is the composition of m: l is this automaton, as a sheet.
 pub record IsLinearization (m l : Model) : Type 0 where
-  -- p leads to fs (ipred) and to gs (inv)
+  -- p leads to xs (#), to fs (ipred), to gs (inv) and to A (sync); n is the length of xs, and so of fs
+  pub xs : List Position
   pub fs : List (List Pred)
   pub gs : List (List Pred)
+  pub A : List ℕ
+  pub leads-xs : WildCards (m .tree) xs
   pub leads-fs : Leads m (λ x. x .init) (m .tree) fs
   pub leads-gs : Leads m (λ x. x .inv) (m .tree) gs
+  pub leads-A : Syncs m (m .tree) A
+  pub as-many : length fs ≡ length xs
   -- a sheet declares its format, its actions and its variables: the composition's, and behind these the pointers ls,
-  -- one for each of fs, and none of them in FV(p)
+  -- n of them, and none of them in FV(p)
   pub format : l .format ≡ m .format
   pub actions : l .actions ≡ m .actions
   pub variables : l .variables ≡ m .variables ++ map pointerTo fs
@@ -68,13 +86,14 @@ pub record IsLinearization (m l : Model) : Type 0 where
   pub init : x .init ≡ all (preds (clauses (length (m .variables)) 0 fs))
   -- inv(x)
   pub inv : x .inv ≡ all (preds (clauses (length (m .variables)) 0 gs))
-  -- E: an edge from x to x for each transition, whose update is r and the pointers' moves. Where the format departs: E
-  -- is a list, in which an edge may stand again.
+  -- E: an edge from x to x for each transition. Where the format departs: E is a list, in which an edge may stand
+  -- again.
   pub edges : (e : Edge)
       → List·Memᴰ e (automaton .edges)
-      ↔ ((a : ℕ) × (takers : List Taker) × Transition m a (m .tree) takers × (e ≡ mergedEdge m a takers))
-  -- act_S is the A that p leads to (sync); a sheet's list of it rises, from 1 or more up to the highest action
-  pub sync : (a : ℕ) → List·Memᴰ a (automaton .sync) ↔ (inSet m a (m .tree) ≡ true)
+      ↔ ((a : ℕ) × (vs : List Position) × (r : List Pred) × (vs' : List Position)
+      × Transition m a (m .tree) vs r vs' × (e ≡ edgeFor (length (m .variables)) a vs r vs'))
+  -- act_S is A; a sheet's list of it rises, from 1 or more up to the highest action
+  pub sync : (a : ℕ) → List·Memᴰ a (automaton .sync) ↔ List·Memᴰ a A
   pub rising : rises (m .actions) 0 (automaton .sync) ≡ true
 
 -- does the model of a table break a row? A table without a model breaks row 19 before.

@@ -96,7 +96,7 @@ merged-text m limited u = record {
   automaton =
       record { sync = keep (λ a. inSet m a (m .tree)) (countUp 1 (m .actions)); locations = record { init = mergedInit m; inv = mergedInv m } ∷ []; edges = mergedEdges m };
   one = refl;
-  in-order = merged-in-order m;
+  in-order = merged-in-order m (lawful-is m .0 limited);
   counted = refl;
 }
 
@@ -196,7 +196,7 @@ one-merged m text text' edges edges' i j =
     let s = linearizations-same m (i .sheet) (j .sheet) (i .definition-4) (j .definition-4) in
     let p : i .automaton ≡ s .one = head-eq-of-cons-eq (sym (i .one) ∙ s .first-automata) in
     let q : j .automaton ≡ s .other = head-eq-of-cons-eq (sym (j .one) ∙ s .other-automata) in
-    let e : i .automaton .edges ≡ j .automaton .edges = edges-in-order m _ (i .in-order) ∙ sym (edges-in-order m _ (j .in-order)) in
+    let e : i .automaton .edges ≡ j .automaton .edges = edges-in-order m _ _ (i .in-order) (j .in-order) in
     let a : i .automaton ≡ j .automaton = automaton-same _ _
     (ap (λ (x : Automaton). x .sync) p ∙ s .sync ∙ ap (λ (x : Automaton). x .sync) (sym q))
     (ap (λ (x : Automaton). x .locations) p ∙ s .locations ∙ ap (λ (x : Automaton). x .locations) (sym q))
