@@ -44,7 +44,7 @@
  * sheets that could be made, and rounded up; rust/hemdoqur/tests/stack.rs holds the archive to them. */
 #define SHEET_STACK_READ 229376
 #define SHEET_STACK_WRITE 73728
-#define SHEET_STACK_MERGE 147456
+#define SHEET_STACK_MERGE 204800
 #define SHEET_STACK_SIZE 12288
 #define SHEET_STACK_STEP 147456
 #define SHEET_STACK_ENVIRONMENT 16384

@@ -1,28 +1,23 @@
--- The words of all merged edges: for each action its moves, one after the other.
-use mathlib.Core.List.{List, [], _++_}
-use Prim.Native.Nat.{ℕ, zero, suc, _+_}
-use Rattle.table_places.specs.declared.layout.Layout.{Layout}
-use Rattle.merge_takers.specs.Taking.{takers}
+-- The words of all merged edges, from a list that has sixteen places for each: where the edges stand that the automata
+-- take, 0 for an automaton that takes none.
+use mathlib.Core.Bool.{true, false}
+use mathlib.Core.List.{List, [], _∷_, _++_}
+use Prim.Native.Nat.{ℕ, zero, suc}
+use lib.Dec.{eqb}
+use Rattle.table_places.specs.Outline.{reach, edgeAction}
+use Rattle.merge_append.specs.Runs.{run}
 use Rattle.merge_edges.specs.Edge.{edgeBy}
-use Rattle.merge_takers.specs.Moves.{cellsOf, moveTotal, picksOf, lastAction}
 
-module _ (t : List ℕ) (x : Layout) where
-  -- the edge that these picks name
-  unfoldable pub edgeWordsAt : (action : ℕ) (picks : List ℕ) → List ℕ
-  edgeWordsAt action picks = edgeBy t (x .variables) action (takers t x action picks)
+-- the action of a merged edge is that of its first taker's edge
+unfoldable pub actionAt : (t places : List ℕ) → ℕ
+actionAt t [] = 0
+actionAt t (p ∷ ps) = elim (eqb p 0) [ true ↦ actionAt t ps | false ↦ edgeAction t p ]
 
-  -- the edges of n moves from move k on
-  unfoldable pub edgesFrom : (cells : List ℕ) (action k n : ℕ) → List ℕ
-  edgesFrom cells action k zero = []
-  edgesFrom cells action k (suc n) = edgeWordsAt action (picksOf t x cells k) ++ edgesFrom cells action (k + 1) n
+-- the words of the merged edge of these takers, with pointers after v variables
+unfoldable pub edgeOf : (t : List ℕ) (v : ℕ) (places : List ℕ) → List ℕ
+edgeOf t v places = edgeBy t v (actionAt t places) places
 
-  -- the edges of an action; of n actions, from one on; of all
-  unfoldable pub edgesUnder : (own : List ℕ) (action : ℕ) → List ℕ
-  edgesUnder own action = edgesFrom (cellsOf t x own action) action 0 (moveTotal t x own action)
-
-  unfoldable pub edgesOf : (own : List ℕ) (action n : ℕ) → List ℕ
-  edgesOf own action zero = []
-  edgesOf own action (suc n) = edgesUnder own action ++ edgesOf own (action + 1) n
-
-  unfoldable pub edgesIn : (own : List ℕ) → List ℕ
-  edgesIn own = edgesOf own 0 (lastAction x + 1)
+-- of n merged edges, whose takers stand in a list from a place on
+unfoldable pub edgesFrom : (t : List ℕ) (v : ℕ) (list : List ℕ) (at n : ℕ) → List ℕ
+edgesFrom t v list at zero = []
+edgesFrom t v list at (suc n) = edgeOf t v (run list at 16) ++ edgesFrom t v list (reach list at 16) n

@@ -1,85 +1,60 @@
-// The words of all merged edges: for each action its moves, one after the other.
+// The words of all merged edges, from the list of their takers: sixteen places for each merged edge.
 use crate::edge::{self};
 use model::Model;
-use table_places::Layout;
+ghost use mathlib.Core.Path.{_≡_};
 ghost use Rattle.merge_append.specs.Append.{Appended};
-ghost use Rattle.merge_edges.specs.Edges.{edgeWordsAt, edgesFrom, edgesUnder, edgesIn};
-ghost use Rattle.merge_takers.specs.Moves.{picksOf};
+ghost use Rattle.merge_edges.specs.Edges.{actionAt, edgeOf, edgesFrom};
 
-// One merged edge: move k of the planned action.
+// The action of the first taker's edge; 0 if there is no taker.
+fn action_of(t: &[u32], places: [usize; 16]) -> usize
+    ensures { λ r. ⌜ r ≡ actionAt (now (t .entry)) places ⌝ }
+{
+    let mut i = 0;
+    while i < 16 {
+        let place = places[i];
+        if place != 0 {
+            return table_places::edge_action(t, place);
+        }
+        i += 1;
+    }
+    0
+}
+
+// The merged edge of these takers, with pointers after so many variables.
 fn edge(
     t: &[u32],
-    x: Layout,
-    action: usize,
-    cells: &[u32; 192],
-    k: u32,
+    variables: usize,
+    places: [usize; 16],
     out: &mut [u32; Model::WORDS],
     at: usize,
 ) -> usize
-    ensures { λ r. ⌜ Appended
-        (edgeWordsAt (now (t .entry)) x action (picksOf (now (t .entry)) x (now (cells .entry)) k))
+    ensures { λ r. ⌜ Appended (edgeOf (now (t .entry)) variables places)
         at (now (out .entry)) (now (out .exit)) r ⌝ }
 {
-    let places = merge_takers::places_of(t, x, action, cells, k);
-    edge::edge(t, x.variables, action, places, out, at)
+    let action = action_of(t, places);
+    edge::edge(t, variables, action, places, out, at)
 }
 
-// The first `count` moves of the planned action.
-fn edges(
-    t: &[u32],
-    x: Layout,
-    action: usize,
-    cells: &[u32; 192],
-    count: u32,
-    out: &mut [u32; Model::WORDS],
-    at: usize,
-) -> usize
-    ensures { λ r. ⌜ Appended (edgesFrom (now (t .entry)) x (now (cells .entry)) action 0 count)
-        at (now (out .entry)) (now (out .exit)) r ⌝ }
-{
-    let mut k = 0;
-    let mut next = at;
-    while k < count {
-        next = edge(t, x, action, cells, k, out, next);
-        k += 1;
-    }
-    next
-}
-
-// The edges of an action.
-fn action_edges(
-    t: &[u32],
-    x: Layout,
-    own: &[u64; 16],
-    action: u32,
-    out: &mut [u32; Model::WORDS],
-    at: usize,
-) -> usize
-    ensures { λ r. ⌜ Appended (edgesUnder (now (t .entry)) x (now (own .entry)) action)
-        at (now (out .entry)) (now (out .exit)) r ⌝ }
-{
-    let p = merge_takers::plan(t, x, own, action);
-    let cells = p.cells;
-    edges(t, x, arithmetic::index(action), &cells, p.count, out, at)
-}
-
-// The edges of all actions.
+// The merged edges whose takers are the first `count` of the list, after so many variables.
 pub fn all_edges(
     t: &[u32],
-    x: Layout,
-    own: &[u64; 16],
+    variables: usize,
+    list: &[u32; Model::WORDS],
+    count: usize,
     out: &mut [u32; Model::WORDS],
     at: usize,
 ) -> usize
-    ensures { λ r. ⌜ Appended (edgesIn (now (t .entry)) x (now (own .entry)))
+    ensures { λ r. ⌜ Appended (edgesFrom (now (t .entry)) variables (now (list .entry)) 0 count)
         at (now (out .entry)) (now (out .exit)) r ⌝ }
 {
-    let last = merge_takers::last_action(x);
-    let mut action = 0;
+    let mut left = count;
+    let mut place = 0;
     let mut next = at;
-    while action <= last {
-        next = action_edges(t, x, own, action, out, next);
-        action += 1;
+    while left != 0 {
+        let places = merge_takers::places_at(list, place);
+        next = edge(t, variables, places, out, next);
+        place = table_places::step(list, place, 16);
+        left -= 1;
     }
     next
 }

@@ -1,5 +1,5 @@
-// The merged edges of Definition 4: for each action its moves, one after the other. How deep and how large their
-// updates are, and their words.
+// The merged edges of Definition 4, from the list of their takers: how deep and how large their updates are, and their
+// words.
 mod edge;
 mod edges;
 

@@ -12,13 +12,10 @@ use Rattle.node_words.specs.declared.Node.{Node}
 use Rattle.node_words.specs.declared.Node.the-variants.{All, Any, Not, Imp, Eq, Le, Number, Old, New, Add, Sub, Mul, If, Stray}
 use Rattle.node_words.specs.Nodes.{meant, nodeOf}
 use Rattle.node_words.proofs.NodeLaws.{word-by, Other, by-others}
-use Rattle.table_places.specs.declared.layout.Layout.{Layout}
-use Rattle.table_places.specs.Outline.{reach, nodesPlace, afterPredicate, locationCount, firstLocation}
-use Rattle.table_places.specs.Layout.{automataOf}
+use Rattle.table_places.specs.Outline.{reach, nodesPlace}
 use Rattle.merge_predicates.specs.declared.depth.Depth.{Depth}
 use Rattle.merge_append.specs.NodeWords.{capped}
-use Rattle.merge_predicates.specs.Clauses.{partAt}
-use Rattle.merge_predicates.specs.Depths.{arity, operandsOf, depthTo, greater, deepest, depthAt, isDeeper, locationsDeeper, automataDeeper, mergedDeep}
+use Rattle.merge_predicates.specs.Depths.{arity, operandsOf, depthTo, greater, deepest, depthAt, isDeeper, valuesDeeper}
 
 -- `operands_of`
 abbrev not-two : List Node
@@ -119,58 +116,27 @@ pub deeper-is : (t : List ℕ) (most at s : ℕ) (d : Depth) → s ≡ nodesPlac
 unfolding isDeeper
 deeper-is t most at s d e f = rw (f, e)
 
--- `locations_deeper`
-module _ (t : List ℕ) (inv : Bool) (most left place : ℕ) (whole : Bool) (i : locationsDeeper t inv most left place ≡ whole) where
-  pub locations-none : left ≡ 0 → false ≡ whole
-  unfolding locationsDeeper
-  locations-none z = rw z at i
-
-  module _ (y : left ≡ 0 → ⊥) (part : ℕ) (b : Bool) (ep : part ≡ partAt t inv place) (eb : b ≡ isDeeper t most part) where
-    split : (n : ℕ) → (n ≡ 0 → ⊥) → locationsDeeper t inv most n place ≡ whole → (b || locationsDeeper t inv most (n - 1) (afterPredicate t (afterPredicate t place))) ≡ whole
-    unfolding locationsDeeper
-    split zero z j = absurd (z refl)
-    split (suc n) z j = rw (sub-one (suc n), eb, ep) j
-
-    pub locations-deep : b ≡ true → true ≡ whole
-    locations-deep h = rw h at (split left y i)
-
-    pub locations-on : b ≡ false → (c d : ℕ) → c ≡ afterPredicate t place → d ≡ afterPredicate t c → locationsDeeper t inv most (left - 1) d ≡ whole
-    locations-on h c d ec ed = rw (ed, ec) (rw h at (split left y i))
-
-pub ruleset locations-deeper-laws = (locations-none, locations-deep, locations-on)
-
--- `automata_deeper`
-pub automata-begun : (t : List ℕ) (inv : Bool) (most : ℕ) (places : List ℕ) (count : ℕ) → automataDeeper t inv most places 0 (count - 0) ≡ automataDeeper t inv most places 0 count
-automata-begun t inv most places count = let z : count - 0 ≡ count = omega arith in ap (automataDeeper t inv most places 0) z
-
-module _ (t : List ℕ) (inv : Bool) (most : ℕ) (places : List ℕ) (i count : ℕ) (u : automataDeeper t inv most places i (count - i) ≡ automataDeeper t inv most places 0 count) where
-  whole-is : (x : Layout) → places ≡ x .sets → count ≡ automataOf x → automataDeeper t inv most places 0 count ≡ automataDeeper t inv most (x .sets) 0 (automataOf x)
-  whole-is x es ec = ap₂ (λ (ps : List ℕ) (n : ℕ). automataDeeper t inv most ps 0 n) es ec
-
-  pub automata-none : count ≤ i → (x : Layout) → places ≡ x .sets → count ≡ automataOf x → false ≡ automataDeeper t inv most (x .sets) 0 (automataOf x)
-  unfolding automataDeeper
-  automata-none h x es ec =
-      let n : count - i ≡ 0 = omega arith in
-      sym (ap (automataDeeper t inv most places i) n) ∙ u ∙ whole-is x es ec
-
-  module _ (h : i < count) (p l f : ℕ) (b : Bool) (ep : p ≡ getD places i 0) (el : l ≡ locationCount t p) (ef : f ≡ firstLocation t p) (eb : b ≡ locationsDeeper t inv most l f) where
-    split-automata : (b || automataDeeper t inv most places (i + 1) (count - (i + 1))) ≡ automataDeeper t inv most places 0 count
-    unfolding automataDeeper
-    split-automata =
-        let n : count - i ≡ suc (count - (i + 1)) = omega arith in
-        let here : b ≡ locationsDeeper t inv most (locationCount t (getD places i 0)) (firstLocation t (getD places i 0)) =
-        eb ∙ ap₂ (locationsDeeper t inv most) (el ∙ ap (locationCount t) ep) (ef ∙ ap (firstLocation t) ep) in
-        ap (λ c. c || automataDeeper t inv most places (i + 1) (count - (i + 1))) here ∙ sym (ap (automataDeeper t inv most places i) n) ∙ u
-
-    pub automata-deep : b ≡ true → (x : Layout) → places ≡ x .sets → count ≡ automataOf x → true ≡ automataDeeper t inv most (x .sets) 0 (automataOf x)
-    automata-deep q x es ec = (rw q at split-automata) ∙ whole-is x es ec
-
-    pub automata-on : b ≡ false → automataDeeper t inv most places (i + 1) (count - (i + 1)) ≡ automataDeeper t inv most places 0 count
-    automata-on q = rw q at split-automata
-
-pub ruleset automata-deeper-laws = (automata-begun, automata-none, automata-deep, automata-on)
-
 -- `merged_deep`
-pub merged-deep-is : (t : List ℕ) (x : Layout) (inv r : Bool) → r ≡ automataDeeper t inv 22 (x .sets) 0 (automataOf x) → r ≡ mergedDeep t x inv
-unfolding mergedDeep
-merged-deep-is t x inv r e = e
+module _ (t places : List ℕ) (count : ℕ) where
+  pub values-begun : valuesDeeper t 22 places 0 (count - 0) ≡ valuesDeeper t 22 places 0 count
+  values-begun = let z : count - 0 ≡ count = omega arith in ap (valuesDeeper t 22 places 0) z
+
+  module _ (i : ℕ) (u : valuesDeeper t 22 places i (count - i) ≡ valuesDeeper t 22 places 0 count) where
+    pub values-none : count ≤ i → false ≡ valuesDeeper t 22 places 0 count
+    unfolding valuesDeeper
+    values-none h = let n : count - i ≡ 0 = omega arith in sym (ap (valuesDeeper t 22 places i) n) ∙ u
+
+    module _ (h : i < count) (p : ℕ) (b : Bool) (ep : p ≡ getD places i 0) (eb : b ≡ isDeeper t 22 p) where
+      split : (b || valuesDeeper t 22 places (i + 1) (count - (i + 1))) ≡ valuesDeeper t 22 places 0 count
+      unfolding valuesDeeper
+      split =
+          let n : count - i ≡ suc (count - (i + 1)) = omega arith in
+          ap (λ c. c || valuesDeeper t 22 places (i + 1) (count - (i + 1))) (eb ∙ ap (isDeeper t 22) ep) ∙ sym (ap (valuesDeeper t 22 places i) n) ∙ u
+
+      pub values-deep : b ≡ true → true ≡ valuesDeeper t 22 places 0 count
+      values-deep q = rw q at split
+
+      pub values-on : b ≡ false → valuesDeeper t 22 places (i + 1) (count - (i + 1)) ≡ valuesDeeper t 22 places 0 count
+      values-on q = rw q at split
+
+pub ruleset merged-deep-laws = (values-begun, values-none, values-deep, values-on)

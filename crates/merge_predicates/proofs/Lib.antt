@@ -1,2 +1,3 @@
+pub mod FunctionLaws
 pub mod ClauseLaws
 pub mod DepthLaws

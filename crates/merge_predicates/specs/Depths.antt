@@ -9,11 +9,9 @@ use Rattle.model.specs.Bounds.{maxDepth}
 use Rattle.model.specs.Predicate.{Word, allOf, anyOf, notWord, impWord, eqWord, leWord, numWord, oldWord, newWord}
 use Rattle.model.specs.Predicate.{addWord, subWord, mulWord, ifWord, stray}
 use Rattle.model.specs.Table.{wordOf}
-use Rattle.table_places.specs.declared.layout.Layout.{Layout}
-use Rattle.table_places.specs.Outline.{reach, nodesPlace, afterPredicate, locationCount, firstLocation}
-use Rattle.table_places.specs.Layout.{automataOf}
+use Rattle.table_places.specs.Outline.{reach, nodesPlace}
 use Rattle.merge_predicates.specs.declared.depth.Depth.{Depth}
-use Rattle.merge_predicates.specs.Clauses.{partAt}
+use Rattle.merge_predicates.specs.declared.functions.Functions.{Functions}
 use Rattle.merge_append.specs.NodeWords.{capped}
 
 -- the operands of a node
@@ -58,19 +56,11 @@ depthAt t (suc n) at =
 unfoldable pub isDeeper : (t : List ℕ) (most at : ℕ) → Bool
 isDeeper t most at = ltb most (depthAt t (maxDepth + 1) (nodesPlace t at) .depth)
 
--- is one of n locations' inits (or invs) deeper?
-unfoldable pub locationsDeeper : (t : List ℕ) (inv : Bool) (most n at : ℕ) → Bool
-locationsDeeper t inv most zero at = false
-locationsDeeper t inv most (suc n) at =
-    isDeeper t most (partAt t inv at) || locationsDeeper t inv most n (afterPredicate t (afterPredicate t at))
+-- is one of n values deeper, from value i on? `places` says where they stand
+unfoldable pub valuesDeeper : (t : List ℕ) (most : ℕ) (places : List ℕ) (i n : ℕ) → Bool
+valuesDeeper t most places i zero = false
+valuesDeeper t most places i (suc n) = isDeeper t most (getD places i 0) || valuesDeeper t most places (i + 1) n
 
--- of n automata, from automaton i on; `places` says where they stand
-unfoldable pub automataDeeper : (t : List ℕ) (inv : Bool) (most : ℕ) (places : List ℕ) (i n : ℕ) → Bool
-automataDeeper t inv most places i zero = false
-automataDeeper t inv most places i (suc n) =
-    let at = getD places i 0 in
-    locationsDeeper t inv most (locationCount t at) (firstLocation t at) || automataDeeper t inv most places (i + 1) n
-
--- so the merged init, two deeper, is too deep
-unfoldable pub mergedDeep : (t : List ℕ) (x : Layout) (inv : Bool) → Bool
-mergedDeep t x inv = automataDeeper t inv 22 (x .sets) 0 (automataOf x)
+-- so the merged init, or the merged inv, two deeper, is too deep
+unfoldable pub mergedDeep : (t : List ℕ) (f : Functions) → Bool
+mergedDeep t f = valuesDeeper t 22 (f .places) 0 (f .total)

@@ -1,2 +1,3 @@
+pub mod Functions
 pub mod Clauses
 pub mod Depths

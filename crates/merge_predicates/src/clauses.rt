@@ -1,24 +1,14 @@
 // The merged init, and the merged inv: `all K` of `imp eq vI J` with that init (or inv), for each automaton's pointer
-// and location.
+// and location. Definition 4 makes them of the functions fs (or gs).
+use crate::functions::Functions;
+use crate::functions::{self};
 use model::Model;
 use table_places::Layout;
 ghost use mathlib.Core.Path.{_≡_};
 ghost use Rattle.table_places.specs.Layout.{automataOf};
 ghost use Rattle.merge_append.specs.Append.{Appended};
-ghost use Rattle.merge_predicates.specs.Clauses.{partAt, clauseWords, locationClauses, automatonClauses};
-ghost use Rattle.merge_predicates.specs.Clauses.{automataClauses, locationNodes, locationTotal, mergedNodes};
+ghost use Rattle.merge_predicates.specs.Clauses.{clauseWords, valueClauses, functionClauses, valueNodes};
 ghost use Rattle.merge_predicates.specs.Clauses.{mergedWords};
-
-// Of the location at a place, its init, or its inv.
-pub fn part(t: &[u32], inv: bool, at: usize) -> usize
-    ensures { λ r. ⌜ r ≡ partAt (now (t .entry)) inv at ⌝ }
-{
-    if inv {
-        table_places::after_predicate(t, at)
-    } else {
-        at
-    }
-}
 
 // `imp eq vK J` with the predicate at a place.
 fn clause(
@@ -38,124 +28,78 @@ fn clause(
     merge_append::nodes(t, part, out, d)
 }
 
-// For the `count` locations of an automaton with the pointer k, of which the first stands at `first`.
+// For the `count` locations of an automaton with the pointer k, whose values begin at index `first`.
 fn at_locations(
     t: &[u32],
-    inv: bool,
+    places: &[usize],
+    first: usize,
     k: usize,
     count: usize,
-    first: usize,
     out: &mut [u32; Model::WORDS],
     at: usize,
 ) -> usize
-    ensures { λ r. ⌜ Appended (locationClauses (now (t .entry)) inv k 0 count first)
+    ensures { λ r. ⌜ Appended (valueClauses (now (t .entry)) (now (places .entry)) first k 0 count)
         at (now (out .entry)) (now (out .exit)) r ⌝ }
 {
     let mut j = 0;
-    let mut left = count;
-    let mut place = first;
     let mut next = at;
-    while left != 0 {
-        next = clause(t, k, j, part(t, inv, place), out, next);
-        place = table_places::after_predicate(t, table_places::after_predicate(t, place));
+    while j < count {
+        let place = functions::value(places, merge_append::add(first, j));
+        next = clause(t, k, j, place, out, next);
         j += 1;
-        left -= 1;
     }
     next
 }
 
-// For the automaton at a place, with the pointer k.
-fn at_automaton(
+// For each automaton, by its pointer.
+fn at_automata(
     t: &[u32],
-    inv: bool,
-    k: usize,
-    place: usize,
+    x: Layout,
+    domains: [usize; Model::AUTOMATA],
+    places: &[usize],
     out: &mut [u32; Model::WORDS],
     at: usize,
 ) -> usize
-    ensures { λ r. ⌜ Appended (automatonClauses (now (t .entry)) inv k place)
-        at (now (out .entry)) (now (out .exit)) r ⌝ }
-{
-    let count = table_places::location_count(t, place);
-    let first = table_places::first_location(t, place);
-    at_locations(t, inv, k, count, first, out, at)
-}
-
-// For each automaton, by its pointer.
-fn at_automata(t: &[u32], x: Layout, inv: bool, out: &mut [u32; Model::WORDS], at: usize) -> usize
-    ensures { λ r. ⌜ Appended (automataClauses (now (t .entry)) inv (x .sets) (x .variables) 0 (automataOf x))
+    ensures { λ r. ⌜ Appended
+        (functionClauses (now (t .entry)) domains (now (places .entry)) (x .variables) 0 (automataOf x) 0)
         at (now (out .entry)) (now (out .exit)) r ⌝ }
 {
     let count = table_places::automata_of(x);
     let variables = x.variables;
-    let places = x.sets;
     let mut i = 0;
+    let mut first = 0;
     let mut next = at;
     while i < count {
         let pointer = merge_append::pointer(variables, i);
-        let place = places[i];
-        next = at_automaton(t, inv, pointer, place, out, next);
+        let locations = domains[i];
+        next = at_locations(t, places, first, pointer, locations, out, next);
+        first = merge_append::add(first, locations);
         i += 1;
     }
     next
 }
 
-// The clauses' nodes of one automaton, added to a sum.
-fn location_nodes(t: &[u32], inv: bool, count: usize, first: usize, sum: usize) -> usize
-    ensures { λ r. ⌜ r ≡ locationNodes (now (t .entry)) inv count first sum ⌝ }
+// The nodes of the merged init, or of the merged inv, of which the first `count` values stand at these places.
+pub fn merged_nodes(t: &[u32], places: &[usize], count: usize) -> usize
+    ensures { λ r. ⌜ r ≡ valueNodes (now (t .entry)) (now (places .entry)) 0 count 1 ⌝ }
 {
-    let mut left = count;
-    let mut place = first;
-    let mut total = sum;
-    while left != 0 {
-        let nodes = table_places::word(t, part(t, inv, place));
-        total = merge_append::add(merge_append::add(total, 4), nodes);
-        place = table_places::after_predicate(t, table_places::after_predicate(t, place));
-        left -= 1;
-    }
-    total
-}
-
-// How many locations all automata have.
-fn location_total(t: &[u32], x: Layout) -> usize
-    ensures { λ r. ⌜ r ≡ locationTotal (now (t .entry)) (x .sets) 0 (automataOf x) 0 ⌝ }
-{
-    let count = table_places::automata_of(x);
-    let places = x.sets;
     let mut i = 0;
-    let mut total = 0;
+    let mut sum = 1;
     while i < count {
-        let place = places[i];
-        total = merge_append::add(total, table_places::location_count(t, place));
+        let nodes = table_places::word(t, functions::value(places, i));
+        sum = merge_append::add(merge_append::add(sum, 4), nodes);
         i += 1;
     }
-    total
-}
-
-// The nodes of the merged init, or of the merged inv.
-pub fn merged_nodes(t: &[u32], x: Layout, inv: bool) -> usize
-    ensures { λ r. ⌜ r ≡ mergedNodes (now (t .entry)) x inv ⌝ }
-{
-    let count = table_places::automata_of(x);
-    let places = x.sets;
-    let mut i = 0;
-    let mut total = 1;
-    while i < count {
-        let place = places[i];
-        let locations = table_places::location_count(t, place);
-        let start = table_places::first_location(t, place);
-        total = location_nodes(t, inv, locations, start, total);
-        i += 1;
-    }
-    total
+    sum
 }
 
 // The merged init, or the merged inv, with its count of nodes.
-pub fn merged(t: &[u32], x: Layout, inv: bool, out: &mut [u32; Model::WORDS], at: usize) -> usize
-    ensures { λ r. ⌜ Appended (mergedWords (now (t .entry)) x inv) at (now (out .entry)) (now (out .exit)) r ⌝ }
+pub fn merged(t: &[u32], x: Layout, f: Functions, out: &mut [u32; Model::WORDS], at: usize) -> usize
+    ensures { λ r. ⌜ Appended (mergedWords (now (t .entry)) x f) at (now (out .entry)) (now (out .exit)) r ⌝ }
 {
-    let a = merge_append::put(merged_nodes(t, x, inv), out, at);
-    let operands = location_total(t, x);
-    let b = merge_append::put(merge_append::all_node(operands), out, a);
-    at_automata(t, x, inv, out, b)
+    let domains = f.domains;
+    let places = f.places;
+    let a = merge_append::put(merged_nodes(t, &places, f.total), out, at);
+    let b = merge_append::put(merge_append::all_node(f.total), out, a);
+    at_automata(t, x, domains, &places, out, b)
 }

@@ -1,13 +1,10 @@
 // How deep the predicates nest that the merged ones take in (row 33).
-use crate::clauses::{self};
+use crate::functions::{self};
 use node_words::Node;
-use table_places::Layout;
 ghost use mathlib.Core.Path.{_≡_};
 ghost use lib.ListN.{getD};
 ghost use Rattle.node_words.specs.Nodes.{meant};
-ghost use Rattle.table_places.specs.Layout.{automataOf};
-ghost use Rattle.merge_predicates.specs.Depths.{arity, operandsOf, greater, depthAt, isDeeper};
-ghost use Rattle.merge_predicates.specs.Depths.{locationsDeeper, automataDeeper, mergedDeep};
+ghost use Rattle.merge_predicates.specs.Depths.{arity, operandsOf, greater, depthAt, isDeeper, valuesDeeper};
 
 // How deep a node and its operands nest, and where the words after them begin.
 pub struct Depth {
@@ -77,44 +74,17 @@ pub fn is_deeper(t: &[u32], most: usize, at: usize) -> bool
     most < d.depth
 }
 
-// Is the init, or the inv, of one of `count` locations deeper?
-fn locations_deeper(t: &[u32], inv: bool, most: usize, count: usize, first: usize) -> bool
-    ensures { λ r. ⌜ r ≡ locationsDeeper (now (t .entry)) inv most count first ⌝ }
+// Is the merged init, or the merged inv, too deep, of which the first `count` values stand at these places? It nests
+// two deeper than these.
+pub fn merged_deep(t: &[u32], places: &[usize], count: usize) -> bool
+    ensures { λ r. ⌜ r ≡ valuesDeeper (now (t .entry)) 22 (now (places .entry)) 0 count ⌝ }
 {
-    let mut left = count;
-    let mut place = first;
-    while left != 0 {
-        if is_deeper(t, most, clauses::part(t, inv, place)) {
-            return true;
-        }
-        place = table_places::after_predicate(t, table_places::after_predicate(t, place));
-        left -= 1;
-    }
-    false
-}
-
-// The same of all automata.
-fn automata_deeper(t: &[u32], x: Layout, inv: bool, most: usize) -> bool
-    ensures { λ r. ⌜ r ≡ automataDeeper (now (t .entry)) inv most (x .sets) 0 (automataOf x) ⌝ }
-{
-    let count = table_places::automata_of(x);
-    let places = x.sets;
     let mut i = 0;
     while i < count {
-        let place = places[i];
-        let locations = table_places::location_count(t, place);
-        let start = table_places::first_location(t, place);
-        if locations_deeper(t, inv, most, locations, start) {
+        if is_deeper(t, model::Model::DEPTH - 2, functions::value(places, i)) {
             return true;
         }
         i += 1;
     }
     false
-}
-
-// Is the merged init, or the merged inv, too deep? It nests two deeper than what it takes in.
-pub fn merged_deep(t: &[u32], x: Layout, inv: bool) -> bool
-    ensures { λ r. ⌜ r ≡ mergedDeep (now (t .entry)) x inv ⌝ }
-{
-    automata_deeper(t, x, inv, model::Model::DEPTH - 2)
 }

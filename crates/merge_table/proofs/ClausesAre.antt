@@ -1,39 +1,41 @@
 -- The clauses of the merged init and inv are those of the merged model; their nodes are counted without being listed.
 use mathlib.Core.Path.{_≡_, refl, sym, ap, ap₂, _∙_}
 use mathlib.Core.Bool.{Bool, true, false}
-use mathlib.Core.List.{List, [], _∷_, _++_, append-assoc, map, map-append, flatMap, List·Memᴰ, List·Memᴰ·head, List·Memᴰ·tail}
-use Prim.Native.Nat.{ℕ, zero, suc, _+_, _*_, _≤_, _<_}
+use mathlib.Core.List.{List, [], _∷_, _++_, append-assoc, map, map-append, flatMap}
+use Prim.Native.Nat.{ℕ, suc, _+_, _≤_, _<_}
 use native.Mathlib.Omega.{arith}
-use native.Mathlib.Nat.{add-zero, zero-add}
+use native.Mathlib.Nat.{add-zero}
 use native.Mathlib.Numerals.{add-one}
 use lib.IntN.{ℤ, pos}
-use lib.ListN.{length, getD, drop, length-append, length-map}
+use lib.ListN.{length, getD, drop, replicate, length-append, length-map, length-replicate}
+use lib.Seq.{sets-eq, drop-drop}
 use lib.Dec.{leb}
 use borrow.Author.Tests.{leb-true, leb-false}
-use Rattle.model.specs.Bounds.{bias, maxLocations}
+use Rattle.model.specs.Basic.{sum}
+use Rattle.model.specs.Bounds.{bias, maxAutomata}
 use Rattle.model.specs.Predicate.{Pred, all, imp, eq, num, old, preds, Word, allOf, impWord, eqWord, numWord, oldWord, words, wordsAll, wordsOf, operands, nodeCount}
 use Rattle.model.specs.Model.{Location, Automaton, Model}
 use Rattle.model.specs.Lawful.{Lawful}
-use Rattle.model.specs.Lines.{locationLines}
-use Rattle.model.specs.Table.{code, predWords, lineWords, sheetWords}
+use Rattle.model.specs.Table.{code, predWords, sheetWords}
 use Rattle.model.specs.Linear.{pointer, atLocations, atAutomata, mergedInit, mergedInv}
-use Rattle.model.proofs.LinearLimits.{preds-count, locations-length, automata-length}
-use Rattle.table_places.specs.Outline.{nodesPlace, locationCount, firstLocation, afterPredicate, afterAutomaton, firstAutomaton}
+use Rattle.model.proofs.Lists.{sum-append}
+use Rattle.model.proofs.LinearLimits.{preds-count, locations-length}
 use Rattle.table_places.specs.declared.layout.Layout.{Layout}
 use Rattle.table_places.specs.Layout.{layoutOf, automataOf}
 use Rattle.table_places.proofs.LayoutLaws.{all-automata}
-use Rattle.table_places.proofs.OutlineLaws as O
-use Rattle.table_places.proofs.OutlineLaws.{locationWords, automatonWords, after-automaton, after-predicate, location-count, first-location}
+use Rattle.table_places.proofs.OutlineLaws.{read, node-count}
 use Rattle.node_words.specs.declared.Node.the-variants.{All, Number, Old}
 use Rattle.node_words.specs.Nodes.{wordFor}
 use Rattle.node_words.proofs.NodeLaws.{unbiased-up, all-held, old-held, number-held}
 use Rattle.merge_append.specs.Append.{narrow}
-use Rattle.merge_append.specs.Runs.{nodesAt}
 use Rattle.merge_append.specs.NodeWords.{allNode, numberNode, oldNode, pointerOf, most, capped}
-use Rattle.merge_predicates.specs.Clauses.{partAt, clauseWords, locationClauses, automatonClauses, automataClauses, locationNodes, automataNodes, locationTotal, mergedNodes, mergedWords}
+use Rattle.merge_predicates.specs.declared.functions.Functions.{Functions}
+use Rattle.merge_predicates.specs.Functions.{functionsOf}
+use Rattle.merge_predicates.specs.Clauses.{clauseWords, valueClauses, functionClauses, valueNodes, mergedNodes, mergedWords}
 use Rattle.merge_append.proofs.NodeLaws.{capped-over, capped-is}
-use Rattle.merge_table.proofs.Standing.{narrow-is, run-length, nodes-stand, automata-cons, along-first, along-rest, Here}
-use Rattle.merge_table.proofs.HeadIs.{pointer-sum, upward-small, laid-variables, automata-stand, laid-places, few-locations}
+use Rattle.merge_table.proofs.Standing.{narrow-is, nodes-stand}
+use Rattle.merge_table.proofs.HeadIs.{pointer-sum, upward-small, laid-variables}
+use Rattle.merge_table.proofs.FunctionsAre.{predicates, sizes, Stands, AllStand, from-index, stand-first, stand-rest, stand-left, stand-right, AreFunctions, init-functions, inv-functions}
 
 -- sums that stay within a word
 pub capped-most : (n : ℕ) → capped n ≤ most
@@ -55,55 +57,6 @@ capped-add a b = go (leb a most) refl
         last : (c : Bool) → leb b 0 ≡ c → capped (most + b) ≡ most
         last true q = let z = leb-true b 0 q in let e : most + b ≡ most = omega arith in ap capped e ∙ sym (capped-is most (omega arith))
         last false q = let z = leb-false b 0 q in sym (capped-over (most + b) (omega arith))
-
--- a clause's nodes are its four and the predicate's
-clause-length : (t : List ℕ) (k j part : ℕ) → length (clauseWords t k j part) ≡ 4 + getD t part 0
-unfolding clauseWords nodesAt
-clause-length t k j part = omega (arith, run-length t (nodesPlace t part) (getD t part 0))
-
--- On any words: the count of the nodes is the number of words.
-module _ (t : List ℕ) (inv : Bool) where
-  pub location-nodes-are : (n k j at sum : ℕ) → sum ≤ most → locationNodes t inv n at sum ≡ capped (sum + length (locationClauses t inv k j n at))
-  unfolding locationNodes locationClauses
-  location-nodes-are zero k j at sum h = rw (add-zero sum) (capped-is sum h)
-  location-nodes-are (suc n) k j at sum h =
-      let g = getD t (partAt t inv at) 0 in
-      let c = clauseWords t k j (partAt t inv at) in
-      let others = locationClauses t inv k (j + 1) n (afterPredicate t (afterPredicate t at)) in
-      let s = capped (capped (sum + 4) + g) in
-      let size : sum + 4 + g + length others ≡ sum + length (c ++ others) = omega (arith, length-append c others, clause-length t k j (partAt t inv at)) in
-      location-nodes-are n k (j + 1) (afterPredicate t (afterPredicate t at)) s (capped-most (capped (sum + 4) + g)) ∙
-      ap (λ x. capped (x + length others)) (capped-add (sum + 4) g) ∙ capped-add (sum + 4 + g) (length others) ∙ ap capped size
-
-  pub automata-nodes-are : (places : List ℕ) (n v i sum : ℕ) → sum ≤ most → automataNodes t inv places i n sum ≡ capped (sum + length (automataClauses t inv places v i n))
-  unfolding automataNodes automataClauses automatonClauses
-  automata-nodes-are places zero v i sum h = rw (add-zero sum) (capped-is sum h)
-  automata-nodes-are places (suc n) v i sum h =
-      let at = getD places i 0 in
-      let c = locationClauses t inv (pointerOf v i) 0 (locationCount t at) (firstLocation t at) in
-      let others = automataClauses t inv places v (i + 1) n in
-      let first = location-nodes-are (locationCount t at) (pointerOf v i) 0 (firstLocation t at) sum h in
-      let s = locationNodes t inv (locationCount t at) (firstLocation t at) sum in
-      let few : s ≤ most = rw first (capped-most (sum + length c)) in
-      let size : sum + length c + length others ≡ sum + length (c ++ others) = omega (arith, length-append c others) in
-      automata-nodes-are places n v (i + 1) s few ∙ ap (λ x. capped (x + length others)) first ∙ capped-add (sum + length c) (length others) ∙ ap capped size
-
-  pub merged-nodes-are : (x : Layout) → mergedNodes t x inv ≡ capped (1 + length (automataClauses t inv (x .sets) (x .variables) 0 (automataOf x)))
-  unfolding mergedNodes
-  merged-nodes-are x = automata-nodes-are (x .sets) (automataOf x) (x .variables) 0 1 (omega arith)
-
--- which of a location's predicates stands at its part's place
-abbrev pub Part : Bool → (Location → Pred) → Type 0
-Part inv part = (t : List ℕ) (at : ℕ) (l : Location) (others : List ℕ) → drop at t ≡ predWords (l .init) ++ (predWords (l .inv) ++ others)
-    → (rest : List ℕ) × (drop (partAt t inv at) t ≡ predWords (part l) ++ rest)
-
-pub init-part : Part false (λ l. l .init)
-unfolding partAt
-init-part t at l others e = (predWords (l .inv) ++ others, e)
-
-pub inv-part : Part true (λ l. l .inv)
-unfolding partAt
-inv-part t at l others e = (others, after-predicate t at (l .init) (predWords (l .inv) ++ others) e)
 
 -- the words of predicates in a row
 pub all-append : (ps qs : List Pred) → wordsAll (preds (ps ++ qs)) ≡ wordsAll (preds ps) ++ wordsAll (preds qs)
@@ -137,130 +90,157 @@ pub all-code : (k : ℕ) → k < 65536 → allNode k ≡ code (allOf k)
 unfolding allNode
 all-code k h = ap (λ (n : ℕ). wordFor (All n)) (narrow-is k (omega arith)) ∙ all-held k (omega arith)
 
--- a past location
-pub past-location : (t : List ℕ) (at : ℕ) (l : Location) (rest : List ℕ) → drop at t ≡ predWords (l .init) ++ (predWords (l .inv) ++ rest) → drop (afterPredicate t (afterPredicate t at)) t ≡ rest
-past-location t at l rest e =
-    after-predicate t (afterPredicate t at) (l .inv) rest (after-predicate t at (l .init) (predWords (l .inv) ++ rest) e)
+-- one item on
+drop-next : (l : List ℕ) (i w : ℕ) (others : List ℕ) → drop i l ≡ w ∷ others → drop (suc i) l ≡ others
+drop-next l i w others e = ap (λ k. drop k l) (sym (add-one i)) ∙ sym (drop-drop 1 i l) ∙ ap (drop 1) e
 
-pub location-cons : (t : List ℕ) (at : ℕ) (l : Location) (ls : List Location) (rest : List ℕ) → drop at t ≡ locationWords (l ∷ ls) ++ rest
-    → drop at t ≡ predWords (l .init) ++ (predWords (l .inv) ++ (locationWords ls ++ rest))
-unfolding flatMap locationLines lineWords
-location-cons t at l ls rest e =
-    let i = predWords (l .init) in
-    let v = predWords (l .inv) in
-    e ∙ append-assoc i (v ++ locationWords ls) rest ∙ ap (λ (r : List ℕ). i ++ r) (append-assoc v (locationWords ls) rest)
-
-module _ (m : Model) (inv : Bool) (part : Location → Pred) (stands : Part inv part) (t : List ℕ) where
-  clause-is : (i k j at : ℕ) (l : Location) (others : List ℕ) → k ≡ pointer m i → k < 65536 → j < 65536
-      → drop at t ≡ predWords (l .init) ++ (predWords (l .inv) ++ others)
-      → clauseWords t k j (partAt t inv at) ≡ map code (words (imp (eq (old (pointer m i)) (num (pos j))) (part l)))
+module _ (m : Model) (part : Location → Pred) (t : List ℕ) where
+  clause-is : (i k j at : ℕ) (p : Pred) → k ≡ pointer m i → k < 65536 → j < 65536 → Stands t at p
+      → clauseWords t k j at ≡ map code (words (imp (eq (old (pointer m i)) (num (pos j))) p))
   unfolding clauseWords words wordsAll wordsOf
-  clause-is i k j at l others ek hk hj e =
-      let s = stands t at l others e in
-      rw (old-code k hk, number-code j hj, ek) (ap (λ (ws : List ℕ). code impWord ∷ code eqWord ∷ code (oldWord (pointer m i)) ∷ code (numWord (pos j)) ∷ ws) (nodes-stand t (partAt t inv at) (part l) (s .0) (s .1)))
+  clause-is i k j at p ek hk hj s =
+      rw (old-code k hk, number-code j hj, ek) (ap (λ (ws : List ℕ). code impWord ∷ code eqWord ∷ code (oldWord (pointer m i)) ∷ code (numWord (pos j)) ∷ ws) (nodes-stand t at p (s .others) (s .words)))
 
-  pub locations-are : (ls : List Location) (i k j at : ℕ) (rest : List ℕ) → k ≡ pointer m i → k < 65536 → j + length ls < 65536
-      → drop at t ≡ locationWords ls ++ rest → locationClauses t inv k j (length ls) at ≡ codes (atLocations m part i j ls)
-  unfolding locationClauses atLocations preds words wordsAll wordsOf
-  locations-are [] i k j at rest ek hk h e = refl
-  locations-are (l ∷ ls) i k j at rest ek hk h e =
-      let f = location-cons t at l ls rest e in
-      let p = imp (eq (old (pointer m i)) (num (pos j))) (part l) in
-      let c = clause-is i k j at l (locationWords ls ++ rest) ek hk (omega arith) f in
-      let o = locations-are ls i k (suc j) (afterPredicate t (afterPredicate t at)) rest ek hk (omega arith) (past-location t at l (locationWords ls ++ rest) f) in
-      rw (add-one j) (ap₂ (λ (a b : List ℕ). a ++ b) c o ∙ sym (codes-cons p (atLocations m part i (suc j) ls)))
+  module _ (places : List ℕ) where
+    locations-are : (ls : List Location) (i k first j : ℕ) → k ≡ pointer m i → k < 65536 → first + j + length ls < 65536 → AllStand t places (first + j) (map part ls)
+        → valueClauses t places first k j (length ls) ≡ codes (atLocations m part i j ls)
+    unfolding valueClauses atLocations preds words wordsAll wordsOf
+    locations-are [] i k first j ek hk h s = refl
+    locations-are (l ∷ ls) i k first j ek hk h s =
+        let p = imp (eq (old (pointer m i)) (num (pos j))) (part l) in
+        let index : capped (first + j) ≡ first + j = sym (capped-is (first + j) (omega arith)) in
+        let next : suc (first + j) ≡ first + suc j = omega arith in
+        let c : clauseWords t k j (getD places (capped (first + j)) 0) ≡ map code (words p) =
+        ap (λ n. clauseWords t k j (getD places n 0)) index ∙ clause-is i k j _ (part l) ek hk (omega arith) (stand-first t places (first + j) (part l) (map part ls) s) in
+        let o = locations-are ls i k first (suc j) ek hk (omega arith) (from-index t places _ _ (map part ls) next (stand-rest t places (first + j) (part l) (map part ls) s)) in
+        rw (add-one j) (ap₂ (λ (a b : List ℕ). a ++ b) c o ∙ sym (codes-cons p (atLocations m part i (suc j) ls)))
 
-  pub automata-clauses-are : (places : List ℕ) (xs : List Automaton) (v i at : ℕ) (rest : List ℕ) → v ≡ length (m .variables) → v < 32768 → i + length xs < 32768
-      → ((x : Automaton) → List·Memᴰ x xs → length (x .locations) ≤ maxLocations)
-      → drop at t ≡ automatonWords xs ++ rest → Here t places i at (length xs) → automataClauses t inv places v i (length xs) ≡ codes (atAutomata m part i xs)
-  unfolding automataClauses automatonClauses atAutomata preds words wordsAll wordsOf
-  automata-clauses-are places [] v i at rest ev hv h few e here = refl
-  automata-clauses-are places (x ∷ xs) v i at rest ev hv h few e here =
-      let f = automata-cons t at x xs rest e in
-      let others = automatonWords xs ++ rest in
-      let n : locationCount t at ≡ length (x .locations) = location-count t others x at f in
-      let s = few x (List·Memᴰ·head refl) in
-      let k : pointerOf v i ≡ v + i = pointer-sum v i (omega arith) (omega arith) in
-      let kp : pointerOf v i ≡ pointer m i = k ∙ point v i ev in
-      let kh : pointerOf v i < 65536 = omega arith in
-      let small : 0 + length (x .locations) < 65536 = omega arith in
-      let p = getD places i 0 in
-      let c : locationClauses t inv (pointerOf v i) 0 (locationCount t p) (firstLocation t p) ≡ codes (atLocations m part i 0 (x .locations)) =
-      ap (λ q. locationClauses t inv (pointerOf v i) 0 (locationCount t q) (firstLocation t q)) (along-first t (λ a. a) places i at (length xs) here) ∙
-      ap (λ c. locationClauses t inv (pointerOf v i) 0 c (firstLocation t at)) n ∙ locations-are (x .locations) i (pointerOf v i) 0 (firstLocation t at) _ kp kh small (first-location t others x at f) in
-      let o = automata-clauses-are places xs v (suc i) (afterAutomaton t at) rest ev hv (omega arith) (λ y q. few y (List·Memᴰ·tail q)) (after-automaton t others x at f)
-      (along-rest t (λ a. a) places i at (length xs) here) in
-      rw (add-one i) (ap₂ (λ (a b : List ℕ). a ++ b) c o ∙ sym (codes-append (atLocations m part i 0 (x .locations)) (atAutomata m part (suc i) xs)))
-    where
-      point : (u j : ℕ) → u ≡ length (m .variables) → u + j ≡ pointer m j
-      point u j q = unfold pointer in ap (λ w. w + j) q
+    automata-are : (domains zeros : List ℕ) (xs : List Automaton) (v i first : ℕ) → v ≡ length (m .variables) → v < 32768 → i + length xs < 32768
+        → first + length (predicates part xs) < 32768 → drop i domains ≡ sizes xs ++ zeros → AllStand t places first (predicates part xs)
+        → functionClauses t domains places v i (length xs) first ≡ codes (atAutomata m part i xs)
+    unfolding functionClauses atAutomata preds words wordsAll wordsOf flatMap
+    automata-are domains zeros [] v i first ev hv h few e s = refl
+    automata-are domains zeros (x ∷ xs) v i first ev hv h few e s =
+        let ls = x .locations in
+        let ps = map part ls in
+        let qs = predicates part xs in
+        let l : length ps ≡ length ls = length-map ls part in
+        let b : length (ps ++ qs) ≡ length ps + length qs = length-append ps qs in
+        let d : getD domains i 0 ≡ length ls = read domains i (length ls) (sizes xs ++ zeros) e in
+        let k : pointerOf v i ≡ v + i = pointer-sum v i (omega arith) (omega arith) in
+        let kp : pointerOf v i ≡ pointer m i = k ∙ point v i ev in
+        let kh : pointerOf v i < 65536 = omega arith in
+        let z : first ≡ first + 0 = omega arith in
+        let next : capped (first + getD domains i 0) ≡ first + length ps = sym (capped-is (first + getD domains i 0) (omega arith)) ∙ omega arith in
+        let c = locations-are ls i (pointerOf v i) first 0 kp kh (omega arith) (from-index t places _ _ ps z (stand-left t places first ps qs s)) in
+        let o = automata-are domains zeros xs v (suc i) (first + length ps) ev hv (omega arith) (omega arith) (drop-next domains i (length ls) (sizes xs ++ zeros) e) (stand-right t places first ps qs s) in
+        rw (add-one i, next, d) (ap₂ (λ (a b : List ℕ). a ++ b) c o ∙ sym (codes-append (atLocations m part i 0 ls) (atAutomata m part (suc i) xs)))
+      where
+        point : (u j : ℕ) → u ≡ length (m .variables) → u + j ≡ pointer m j
+        point u j q = unfold pointer in ap (λ w. w + j) q
 
--- how many locations there are
-totals : (m : Model) (part : Location → Pred) (t places : List ℕ) (xs : List Automaton) (i at sum : ℕ) (rest : List ℕ) → sum ≤ most → drop at t ≡ automatonWords xs ++ rest
-    → Here t places i at (length xs) → locationTotal t places i (length xs) sum ≡ capped (sum + length (atAutomata m part i xs))
-unfolding locationTotal atAutomata
-totals m part t places [] i at sum rest h e here = rw (add-zero sum) (capped-is sum h)
-totals m part t places (x ∷ xs) i at sum rest h e here =
-    let f = automata-cons t at x xs rest e in
-    let others = automatonWords xs ++ rest in
-    let l = length (x .locations) in
-    let n : locationCount t (getD places i 0) ≡ length (x .locations) = ap (locationCount t) (along-first t (λ a. a) places i at (length xs) here) ∙ location-count t others x at f in
-    let more = atAutomata m part (suc i) xs in
-    let size : sum + l + length more ≡ sum + length (atLocations m part i 0 (x .locations) ++ more) = omega (arith, length-append (atLocations m part i 0 (x .locations)) more, locations-length m part i 0 (x .locations)) in
-    ap₂ (λ (j c : ℕ). locationTotal t places j (length xs) (capped (sum + c))) (add-one i) n ∙
-    totals m part t places xs (suc i) (afterAutomaton t at) (capped (sum + l)) rest (capped-most (sum + l)) (after-automaton t others x at f) (along-rest t (λ a. a) places i at (length xs) here) ∙
-    capped-add (sum + l) (length more) ∙ ap capped size
+-- a clause's nodes are its four and the predicate's
+abbrev clauseNodes : List Pred → ℕ
+clauseNodes ps = sum (map (λ (p : Pred). 4 + nodeCount p) ps)
+
+nodes-append : (ps qs : List Pred) → clauseNodes (ps ++ qs) ≡ clauseNodes ps + clauseNodes qs
+nodes-append ps qs = let f : Pred → ℕ = λ p. 4 + nodeCount p in ap sum (map-append f ps qs) ∙ sum-append (map f ps) (map f qs)
+
+-- counted
+values-count : (t places : List ℕ) (ps : List Pred) (i total : ℕ) → total ≤ most → AllStand t places i ps → valueNodes t places i (length ps) total ≡ capped (total + clauseNodes ps)
+unfolding valueNodes sum
+values-count t places [] i total h s = rw (add-zero total) (capped-is total h)
+values-count t places (p ∷ ps) i total h s =
+    let here = stand-first t places i p ps s in
+    let n = nodeCount p in
+    let g : getD t (getD places i 0) 0 ≡ n = node-count t (getD places i 0) p (here .others) (here .words) in
+    let size : total + 4 + n + clauseNodes ps ≡ total + (4 + n + clauseNodes ps) = omega arith in
+    ap₂ (λ (j k : ℕ). valueNodes t places j (length ps) (capped (capped (total + 4) + k))) (add-one i) g ∙
+    values-count t places ps (suc i) (capped (capped (total + 4) + n)) (capped-most (capped (total + 4) + n)) (stand-rest t places i p ps s) ∙
+    ap (λ x. capped (x + clauseNodes ps)) (capped-add (total + 4) n) ∙ capped-add (total + 4 + n) (clauseNodes ps) ∙ ap capped size
+
+-- listed
+module _ (m : Model) (part : Location → Pred) where
+  locations-list : (i j : ℕ) (ls : List Location) → length (wordsAll (preds (atLocations m part i j ls))) ≡ clauseNodes (map part ls)
+  unfolding atLocations preds words wordsAll wordsOf nodeCount sum
+  locations-list i j [] = refl
+  locations-list i j (l ∷ ls) =
+      let others = wordsAll (preds (atLocations m part i (suc j) ls)) in
+      omega (arith, length-append (words (part l)) others, locations-list i (suc j) ls)
+
+  automata-list : (i : ℕ) (xs : List Automaton) → length (wordsAll (preds (atAutomata m part i xs))) ≡ clauseNodes (predicates part xs)
+  unfolding atAutomata preds wordsAll sum flatMap
+  automata-list i [] = refl
+  automata-list i (x ∷ xs) =
+      let here = atLocations m part i 0 (x .locations) in
+      let others = atAutomata m part (suc i) xs in
+      ap length (all-append here others) ∙
+      omega (arith, length-append (wordsAll (preds here)) (wordsAll (preds others)), locations-list i 0 (x .locations), automata-list (suc i) xs, nodes-append (map part (x .locations)) (predicates part xs))
+
+  -- as many clauses as predicates
+  clauses-count : (i : ℕ) (xs : List Automaton) → length (atAutomata m part i xs) ≡ length (predicates part xs)
+  unfolding atAutomata flatMap
+  clauses-count i [] = refl
+  clauses-count i (x ∷ xs) =
+      omega (
+        arith,
+        length-append (atLocations m part i 0 (x .locations)) (atAutomata m part (suc i) xs),
+        length-append (map part (x .locations)) (predicates part xs),
+        locations-length m part i 0 (x .locations),
+        length-map (x .locations) part,
+        clauses-count (suc i) xs,
+      )
 
 module _ (m : Model) (lawful : Lawful m) (t rest : List ℕ) (e : t ≡ sheetWords m ++ rest) where
   abbrev lay : Layout
   lay = layoutOf t
 
-  module _ (inv : Bool) (part : Location → Pred) (stands : Part inv part) where
+  module _ (part : Location → Pred) (f : Functions) (are : AreFunctions t part (m .automata) f) where
     abbrev clauses : List Pred
     clauses = atAutomata m part 0 (m .automata)
 
-    clauses-are : automataClauses t inv (lay .sets) (lay .variables) 0 (automataOf lay) ≡ codes clauses
+    clauses-are : functionClauses t (f .domains) (f .places) (lay .variables) 0 (automataOf lay) 0 ≡ codes clauses
     clauses-are =
         let fv = lawful .few-variables in
         let fn = lawful .few-automata in
-        ap₂ (λ v n. automataClauses t inv (lay .sets) v 0 n) (laid-variables m lawful t rest e) (all-automata m lawful t rest e) ∙
-        automata-clauses-are m inv part stands t (lay .sets) (m .automata) (length (m .variables)) 0 (firstAutomaton t) _ refl (omega arith) (omega arith) (few-locations m lawful t rest e)
-        (automata-stand m lawful t rest e) (laid-places m lawful t rest e)
+        let few = are .few in
+        let xs = m .automata in
+        let zeros : List ℕ = replicate maxAutomata 0 in
+        let n : length (sizes xs) ≡ length xs = length-map xs (λ (x : Automaton). length (x .locations)) in
+        let filled : f .domains ≡ sizes xs ++ drop (0 + length (sizes xs)) zeros = are .domains ∙ sets-eq (sizes xs) zeros 0 (omega (arith, length-replicate {A = ℕ} maxAutomata 0)) in
+        ap₂ (λ v k. functionClauses t (f .domains) (f .places) v 0 k 0) (laid-variables m lawful t rest e) (all-automata m lawful t rest e) ∙
+        automata-are m part t (f .places) (f .domains) _ xs (length (m .variables)) 0 0 refl (omega arith) (omega arith) (omega arith) filled (are .values)
 
     -- the count of nodes is the merged predicate's
-    nodes-are : mergedNodes t lay inv ≡ capped (nodeCount (all (preds clauses)))
-    unfolding nodeCount words wordsAll wordsOf
+    nodes-are : mergedNodes t f ≡ capped (nodeCount (all (preds clauses)))
+    unfolding mergedNodes nodeCount words wordsAll wordsOf
     nodes-are =
-        merged-nodes-are t inv lay ∙ ap (λ (l : List ℕ). capped (1 + length l)) clauses-are ∙ ap (λ n. capped (1 + n)) (length-map (wordsAll (preds clauses)) code) ∙ ap capped (omega arith)
+        let ps = predicates part (m .automata) in
+        let size : 1 + clauseNodes ps ≡ suc (length (wordsAll (preds clauses))) = omega (arith, automata-list m part 0 (m .automata)) in
+        ap (λ n. valueNodes t (f .places) 0 n 1) (are .total) ∙ values-count t (f .places) ps 0 1 (omega arith) (are .values) ∙ ap capped size
 
-    words-are : nodeCount (all (preds clauses)) ≤ most → mergedWords t lay inv ≡ predWords (all (preds clauses))
+    words-are : nodeCount (all (preds clauses)) ≤ most → mergedWords t lay f ≡ predWords (all (preds clauses))
     unfolding mergedWords predWords words wordsAll wordsOf
     words-are few =
-        let fn = lawful .few-automata in
-        let count : length clauses ≤ maxLocations * length (m .automata) = automata-length m part 0 (m .automata) (few-locations m lawful t rest e) in
-        let small : length clauses ≤ most = omega arith in
-        let total : locationTotal t (lay .sets) 0 (automataOf lay) 0 ≡ operands (preds clauses) =
-        ap (λ n. locationTotal t (lay .sets) 0 n 0) (all-automata m lawful t rest e) ∙
-        totals m part t (lay .sets) (m .automata) 0 (firstAutomaton t) 0 _ (omega arith) (automata-stand m lawful t rest e) (laid-places m lawful t rest e) ∙
-        ap capped (zero-add (length clauses)) ∙ sym (capped-is (length clauses) small) ∙ sym (preds-count clauses) in
-        let node : allNode (locationTotal t (lay .sets) 0 (automataOf lay) 0) ≡ code (allOf (operands (preds clauses))) =
-        ap allNode total ∙ all-code (operands (preds clauses)) (omega (arith, preds-count clauses)) in
-        let nodes : mergedNodes t lay inv ≡ nodeCount (all (preds clauses)) = nodes-are ∙ sym (capped-is (nodeCount (all (preds clauses))) few) in
+        let small = are .few in
+        let total : f .total ≡ operands (preds clauses) = are .total ∙ sym (preds-count clauses ∙ clauses-count m part 0 (m .automata)) in
+        let node : allNode (f .total) ≡ code (allOf (operands (preds clauses))) = ap allNode total ∙ all-code (operands (preds clauses)) (omega (arith, are .total, total)) in
+        let nodes : mergedNodes t f ≡ nodeCount (all (preds clauses)) = nodes-are ∙ sym (capped-is (nodeCount (all (preds clauses))) few) in
         rw (nodes, node, clauses-are)
 
   -- the merged init's words and nodes, and the merged inv's
-  pub init-words : nodeCount (mergedInit m) ≤ most → mergedWords t (layoutOf t) false ≡ predWords (mergedInit m)
+  pub init-words : nodeCount (mergedInit m) ≤ most → mergedWords t (layoutOf t) (functionsOf t (layoutOf t) false) ≡ predWords (mergedInit m)
   unfolding mergedInit
-  init-words = words-are false (λ l. l .init) init-part
+  init-words = words-are (λ l. l .init) (functionsOf t lay false) (init-functions m lawful t rest e)
 
-  pub inv-words : nodeCount (mergedInv m) ≤ most → mergedWords t (layoutOf t) true ≡ predWords (mergedInv m)
+  pub inv-words : nodeCount (mergedInv m) ≤ most → mergedWords t (layoutOf t) (functionsOf t (layoutOf t) true) ≡ predWords (mergedInv m)
   unfolding mergedInv
-  inv-words = words-are true (λ l. l .inv) inv-part
+  inv-words = words-are (λ l. l .inv) (functionsOf t lay true) (inv-functions m lawful t rest e)
 
-  pub init-nodes : mergedNodes t (layoutOf t) false ≡ capped (nodeCount (mergedInit m))
+  pub init-nodes : mergedNodes t (functionsOf t (layoutOf t) false) ≡ capped (nodeCount (mergedInit m))
   unfolding mergedInit
-  init-nodes = nodes-are false (λ l. l .init) init-part
+  init-nodes = nodes-are (λ l. l .init) (functionsOf t lay false) (init-functions m lawful t rest e)
 
-  pub inv-nodes : mergedNodes t (layoutOf t) true ≡ capped (nodeCount (mergedInv m))
+  pub inv-nodes : mergedNodes t (functionsOf t (layoutOf t) true) ≡ capped (nodeCount (mergedInv m))
   unfolding mergedInv
-  inv-nodes = nodes-are true (λ l. l .inv) inv-part
+  inv-nodes = nodes-are (λ l. l .inv) (functionsOf t lay true) (inv-functions m lawful t rest e)

@@ -29,7 +29,7 @@ use Rattle.merge_table.proofs.Standing.{ownOf}
 use Rattle.table_places.specs.declared.layout.Layout.{Layout}
 use Rattle.table_places.specs.Layout.{layoutOf}
 use Rattle.merge_table.proofs.SyncIs.{root-stands}
-use Rattle.merge_table.proofs.AllEdgesAre.{last-is, told}
+use Rattle.merge_table.proofs.MovesAre.{last-is, told}
 
 -- a sum above 512 stays above it where it is cut to a word
 capped-large : (n : ℕ) → maxEdges < n → maxEdges < capped n

@@ -1,12 +1,12 @@
 -- The tests of depth are row 33's: of the merged init and inv, and of a merged edge's update.
 use mathlib.Core.Path.{_≡_, refl, sym, ap, ap₂, _∙_}
 use mathlib.Core.Bool.{Bool, true, false, _||_, or-false}
-use mathlib.Core.List.{List, [], _∷_, _++_, map, List·Memᴰ, List·Memᴰ·head, List·Memᴰ·tail}
+use mathlib.Core.List.{List, [], _∷_, _++_, map, flatMap}
 use Prim.Native.Nat.{ℕ, suc, max, _≤_, _<_}
 use native.Mathlib.Omega.{arith}
 use native.Mathlib.Numerals.{add-one}
 use lib.IntN.{pos}
-use lib.ListN.{length, drop}
+use lib.ListN.{length, getD}
 use lib.Dec.{ltb}
 use borrow.Author.Tests.{ltb-true, ltb-false, lt-ltb, le-ltb}
 use Rattle.model.specs.Basic.{exists}
@@ -14,22 +14,18 @@ use Rattle.model.specs.Predicate.{Pred, all, imp, eq, num, old, preds, depth, d
 use Rattle.model.specs.Model.{Location, Automaton, Model}
 use Rattle.model.specs.Rules.{Taker}
 use Rattle.model.specs.Limits.{isTooDeep}
-use Rattle.model.specs.Lawful.{Lawful, LawfulLocation}
+use Rattle.model.specs.Lawful.{Lawful}
 use Rattle.model.specs.Table.{sheetWords}
 use Rattle.model.specs.Linear.{pointer, atLocations, atAutomata, mergedInit, mergedInv, pointerMoves, mergedEdge}
 use Rattle.model.proofs.Tests.{exists-append}
-use Rattle.table_places.specs.Outline.{locationCount, firstLocation, afterPredicate, afterAutomaton, firstAutomaton}
-use Rattle.table_places.proofs.LayoutLaws.{all-automata}
-use Rattle.table_places.proofs.OutlineLaws.{locationWords, automatonWords, after-automaton, location-count, first-location}
-use Rattle.merge_predicates.specs.Clauses.{partAt}
+use Rattle.merge_predicates.specs.declared.functions.Functions.{Functions}
+use Rattle.merge_predicates.specs.Functions.{functionsOf}
 use Rattle.merge_takers.specs.Taking.{takers}
 use Rattle.merge_edges.specs.Edge.{updatesDeep}
 use Rattle.table_places.specs.Layout.{layoutOf}
-use Rattle.merge_predicates.specs.Depths.{locationsDeeper, automataDeeper, mergedDeep}
-use Rattle.merge_table.proofs.Standing.{automata-cons, along-first, along-rest, Here}
-use Rattle.merge_table.proofs.HeadIs.{automata-stand, laid-places}
-use Rattle.merge_table.proofs.ClausesAre.{Part, init-part, inv-part, location-cons, past-location}
-use Rattle.merge_table.proofs.DepthsAre.{Readable, readable, deeper-stands}
+use Rattle.merge_predicates.specs.Depths.{valuesDeeper, mergedDeep}
+use Rattle.merge_table.proofs.FunctionsAre.{predicates, AllStand, stand-first, stand-rest, AreFunctions, init-functions, inv-functions}
+use Rattle.merge_table.proofs.DepthsAre.{deeper-stands}
 use Rattle.merge_table.proofs.EdgesAre.{Valid, takersFrom, edge-deep}
 
 -- one test of numbers is another, where each number is above its limit if the other is
@@ -68,56 +64,38 @@ clause-deep : (k j : ℕ) (p : Pred) → ltb 23 (depth (imp (eq (old k) (num (po
 unfolding depth depthAll depthOf
 clause-deep k j p = same-test 23 (suc (max (suc (max 1 1)) (depth p))) 22 (depth p) (λ s. omega arith) (λ s. omega arith)
 
-module _ (m : Model) (inv : Bool) (part : Location → Pred) (stands : Part inv part) where
-  deep-part : Location → Bool
-  deep-part l = ltb 22 (depth (part l))
+abbrev isDeep : Pred → Bool
+isDeep p = ltb 22 (depth p)
 
-  deep-automaton : Automaton → Bool
-  deep-automaton x = exists deep-part (x .locations)
-
-  clauses-deep : (i j : ℕ) (ls : List Location) → exists (λ p. ltb 23 (depth p)) (atLocations m part i j ls) ≡ exists deep-part ls
-  unfolding atLocations exists deep-part
+module _ (m : Model) (part : Location → Pred) where
+  clauses-deep : (i j : ℕ) (ls : List Location) → exists (λ p. ltb 23 (depth p)) (atLocations m part i j ls) ≡ exists isDeep (map part ls)
+  unfolding atLocations exists
   clauses-deep i j [] = refl
   clauses-deep i j (l ∷ ls) = ap₂ (λ (a b : Bool). a || b) (clause-deep (pointer m i) j (part l)) (clauses-deep i (suc j) ls)
 
-  automata-deep : (i : ℕ) (xs : List Automaton) → exists (λ p. ltb 23 (depth p)) (atAutomata m part i xs) ≡ exists deep-automaton xs
-  unfolding atAutomata exists deep-automaton
+  automata-deep : (i : ℕ) (xs : List Automaton) → exists (λ p. ltb 23 (depth p)) (atAutomata m part i xs) ≡ exists isDeep (predicates part xs)
+  unfolding atAutomata exists flatMap
   automata-deep i [] = refl
   automata-deep i (x ∷ xs) =
       exists-append (λ p. ltb 23 (depth p)) (atLocations m part i 0 (x .locations)) (atAutomata m part (suc i) xs) ∙
-      ap₂ (λ (a b : Bool). a || b) (clauses-deep i 0 (x .locations)) (automata-deep (suc i) xs)
+      ap₂ (λ (a b : Bool). a || b) (clauses-deep i 0 (x .locations)) (automata-deep (suc i) xs) ∙
+      sym (exists-append isDeep (map part (x .locations)) (predicates part xs))
 
-  module _ (t : List ℕ) where
-    locations-read : (ls : List Location) (at : ℕ) (rest : List ℕ) → ((l : Location) → List·Memᴰ l ls → Readable (part l)) → drop at t ≡ locationWords ls ++ rest
-        → locationsDeeper t inv 22 (length ls) at ≡ exists deep-part ls
-    unfolding locationsDeeper exists deep-part
-    locations-read [] at rest shallow e = refl
-    locations-read (l ∷ ls) at rest shallow e =
-        let f = location-cons t at l ls rest e in
-        let s = stands t at l (locationWords ls ++ rest) f in
-        ap₂ (λ (a b : Bool). a || b) (deeper-stands t (part l) 22 (partAt t inv at) (s .0) (shallow l (List·Memᴰ·head refl)) (s .1))
-        (locations-read ls (afterPredicate t (afterPredicate t at)) rest (λ y q. shallow y (List·Memᴰ·tail q)) (past-location t at l (locationWords ls ++ rest) f))
+-- the values, read where they stand
+values-read : (t places : List ℕ) (ps : List Pred) (i : ℕ) → AllStand t places i ps → valuesDeeper t 22 places i (length ps) ≡ exists isDeep ps
+unfolding valuesDeeper exists
+values-read t places [] i s = refl
+values-read t places (p ∷ ps) i s =
+    let here = stand-first t places i p ps s in
+    rw (add-one i)
+    (ap₂ (λ (a b : Bool). a || b) (deeper-stands t p 22 (getD places i 0) (here .others) (here .said) (here .words)) (values-read t places ps (suc i) (stand-rest t places i p ps s)))
 
-    automata-read : (places : List ℕ) (xs : List Automaton) (i at : ℕ) (rest : List ℕ) → ((x : Automaton) → List·Memᴰ x xs → (l : Location) → List·Memᴰ l (x .locations) → Readable (part l))
-        → drop at t ≡ automatonWords xs ++ rest → Here t places i at (length xs) → automataDeeper t inv 22 places i (length xs) ≡ exists deep-automaton xs
-    unfolding automataDeeper exists deep-automaton
-    automata-read places [] i at rest shallow e here = refl
-    automata-read places (x ∷ xs) i at rest shallow e here =
-        let f = automata-cons t at x xs rest e in
-        let others = automatonWords xs ++ rest in
-        let n : locationCount t at ≡ length (x .locations) = location-count t others x at f in
-        rw (add-one i)
-        (ap₂ (λ (a b : Bool). a || b)
-        (ap (λ p. locationsDeeper t inv 22 (locationCount t p) (firstLocation t p)) (along-first t (λ a. a) places i at (length xs) here) ∙ ap (λ c. locationsDeeper t inv 22 c (firstLocation t at)) n ∙ locations-read (x .locations) (firstLocation t at) _ (shallow x (List·Memᴰ·head refl)) (first-location t others x at f))
-        (automata-read places xs (suc i) (afterAutomaton t at) rest (λ y q. shallow y (List·Memᴰ·tail q)) (after-automaton t others x at f) (along-rest t (λ a. a) places i at (length xs) here)))
-
-  whole-deep : (lawful : Lawful m) (t rest : List ℕ) → t ≡ sheetWords m ++ rest → ((l : Location) → LawfulLocation (m .variables) l → Readable (part l))
-      → mergedDeep t (layoutOf t) inv ≡ isTooDeep (all (preds (atAutomata m part 0 (m .automata))))
-  unfolding mergedDeep
-  whole-deep lawful t rest e shallow =
-      ap (automataDeeper t inv 22 (layoutOf t .sets) 0) (all-automata m lawful t rest e) ∙
-      automata-read t (layoutOf t .sets) (m .automata) 0 (firstAutomaton t) _ (λ x i l j. shallow l (lawful .automata x i .locations l j)) (automata-stand m lawful t rest e) (laid-places m lawful t rest e) ∙
-      sym (all-deep (atAutomata m part 0 (m .automata)) ∙ automata-deep 0 (m .automata))
+whole-deep : (m : Model) (t : List ℕ) (part : Location → Pred) (f : Functions) → AreFunctions t part (m .automata) f
+    → mergedDeep t f ≡ isTooDeep (all (preds (atAutomata m part 0 (m .automata))))
+unfolding mergedDeep
+whole-deep m t part f are =
+    ap (valuesDeeper t 22 (f .places) 0) (are .total) ∙ values-read t (f .places) (predicates part (m .automata)) 0 (are .values) ∙
+    sym (all-deep (atAutomata m part 0 (m .automata)) ∙ automata-deep m part 0 (m .automata))
 
 -- the pointer moves are not deep
 moves-shallow : (m : Model) (ts : List Taker) → exists (λ p. ltb 23 (depth p)) (pointerMoves m ts) ≡ false
@@ -131,13 +109,13 @@ updates-deep [] = refl
 updates-deep (x ∷ xs) = ap (λ b. ltb 23 (depth (x .edge .update)) || b) (updates-deep xs)
 
 module _ (m : Model) (lawful : Lawful m) (t rest : List ℕ) (e : t ≡ sheetWords m ++ rest) where
-  pub init-deep : mergedDeep t (layoutOf t) false ≡ isTooDeep (mergedInit m)
+  pub init-deep : mergedDeep t (functionsOf t (layoutOf t) false) ≡ isTooDeep (mergedInit m)
   unfolding mergedInit
-  init-deep = whole-deep m false (λ l. l .init) init-part lawful t rest e (λ l h. readable (l .init) (h .init))
+  init-deep = whole-deep m t (λ l. l .init) (functionsOf t (layoutOf t) false) (init-functions m lawful t rest e)
 
-  pub inv-deep : mergedDeep t (layoutOf t) true ≡ isTooDeep (mergedInv m)
+  pub inv-deep : mergedDeep t (functionsOf t (layoutOf t) true) ≡ isTooDeep (mergedInv m)
   unfolding mergedInv
-  inv-deep = whole-deep m true (λ l. l .inv) inv-part lawful t rest e (λ l h. readable (l .inv) (h .inv))
+  inv-deep = whole-deep m t (λ l. l .inv) (functionsOf t (layoutOf t) true) (inv-functions m lawful t rest e)
 
   pub edge-too-deep : (action : ℕ) (picks : List ℕ) → Valid action picks 0 (m .automata) → updatesDeep t (takers t (layoutOf t) action picks) ≡ isTooDeep (mergedEdge m action (takersFrom action picks 0 (m .automata)) .update)
   unfolding mergedEdge

@@ -7,7 +7,7 @@ use native.Mathlib.Omega.{arith}
 use native.Mathlib.Nat.{add-zero}
 use native.Mathlib.Numerals.{add-one}
 use lib.IntN.{pos}
-use lib.ListN.{length, getD, drop, replicate, length-append, length-map, length-replicate}
+use lib.ListN.{length, getD, drop, replicate, length-append, length-drop, length-map, length-replicate}
 use lib.Seq.{sets, sets-eq}
 use lib.Dec.{eqb, leb, ltb}
 use borrow.Author.Tests.{ne-eqb}
@@ -16,13 +16,14 @@ use Rattle.model.specs.Predicate.{Pred, all, none, eq, num, old, new, preds, al
 use Rattle.model.specs.Model.{Edge, Automaton, Model}
 use Rattle.model.specs.Rules.{Taker}
 use Rattle.model.specs.Lawful.{Lawful, LawfulAutomaton}
-use Rattle.model.specs.Lines.{edgeLine, automatonLines}
+use Rattle.model.specs.Lines.{edgeLine, composeLine, automatonLines}
 use Rattle.model.specs.Table.{code, predWords, lineWords, sheetWords}
 use Rattle.model.specs.Moves.{under, alone}
 use Rattle.model.specs.Linear.{pointer, pointerMoves, mergedEdge}
 use Rattle.model.proofs.Tests.{exists-append}
 use Rattle.model.proofs.Lists.{keep-out}
 use Rattle.model.proofs.LinearLimits.{preds-count, pointers-length}
+use Rattle.model.proofs.Sizes.{words-fit}
 use Rattle.table_places.specs.Outline.{reach, nodesPlace, afterPredicate, updatePlace, firstEdge, edgesAt, afterAutomaton, firstAutomaton}
 use Rattle.table_places.specs.Layout.{layoutOf}
 use Rattle.table_places.proofs.OutlineLaws as O
@@ -36,11 +37,11 @@ use Rattle.merge_append.specs.NodeWords.{allNode, newNode, pointerOf, most, cap
 use Rattle.merge_append.proofs.NodeLaws.{capped-is}
 use Rattle.merge_takers.specs.Taking.{isUnder, still, edgeUnder, takenAt, takenFrom, takers}
 use Rattle.merge_edges.specs.Edge.{updateAt, moveAt, updatesAt, movesAt, takerNodes, takersNodes, takerOperands, takersOperands, edgeBy, updateDeep, updatesDeep}
-use Rattle.merge_edges.specs.Edges.{edgeWordsAt}
 use Rattle.merge_table.proofs.Standing.{narrow-is, run-length, nodes-stand, automata-cons, Along, along-first, along-rest}
 use Rattle.merge_table.proofs.HeadIs.{pointer-sum, laid-variables, automata-stand, laid-edges}
 use Rattle.merge_table.proofs.ClausesAre.{capped-most, capped-add, codes, codes-append, codes-cons, number-code, old-code, all-code}
 use Rattle.merge_table.proofs.DepthsAre.{Readable, readable, deeper-stands}
+use Rattle.merge_table.proofs.PlacesAre.{Placed, absent, taking, PlacedAll, no-more, one-more}
 
 -- past the last edge under an action; no valid pick names it
 abbrev pub noEdge : Edge
@@ -86,9 +87,9 @@ under-above t action j (suc n) at h k = go (isUnder t action at && eqb j 0) (und
     go true i = k
     go false i = i
 
--- where edge j under the action stands
-abbrev Stands : List ℕ → ℕ → Edge → Type 0
-Stands t at e = (rest : List ℕ) × (drop at t ≡ lineWords (edgeLine e) ++ rest)
+-- where edge j under the action stands, with n words after it at least
+abbrev Stands : List ℕ → ℕ → Edge → ℕ → Type 0
+Stands t at e n = (rest : List ℕ) × (drop at t ≡ lineWords (edgeLine e) ++ rest) × (n ≤ length rest)
 
 pub under-yes : (action : ℕ) (e : Edge) (es : List Edge) → eqb (e .action) action ≡ true → under action (e ∷ es) ≡ e ∷ under action es
 unfolding under keep
@@ -135,32 +136,33 @@ module _ (t : List ℕ) (at : ℕ) (x : Edge) (es : List Edge) (rest : List ℕ)
   first-past = O.next-edge t (edgeWords es ++ rest) x at first-there
 
 under-stands : (t : List ℕ) (action : ℕ) (es : List Edge) (j at : ℕ) (rest : List ℕ) → j < length (under action es) → drop at t ≡ edgeWords es ++ rest
-    → Stands t (edgeUnder t action j (length es) at) (getD (under action es) j noEdge)
+    → Stands t (edgeUnder t action j (length es) at) (getD (under action es) j noEdge) (length rest)
 under-stands t action [] j at rest h e = let z : length (under action []) ≡ 0 = unfold under keep in refl in absurd (omega arith)
 under-stands t action (x ∷ es) j at rest h e = go (λ k l. under-stands t action es k (afterPredicate t (updatePlace t at)) rest l (first-past t at x es rest e)) (eqb (x .action) action) refl
   where
     Later : Type 0
-    Later = (k : ℕ) → k < length (under action es) → Stands t (edgeUnder t action k (length es) (afterPredicate t (updatePlace t at))) (getD (under action es) k noEdge)
+    Later = (k : ℕ) → k < length (under action es) → Stands t (edgeUnder t action k (length es) (afterPredicate t (updatePlace t at))) (getD (under action es) k noEdge) (length rest)
 
     found : Later → (k : ℕ) → eqb (x .action) action ≡ true → k < length (x ∷ under action es)
-        → Stands t (edgeUnder t action k (suc (length es)) at) (getD (x ∷ under action es) k noEdge)
+        → Stands t (edgeUnder t action k (suc (length es)) at) (getD (x ∷ under action es) k noEdge) (length rest)
     found later zero q l =
         let u : isUnder t action at ≡ true = first-under t at x es rest e action ∙ q in
-        (edgeWords es ++ rest, ap (λ (p : ℕ). drop p t) (step-here t action (length es) at u) ∙ first-there t at x es rest e)
+        (edgeWords es ++ rest, ap (λ (p : ℕ). drop p t) (step-here t action (length es) at u) ∙ first-there t at x es rest e, omega (arith, length-append (edgeWords es) rest))
     found later (suc k) q l =
         let u : isUnder t action at ≡ true = first-under t at x es rest e action ∙ q in
         let ih = later k (omega arith) in
-        (ih .0, ap (λ (p : ℕ). drop p t) (step-on t action (length es) at k u) ∙ ih .1)
+        (ih .0, ap (λ (p : ℕ). drop p t) (step-on t action (length es) at k u) ∙ ih .1, ih .2)
 
-    go : Later → (b : Bool) → eqb (x .action) action ≡ b → Stands t (edgeUnder t action j (suc (length es)) at) (getD (under action (x ∷ es)) j noEdge)
+    go : Later → (b : Bool) → eqb (x .action) action ≡ b → Stands t (edgeUnder t action j (suc (length es)) at) (getD (under action (x ∷ es)) j noEdge) (length rest)
     go later true q = rw (under-yes action x es q) (found later j q (rw (under-yes action x es q) at h))
     go later false q =
         let u : isUnder t action at ≡ false = first-under t at x es rest e action ∙ q in
         let ih = later j (rw (under-no action x es q) at h) in
-        rw (under-no action x es q) (ih .0, ap (λ (p : ℕ). drop p t) (step-past t action (length es) at j u) ∙ ih .1)
+        rw (under-no action x es q) (ih .0, ap (λ (p : ℕ). drop p t) (step-past t action (length es) at j u) ∙ ih .1, ih .2)
 
--- What one automaton's place adds to the edge: its taker's update, pointer moves, operands, and depth.
+-- What one automaton's place says, and adds to the edge: its taker's update, pointer moves, operands, and depth.
 record Adds (m : Model) (t : List ℕ) (i place : ℕ) (ts : List Taker) : Type 0 where
+  placed : Placed t i place ts
   updates : updateAt t place ≡ codes (map (λ y. y .edge .update) ts)
   moves : moveAt t (pointerOf (length (m .variables)) i) place ≡ codes (pointerMoves m ts)
   operands-add : (sum : ℕ) → sum ≤ most → takerOperands sum place ≡ capped (sum + 3 * length ts)
@@ -168,16 +170,13 @@ record Adds (m : Model) (t : List ℕ) (i place : ℕ) (ts : List Taker) : Type 
 
 adds-none : (m : Model) (t : List ℕ) (i : ℕ) → Adds m t i 0 []
 unfolding updateAt moveAt takerOperands updateDeep exists preds words wordsAll wordsOf pointerMoves
-adds-none m t i = record { updates = refl; moves = refl; operands-add = λ sum h. rw (add-zero sum) (capped-is sum h); deep = refl }
+adds-none m t i = record { placed = absent; updates = refl; moves = refl; operands-add = λ sum h. rw (add-zero sum) (capped-is sum h); deep = refl }
 
 new-code : (k : ℕ) → k < 65536 → newNode k ≡ code (newWord k)
 unfolding newNode
 new-code k h = ap (λ (n : ℕ). wordFor (New n)) (narrow-is k (omega arith)) ∙ new-held k (omega arith)
 
-module _ (m : Model) (t : List ℕ) (i place : ℕ) (e : Edge) (rest : List ℕ) (at : drop place t ≡ lineWords (edgeLine e) ++ rest) (above : 1 ≤ place) where
-  taker : List Taker
-  taker = alone i e
-
+module _ (m : Model) (t : List ℕ) (i place : ℕ) (e : Edge) (rest : List ℕ) (at : drop place t ≡ lineWords (edgeLine e) ++ rest) (above : 1 ≤ place) (few : place ≤ most) where
   isnt : eqb place 0 ≡ false
   isnt = ne-eqb place 0 (λ z. absurd (omega arith))
 
@@ -190,6 +189,7 @@ module _ (m : Model) (t : List ℕ) (i place : ℕ) (e : Edge) (rest : List ℕ)
       let u : nodesAt t (updatePlace t place) ≡ map code (words (e .update)) = nodes-stand t (updatePlace t place) (e .update) rest update-place in
       let one : codes (e .update ∷ []) ≡ map code (words (e .update)) = codes-cons (e .update) [] ∙ append-nil (map code (words (e .update))) in
       record {
+        placed = taking place e rest at above few;
         updates = rw (isnt, updateAt) (u ∙ sym one);
         moves = rw (isnt, moveAt, k, from-stands t rest e place at, to-stands t rest e place at, old-code (pointer m i) kh, new-code (pointer m i) kh, number-code (e .from) hf, number-code (e .to) ht);
         operands-add = λ sum h. rw (isnt, takerOperands) (ap capped (omega arith));
@@ -205,12 +205,17 @@ listed-at d [] k h = absurd (omega arith)
 listed-at d (y ∷ l) zero h = List·Memᴰ·head refl
 listed-at d (y ∷ l) (suc k) h = List·Memᴰ·tail (listed-at d l k (omega arith))
 
+-- an edge has words
+edge-some : (d : Edge) → 1 ≤ length (lineWords (edgeLine d))
+unfolding lineWords
+edge-some d = omega arith
+
 -- the edges that stand at a lawful automaton's place
 taker-adds : (m : Model) (t : List ℕ) (A action i pick at : ℕ) (x : Automaton) (rest : List ℕ) → LawfulAutomaton (m .variables) A x → length (m .variables) < 32768 → i < 32768
-    → 1 ≤ length t → drop at t ≡ linesOf (automatonLines x) ++ rest → pick ≤ length (under action (x .edges)) → Adds m t i (takenAt t action pick (edgesAt t at)) (takerBy action i x pick)
+    → 1 ≤ length t → length t ≤ most + length rest → drop at t ≡ linesOf (automatonLines x) ++ rest → pick ≤ length (under action (x .edges)) → Adds m t i (takenAt t action pick (edgesAt t at)) (takerBy action i x pick)
 unfolding takenAt takerBy keep under
-taker-adds m t A action i zero at x rest lawful hv hi some e few = adds-none m t i
-taker-adds m t A action i (suc j) at x rest lawful hv hi some e few =
+taker-adds m t A action i zero at x rest lawful hv hi some long e few = adds-none m t i
+taker-adds m t A action i (suc j) at x rest lawful hv hi some long e few =
     let z : eqb (suc j) 0 ≡ false = ne-eqb (suc j) 0 (λ y. absurd (omega arith)) in
     let one : suc j - 1 ≡ j = omega arith in
     let n : getD t (edgesAt t at) 0 ≡ length (x .edges) = edge-count t rest x at e in
@@ -221,11 +226,14 @@ taker-adds m t A action i (suc j) at x rest lawful hv hi some e few =
     let d = getD (under action (x .edges)) j noEdge in
     let l = lawful .edges d (keep-out (λ y. eqb (y .action) action) (x .edges) (listed-at noEdge (under action (x .edges)) j (omega arith)) .0) in
     let few-locations = lawful .few-locations in
+    let words : length t - place ≡ length (lineWords (edgeLine d)) + length (s .0) = sym (length-drop place t) ∙ ap length (s .1) ∙ length-append (lineWords (edgeLine d)) (s .0) in
+    let low : place ≤ most = omega (arith, words, edge-some d, s .2) in
     let it : takenAt t action (suc j) (edgesAt t at) ≡ place = rw (z, one, n, takenAt) in
-    rw it (adds-one m t i place d (s .0) (s .1) above hv hi (omega (arith, l .from)) (omega (arith, l .to)) (readable (d .update) (l .update)))
+    rw it (adds-one m t i place d (s .0) (s .1) above low hv hi (omega (arith, l .from)) (omega (arith, l .to)) (readable (d .update) (l .update)))
 
--- What the places of all automata add.
+-- What the places of all automata say and add.
 pub record AddsAll (m : Model) (t : List ℕ) (i : ℕ) (places : List ℕ) (ts : List Taker) : Type 0 where
+  pub placed : PlacedAll t i places ts
   pub updates : updatesAt t places ≡ codes (map (λ y. y .edge .update) ts)
   pub moves : movesAt t (length (m .variables)) i places ≡ codes (pointerMoves m ts)
   pub operands-add : (sum : ℕ) → sum ≤ most → takersOperands sum places ≡ capped (sum + 3 * length ts)
@@ -243,6 +251,7 @@ adds-more m t i p ps a b one others =
     let u : Taker → Pred = λ y. y .edge .update in
     let deep-one : Taker → Bool = λ y. ltb 23 (depth (y .edge .update)) in
     record {
+      placed = one-more i p ps a b (one .placed) (others .placed);
       updates = ap₂ (λ (k l : List ℕ). k ++ l) (one .updates) (others .updates) ∙ sym (ap codes (map-append u a b) ∙ codes-append (map u a) (map u b));
       moves = rw (add-one i) (ap₂ (λ (k l : List ℕ). k ++ l) (one .moves) (others .moves) ∙ sym (ap codes (moves-append m a b) ∙ codes-append (pointerMoves m a) (pointerMoves m b)));
       operands-add = λ sum h.
@@ -254,19 +263,19 @@ adds-more m t i p ps a b one others =
 
 adds-zeros : (m : Model) (t : List ℕ) (i k : ℕ) → AddsAll m t i (replicate k 0) []
 unfolding updatesAt movesAt takersOperands updatesDeep exists preds words wordsAll wordsOf pointerMoves
-adds-zeros m t i zero = record { updates = refl; moves = refl; operands-add = λ sum h. rw (add-zero sum) (capped-is sum h); deep = refl }
+adds-zeros m t i zero = record { placed = no-more i; updates = refl; moves = refl; operands-add = λ sum h. rw (add-zero sum) (capped-is sum h); deep = refl }
 adds-zeros m t i (suc k) = adds-more m t i 0 (replicate k 0) [] [] (adds-none m t i) (adds-zeros m t (suc i) k)
 
 adds-all : (m : Model) (t edges : List ℕ) (A action : ℕ) (picks : List ℕ) (xs : List Automaton) (i at k : ℕ) (rest : List ℕ) → ((x : Automaton) → List·Memᴰ x xs → LawfulAutomaton (m .variables) A x)
-    → length (m .variables) < 32768 → i + length xs < 32768 → 1 ≤ length t → drop at t ≡ automatonWords xs ++ rest → Along t (edgesAt t) edges i at (length xs) → Valid action picks i xs
+    → length (m .variables) < 32768 → i + length xs < 32768 → 1 ≤ length t → length t ≤ most + length rest → drop at t ≡ automatonWords xs ++ rest → Along t (edgesAt t) edges i at (length xs) → Valid action picks i xs
     → AddsAll m t i (takenFrom t edges action picks i (length xs) ++ replicate k 0) (takersFrom action picks i xs)
 unfolding takenFrom takersFrom Valid
-adds-all m t edges A action picks [] i at k rest lawful hv hi some e starts valid = adds-zeros m t i k
-adds-all m t edges A action picks (x ∷ xs) i at k rest lawful hv hi some e starts valid =
+adds-all m t edges A action picks [] i at k rest lawful hv hi some long e starts valid = adds-zeros m t i k
+adds-all m t edges A action picks (x ∷ xs) i at k rest lawful hv hi some long e starts valid =
     let f = automata-cons t at x xs rest e in
     let others = automatonWords xs ++ rest in
-    let one = taker-adds m t A action i (getD picks i 0) at x others (lawful x (List·Memᴰ·head refl)) hv (omega arith) some f (valid .0) in
-    let more = adds-all m t edges A action picks xs (suc i) (afterAutomaton t at) k rest (λ y q. lawful y (List·Memᴰ·tail q)) hv (omega arith) some (after-automaton t others x at f)
+    let one = taker-adds m t A action i (getD picks i 0) at x others (lawful x (List·Memᴰ·head refl)) hv (omega arith) some (omega (arith, length-append (automatonWords xs) rest)) f (valid .0) in
+    let more = adds-all m t edges A action picks xs (suc i) (afterAutomaton t at) k rest (λ y q. lawful y (List·Memᴰ·tail q)) hv (omega arith) some long (after-automaton t others x at f)
     (along-rest t (edgesAt t) edges i at (length xs) starts) (valid .1) in
     rw (add-one i, along-first t (edgesAt t) edges i at (length xs) starts)
     (adds-more m t i (takenAt t action (getD picks i 0) (edgesAt t at)) _ (takerBy action i x (getD picks i 0)) (takersFrom action picks (suc i) xs) one more)
@@ -348,7 +357,9 @@ module _ (m : Model) (lawful : Lawful m) (t rest : List ℕ) (e : t ≡ sheetWor
   takers-add =
       let fv = lawful .few-variables in
       let fn = lawful .few-automata in
-      rw places-are (adds-all m t (layoutOf t .edges) (m .actions) action picks (m .automata) 0 (firstAutomaton t) (16 - length (m .automata)) _ (lawful .automata) (omega arith) (omega arith) some-words
+      let tree = lineWords (composeLine (m .tree)) in
+      let long : length t ≤ most + length (tree ++ rest) = omega (arith, ap length e, length-append (sheetWords m) rest, length-append tree rest, words-fit m lawful) in
+      rw places-are (adds-all m t (layoutOf t .edges) (m .actions) action picks (m .automata) 0 (firstAutomaton t) (16 - length (m .automata)) (tree ++ rest) (lawful .automata) (omega arith) (omega arith) some-words long
       (automata-stand m lawful t rest e) (laid-edges m lawful t rest e) valid)
 
   -- row 33 for this edge
@@ -373,8 +384,8 @@ module _ (m : Model) (lawful : Lawful m) (t rest : List ℕ) (e : t ≡ sheetWor
   unfolding mergedEdge
   edge-nodes = nodes-read
 
-  pub edge-words : nodeCount (mergedEdge m action named .update) ≤ most → edgeWordsAt t (layoutOf t) action picks ≡ lineWords (edgeLine (mergedEdge m action named))
-  unfolding edgeWordsAt edgeBy mergedEdge lineWords predWords words wordsAll wordsOf
+  pub edge-words : nodeCount (mergedEdge m action named .update) ≤ most → edgeBy t (layoutOf t .variables) action (takers t (layoutOf t) action picks) ≡ lineWords (edgeLine (mergedEdge m action named))
+  unfolding edgeBy mergedEdge lineWords predWords words wordsAll wordsOf
   edge-words few =
       let a = takers-add in
       let us = map (λ (y : Taker). y .edge .update) named in

@@ -5,7 +5,7 @@ use mathlib.Core.List.{List, _++_, map}
 use mathlib.Core.Option.{none, some}
 use Prim.Native.Nat.{ℕ, suc}
 use native.Mathlib.Omega.{arith}
-use lib.ListN.{length, replicate}
+use lib.ListN.{length, replicate, length-replicate}
 use lib.Dec.{eqb, ltb}
 use borrow.Author.Tests.{eq-eqb, ne-eqb}
 use Rattle.model.specs.Bounds.{maxEdges, maxNodes, tableWords}
@@ -23,62 +23,85 @@ use Rattle.table_append.specs.Append.{put}
 use Rattle.merge_append.specs.Append.{narrow, placed, Appended}
 use Rattle.table_places.specs.declared.layout.Layout.{Layout}
 use Rattle.table_places.specs.Layout.{layoutOf}
-use Rattle.merge_takers.specs.Moves.{movesIn}
+use Rattle.merge_takers.specs.Gather.{gathered}
 use Rattle.merge_words.specs.MergedSheet.{mergedSheet}
-use Rattle.merge_words.specs.Survey.{surveyWhole}
-use Rattle.merge_words.specs.Linearize.{refusedBy, mergedTo, isCrowded, faultBy, sheetTable, linearFor, linearIn, linearBy}
+use Rattle.merge_words.specs.declared.parts.Gathered.{Gathered}
+use Rattle.merge_words.specs.declared.survey.Survey.{Survey}
+use Rattle.merge_words.specs.Survey.{surveyFrom, surveyStart, surveyWhole}
+use Rattle.merge_words.specs.Linearize.{gatheredIn, takersFor, refusedBy, mergedTo, isCrowded, faultBy, sheetTable, linearFor, linearBy}
 use Rattle.merge_table.specs.Linearization.{linearModel, linearizationOf, linearization}
 use Rattle.merge_table.proofs.Standing.{ownOf}
-use Rattle.merge_table.proofs.CountIs.{count-row, count-exact, counts-few, variables-row}
-use Rattle.merge_table.proofs.SurveyIs.{survey-deep, survey-row34}
+use Rattle.merge_table.proofs.CountIs.{count-row, count-exact, variables-row}
+use Rattle.merge_table.proofs.SurveyIs.{Begun, start-begun, survey-deep, survey-row34}
 use Rattle.merge_table.proofs.WholeIs.{rows-kept, whole-table}
 
 module _ (m : Model) (lawful : Lawful m) (t rest : List ℕ) (e : t ≡ sheetWords m ++ rest) where
   abbrev lay : Layout
   lay = layoutOf t
 
-  abbrev own : List ℕ
-  own = ownOf t
+  abbrev g : Gathered
+  g = gatheredIn t lay
 
-  abbrev counted : ℕ
-  counted = movesIn t lay own
+  abbrev list : List ℕ
+  list = takersFor t lay
 
   abbrev found : Linearization
-  found = linearFor t lay own counted
+  found = linearFor t g list
+
+  -- as many edges as there are
+  counted-all : row32 m ≡ false → g .edges ≡ mergedCount m
+  unfolding gatheredIn
+  counted-all b = count-exact m lawful t rest e b
 
   -- a row that refuses
-  refuses : (row : ℕ) → faultBy t lay own counted ≡ suc row → mergeFault m ≡ some (suc row) → found ≡ linearModel m
+  refuses : (row : ℕ) → faultBy t g list ≡ suc row → mergeFault m ≡ some (suc row) → found ≡ linearModel m
   unfolding linearFor linearModel
-  refuses row f g =
-      let z : eqb (faultBy t lay own counted) 0 ≡ false = ne-eqb (faultBy t lay own counted) 0 (λ q. let n : suc row ≡ 0 = sym f ∙ q in omega arith) in
-      rw (z, linearFor, g, linearModel, f)
+  refuses row f h =
+      let z : eqb (faultBy t g list) 0 ≡ false = ne-eqb (faultBy t g list) 0 (λ q. let n : suc row ≡ 0 = sym f ∙ q in omega arith) in
+      rw (z, linearFor, h, linearModel, f)
 
   -- no row refuses
-  merges : faultBy t lay own counted ≡ 0 → mergeFault m ≡ none → found ≡ linearModel m
+  merges : faultBy t g list ≡ 0 → mergeFault m ≡ none → found ≡ linearModel m
   unfolding linearFor linearModel sheetTable
-  merges f g =
-      let ws = mergedSheet t lay own counted in
+  merges z f =
+      let ws = mergedSheet t g list in
       let zeros : List ℕ = replicate tableWords 0 in
       let there : Appended ws 0 zeros (put 0 (map narrow ws) zeros) (placed 0 (length ws)) = record { next = refl; memory = refl } in
-      let table : sheetTable t lay own counted ≡ tableOf (linear m) = whole-table m lawful t rest e g _ _ there in
-      let count : counted ≡ mergedCount m = count-exact m lawful t rest e (rows-kept m g .edges) in
-      rw (eq-eqb (faultBy t lay own counted) 0 f, linearFor, g, linearModel) (ap₂ mergedTo count table)
+      let table : sheetTable t g list ≡ tableOf (linear m) = whole-table m lawful t rest e f _ _ there in
+      let count : g .edges ≡ mergedCount m = counted-all (rows-kept m f .edges) in
+      rw (eq-eqb (faultBy t g list) 0 z, linearFor, f, linearModel) (ap₂ mergedTo count table)
 
   -- the tests over words are the rows
   test31 : isCrowded lay ≡ row31 m
   unfolding isCrowded
   test31 = variables-row m lawful t rest e
 
-  test32 : ltb maxEdges counted ≡ row32 m
+  test32 : ltb maxEdges (g .edges) ≡ row32 m
+  unfolding gatheredIn
   test32 = count-row m lawful t rest e
 
   module _ (a : row31 m ≡ false) where
     module _ (b : row32 m ≡ false) where
-      test33 : surveyWhole t lay own .deep ≡ row33 m
-      test33 = survey-deep m lawful t rest e (counts-few m lawful t rest e b)
+      abbrev begun : Survey
+      begun = surveyStart t (g .inits) (g .invs)
 
-      test34 : ltb maxNodes (surveyWhole t lay own .nodes) ≡ row34 m
-      test34 = survey-row34 m lawful t rest e (counts-few m lawful t rest e b)
+      -- the survey that the code makes is that of all merged edges
+      surveyed-all : surveyWhole t g list ≡ surveyFrom t (gathered t lay (ownOf t) (replicate tableWords 0)) 0 (mergedCount m) begun
+      unfolding surveyWhole takersFor
+      surveyed-all = ap (λ n. surveyFrom t list 0 n begun) (counted-all b)
+
+      begins : Begun m begun
+      unfolding gatheredIn
+      begins = start-begun m lawful t rest e
+
+      empty : length (replicate {A = ℕ} tableWords 0) ≡ tableWords
+      empty = length-replicate {A = ℕ} tableWords 0
+
+      test33 : surveyWhole t g list .deep ≡ row33 m
+      test33 = ap (λ (s : Survey). s .deep) surveyed-all ∙ survey-deep m lawful t rest e b (replicate tableWords 0) empty begun begins
+
+      test34 : ltb maxNodes (surveyWhole t g list .nodes) ≡ row34 m
+      test34 = ap (λ (s : Survey). ltb maxNodes (s .nodes)) surveyed-all ∙ survey-row34 m lawful t rest e b (replicate tableWords 0) empty begun begins
 
       in34 : row33 m ≡ false → (d : Bool) → row34 m ≡ d → found ≡ linearModel m
       unfolding faultBy mergeFault broken
@@ -96,7 +119,7 @@ module _ (m : Model) (lawful : Lawful m) (t rest : List ℕ) (e : t ≡ sheetWor
     in32 false b = in33 b (row33 m) refl
 
   pub linear-by-is : linearBy t ≡ linearModel m
-  unfolding linearBy linearIn linearModel mergeFault broken
+  unfolding linearBy linearModel mergeFault broken
   linear-by-is = in31 (row31 m) refl
     where
       in31 : (a : Bool) → row31 m ≡ a → linearBy t ≡ linearModel m

@@ -1,10 +1,11 @@
 -- The merged sheet's words are those of the merged model.
 use mathlib.Core.Path.{_≡_, refl, sym, ap, ap₂, _∙_}
+use mathlib.Core.Bool.{false}
 use mathlib.Core.List.{List, [], _∷_, _++_, append-assoc, append-nil, map, flatMap, List·Memᴰ}
 use Prim.Native.Nat.{ℕ, _≤_}
-use lib.ListN.{length}
+use lib.ListN.{length, replicate, length-replicate}
 use Rattle.model.specs.Basic.{keep, countUp}
-use Rattle.model.specs.Bounds.{maxEdges}
+use Rattle.model.specs.Bounds.{tableWords}
 use Rattle.model.specs.Predicate.{nodeCount}
 use Rattle.model.specs.Composition.{leaf, nodes, treeSize}
 use Rattle.model.specs.Model.{Model, Automaton, inSet}
@@ -12,22 +13,41 @@ use Rattle.model.specs.Rules.{Taker}
 use Rattle.model.specs.Lawful.{Lawful}
 use Rattle.model.specs.Lines.{Entry, formatLine, actionsLine, variablesLine, variableLine, automataLine, composeLine, locationLines, automatonLines, lines}
 use Rattle.model.specs.Table.{setWords, predWords, nodeWords, lineWords, sheetWords}
-use Rattle.model.specs.Moves.{moves, moveCount}
-use Rattle.model.specs.Linear.{mergedInit, mergedInv, mergedEdge, mergedEdges, linear}
+use Rattle.model.specs.Moves.{moves}
+use Rattle.model.specs.Linear.{mergedInit, mergedInv, mergedEdge, mergedEdges, linear, row32}
 use Rattle.table_places.proofs.OutlineLaws.{wordsOf, edgeWords, words-append}
 use Rattle.merge_append.specs.NodeWords.{most}
+use Rattle.merge_edges.specs.Edges.{edgesFrom}
 use Rattle.table_places.specs.Layout.{layoutOf}
-use Rattle.merge_table.proofs.Standing.{ownOf}
+use Rattle.merge_words.specs.declared.parts.Gathered.{Gathered}
 use Rattle.merge_words.specs.MergedSheet.{locationWords, automatonWords, mergedSheet}
+use Rattle.merge_words.specs.Linearize.{gatheredIn, takersFor}
+use Rattle.model.proofs.Count.{count-is}
+use Rattle.merge_table.proofs.CountIs.{count-exact}
 use Rattle.merge_table.proofs.HeadIs.{head-words}
 use Rattle.merge_table.proofs.ClausesAre.{init-words, inv-words}
 use Rattle.merge_table.proofs.SyncIs.{sync-words}
 use Rattle.merge_table.proofs.AllEdgesAre.{edges-words}
 
 module _ (m : Model) (lawful : Lawful m) (t rest : List ℕ) (e : t ≡ sheetWords m ++ rest)
-    (few : (a : ℕ) → a ≤ m .actions → moveCount m a (m .tree) ≤ maxEdges)
+    (kept : row32 m ≡ false)
     (init-small : nodeCount (mergedInit m) ≤ most) (inv-small : nodeCount (mergedInv m) ≤ most)
     (small : (a : ℕ) → a ≤ m .actions → (ts : List Taker) → List·Memᴰ ts (moves m a (m .tree)) → nodeCount (mergedEdge m a ts .update) ≤ most) where
+  abbrev g : Gathered
+  g = gatheredIn t (layoutOf t)
+
+  abbrev list : List ℕ
+  list = takersFor t (layoutOf t)
+
+  -- so many edges are gathered
+  count : g .edges ≡ length (mergedEdges m)
+  unfolding gatheredIn
+  count = count-exact m lawful t rest e kept ∙ sym (count-is m)
+
+  edges-gathered : edgesFrom t (layoutOf t .variables) list 0 (length (mergedEdges m)) ≡ edgeWords (mergedEdges m)
+  unfolding takersFor
+  edges-gathered = edges-words m lawful t rest e small kept (replicate tableWords 0) (length-replicate {A = ℕ} tableWords 0)
+
   abbrev whole : Automaton
   whole = record {
     sync = keep (λ a. inSet m a (m .tree)) (countUp 1 (m .actions));
@@ -46,11 +66,11 @@ module _ (m : Model) (lawful : Lawful m) (t rest : List ℕ) (e : t ≡ sheetWor
       (ap (λ (l : List Entry). map variableLine (linear m .variables) ++ (automataLine 1 ∷ (l ++ composeLine (leaf 0) ∷ []))) (append-nil (automatonLines whole)) ∙
       sym (append-assoc (map variableLine (linear m .variables)) (automataLine 1 ∷ []) (automatonLines whole ++ composeLine (leaf 0) ∷ [])))
 
-  automaton-words : automatonWords t (layoutOf t) (ownOf t) (length (mergedEdges m)) ≡ wordsOf (automatonLines whole)
-  unfolding automatonWords locationWords automatonLines locationLines flatMap lineWords
+  automaton-words : automatonWords t g list ≡ wordsOf (automatonLines whole)
+  unfolding automatonWords locationWords gatheredIn automatonLines locationLines flatMap lineWords
   automaton-words =
       let set = sync-words m lawful t rest e in
-      rw (init-words m lawful t rest e init-small, inv-words m lawful t rest e inv-small, edges-words m lawful t rest e few small)
+      rw (count, init-words m lawful t rest e init-small, inv-words m lawful t rest e inv-small, edges-gathered)
       (ap (λ (l : List ℕ). l ++ (1 ∷ ((predWords (mergedInit m) ++ predWords (mergedInv m)) ++ (length (mergedEdges m) ∷ edgeWords (mergedEdges m))))) set ∙
       ap (λ (l : List ℕ). setWords (whole .sync) ++ (1 ∷ l)) (append-assoc (predWords (mergedInit m)) (predWords (mergedInv m)) (length (mergedEdges m) ∷ edgeWords (mergedEdges m))))
 
@@ -59,8 +79,8 @@ module _ (m : Model) (lawful : Lawful m) (t rest : List ℕ) (e : t ≡ sheetWor
   tail-words = refl
 
   -- the law of the whole
-  pub sheet-words : mergedSheet t (layoutOf t) (ownOf t) (length (mergedEdges m)) ≡ sheetWords (linear m)
-  unfolding mergedSheet sheetWords
+  pub sheet-words : mergedSheet t (gatheredIn t (layoutOf t)) (takersFor t (layoutOf t)) ≡ sheetWords (linear m)
+  unfolding mergedSheet gatheredIn sheetWords
   sheet-words =
       sym (ap wordsOf in-parts ∙ words-append front (automatonLines whole ++ composeLine (leaf 0) ∷ []) ∙
       ap₂ (λ (k l : List ℕ). k ++ l) (sym (head-words m lawful t rest e))

@@ -27,7 +27,7 @@ use Rattle.table_places.proofs.Standing.{tree-stands}
 use Rattle.table_places.proofs.LayoutLaws.{tree-place}
 use Rattle.table_places.proofs.AgreeLaws.{own-agrees}
 use Rattle.merge_takers.specs.Moves.{rootOf}
-use Rattle.merge_words.specs.Sync.{isShared, shifted, bitsFrom, syncBy}
+use Rattle.merge_words.specs.Sync.{isShared, shifted, bitsFrom, setsOf, wordsOf}
 use Rattle.merge_table.proofs.Standing.{ownOf}
 use Rattle.merge_table.proofs.HeadIs.{laid-actions}
 
@@ -226,8 +226,8 @@ module _ (m : Model) (lawful : Lawful m) (t rest : List ℕ) (e : t ≡ sheetWor
       ap₂ (λ (k l : List ℕ). k ++ l) (keep-alike test inWhole 1 A test-in) (keep-nothing test (1 + A) (63 - A) test-past) ∙ append-nil (keep inWhole (countUp 1 A))
 
   -- the law: the two words are those of the merged automaton's set
-  pub sync-words : syncBy t (layoutOf t) (ownOf t) ≡ setWords (keep (λ a. inSet m a (m .tree)) (countUp 1 (m .actions)))
-  unfolding syncBy setWords
+  pub sync-words : wordsOf (setsOf t (layoutOf t)) ≡ setWords (keep (λ a. inSet m a (m .tree)) (countUp 1 (m .actions)))
+  unfolding wordsOf setsOf setWords
   sync-words =
       ap₂ (λ x y. x ∷ y ∷ []) (whole-bits test 0 ∙ sym (low-word test)) (whole-bits test 32 ∙ sym (high-word test)) ∙
       ap (λ (l : List ℕ). lowBits l ∷ highBits l ∷ []) kept-is

@@ -18,19 +18,16 @@ use Rattle.model.specs.Lawful.{Lawful}
 use Rattle.model.specs.Table.{sheetWords, tableOf}
 use Rattle.model.specs.Moves.{moves}
 use Rattle.model.specs.Linear.{mergedInit, mergedInv, mergedEdge, mergedEdges, linear, mergedPreds, row31, row32, row33, row34, mergeFault}
-use Rattle.model.proofs.Count.{count-is}
 use Rattle.model.proofs.Decode.{unbroken}
 use Rattle.model.proofs.LinearLimits.{linear-lawful}
 use Rattle.model.proofs.Sizes.{words-fit}
 use Rattle.merge_append.specs.Append.{Appended}
 use Rattle.merge_append.specs.NodeWords.{most}
-use Rattle.merge_takers.specs.Moves.{movesIn}
 use Rattle.table_places.specs.Layout.{layoutOf}
 use Rattle.merge_words.specs.MergedSheet.{mergedSheet}
-use Rattle.merge_table.proofs.Standing.{ownOf}
+use Rattle.merge_words.specs.Linearize.{gatheredIn, takersFor}
 use Rattle.merge_append.proofs.AppendLaws.{appended-is}
 use Rattle.merge_table.proofs.EdgesAre.{drop-zeros}
-use Rattle.merge_table.proofs.CountIs.{count-exact, counts-few}
 use Rattle.merge_table.proofs.SheetIs.{sheet-words}
 use Rattle.merge_table.proofs.WordsFit.{fits}
 
@@ -100,14 +97,13 @@ module _ (m : Model) (rows : Kept m) where
 
 module _ (m : Model) (lawful : Lawful m) (t rest : List ℕ) (e : t ≡ sheetWords m ++ rest) (unrefused : mergeFault m ≡ none) where
   -- the words
-  pub whole-words : mergedSheet t (layoutOf t) (ownOf t) (movesIn t (layoutOf t) (ownOf t)) ≡ sheetWords (linear m)
+  pub whole-words : mergedSheet t (gatheredIn t (layoutOf t)) (takersFor t (layoutOf t)) ≡ sheetWords (linear m)
   whole-words =
       let rows = rows-kept m unrefused in
-      ap (mergedSheet t (layoutOf t) (ownOf t)) (count-exact m lawful t rest e (rows .edges) ∙ sym (count-is m)) ∙
-      sheet-words m lawful t rest e (counts-few m lawful t rest e (rows .edges)) (init-small m rows) (inv-small m rows) (edge-small m rows)
+      sheet-words m lawful t rest e (rows .edges) (init-small m rows) (inv-small m rows) (edge-small m rows)
 
   -- the table
-  pub whole-table : (new : List ℕ) (r : ℕ) → Appended (mergedSheet t (layoutOf t) (ownOf t) (movesIn t (layoutOf t) (ownOf t))) 0 (replicate tableWords 0) new r
+  pub whole-table : (new : List ℕ) (r : ℕ) → Appended (mergedSheet t (gatheredIn t (layoutOf t)) (takersFor t (layoutOf t))) 0 (replicate tableWords 0) new r
       → new ≡ tableOf (linear m)
   unfolding tableOf
   whole-table new r a =

@@ -1,2 +1,3 @@
 pub mod TakingLaws
 pub mod MovesLaws
+pub mod GatheringLaws

@@ -12,10 +12,30 @@ use Rattle.table_places.specs.Layout.{layoutOf}
 use Rattle.table_places.specs.Own.{ownSets}
 use Rattle.merge_append.specs.Append.{narrow}
 use Rattle.merge_append.specs.NodeWords.{pointerOf}
+use Rattle.merge_predicates.specs.Functions.{functionsOf}
 use Rattle.merge_takers.specs.Moves.{movesIn}
+use Rattle.merge_takers.specs.Gather.{gathered}
 use Rattle.merge_words.specs.declared.Linearization.{Linearization}
+use Rattle.merge_words.specs.declared.parts.Gathered.{Gathered}
+use Rattle.merge_words.specs.Sync.{setsOf}
 use Rattle.merge_words.specs.MergedSheet.{mergedSheet}
 use Rattle.merge_words.specs.Survey.{surveyWhole}
+
+-- what Definition 4 needs, in its order: the wild-cards, the initial predicates, the invariants, the synchronising set,
+-- and the number of the action transitions
+unfoldable pub gatheredIn : (t : List ℕ) (x : Layout) → Gathered
+gatheredIn t x =
+    record {
+      wildcards = x;
+      inits = functionsOf t x false;
+      invs = functionsOf t x true;
+      sets = setsOf t x;
+      edges = movesIn t x (ownSets t (x .sets));
+    }
+
+-- their takers, in an empty list
+unfoldable pub takersFor : (t : List ℕ) (x : Layout) → List ℕ
+takersFor t x = gathered t x (ownSets t (x .sets)) (replicate tableWords 0)
 
 -- a refusal has no edges and an empty table
 unfoldable pub refusedBy : (row : ℕ) → Linearization
@@ -28,30 +48,30 @@ mergedTo edges table = record { row = 0; edges = edges; table = table }
 unfoldable pub isCrowded : (x : Layout) → Bool
 isCrowded x = ltb maxVariables (pointerOf (x .variables) (x .automata))
 
-module _ (t : List ℕ) (x : Layout) (own : List ℕ) (edges : ℕ) where
+module _ (t : List ℕ) (g : Gathered) (takers : List ℕ) where
   -- the first of rows 32 to 34 that refuses, or 0
   unfoldable pub faultBy : ℕ
   faultBy =
-      elim (ltb maxEdges edges) [
+      elim (ltb maxEdges (g .edges)) [
         | true ↦ 32
         | false ↦
-            elim (surveyWhole t x own .deep) [
+            elim (surveyWhole t g takers .deep) [
               | true ↦ 33
-              | false ↦ elim (ltb maxNodes (surveyWhole t x own .nodes)) [ true ↦ 34 | false ↦ 0 ]
+              | false ↦ elim (ltb maxNodes (surveyWhole t g takers .nodes)) [ true ↦ 34 | false ↦ 0 ]
             ]
       ]
 
   -- the merged sheet in an empty table
   unfoldable pub sheetTable : List ℕ
-  sheetTable = put 0 (map narrow (mergedSheet t x own edges)) (replicate tableWords 0)
+  sheetTable = put 0 (map narrow (mergedSheet t g takers)) (replicate tableWords 0)
 
   unfoldable pub linearFor : Linearization
-  linearFor = elim (eqb faultBy 0) [ true ↦ mergedTo edges sheetTable | false ↦ refusedBy faultBy ]
+  linearFor = elim (eqb faultBy 0) [ true ↦ mergedTo (g .edges) sheetTable | false ↦ refusedBy faultBy ]
 
--- with the automata's own sets and the count of merged edges
-unfoldable pub linearIn : (t : List ℕ) (x : Layout) → Linearization
-linearIn t x = let own = ownSets t (x .sets) in linearFor t x own (movesIn t x own)
-
--- row 31 is asked before the edges are counted
+-- row 31 is asked once the wild-cards are known
 unfoldable pub linearBy : (t : List ℕ) → Linearization
-linearBy t = elim (isCrowded (layoutOf t)) [ true ↦ refusedBy 31 | false ↦ linearIn t (layoutOf t) ]
+linearBy t =
+    elim (isCrowded (layoutOf t)) [
+      | true ↦ refusedBy 31
+      | false ↦ linearFor t (gatheredIn t (layoutOf t)) (takersFor t (layoutOf t))
+    ]

@@ -1,21 +1,25 @@
--- The words of the whole merged sheet.
-use mathlib.Core.Bool.{true, false}
+-- The words of the whole merged sheet, from what was gathered.
 use mathlib.Core.List.{List, [], _∷_, _++_}
 use Prim.Native.Nat.{ℕ}
 use Rattle.table_places.specs.declared.layout.Layout.{Layout}
+use Rattle.merge_predicates.specs.declared.functions.Functions.{Functions}
 use Rattle.merge_predicates.specs.Clauses.{mergedWords}
-use Rattle.merge_edges.specs.Edges.{edgesIn}
+use Rattle.merge_edges.specs.Edges.{edgesFrom}
+use Rattle.merge_words.specs.declared.parts.Gathered.{Gathered}
 use Rattle.merge_words.specs.Head.{headWords}
-use Rattle.merge_words.specs.Sync.{syncBy}
+use Rattle.merge_words.specs.Sync.{wordsOf}
 
 -- one location, with its init and its inv
-unfoldable pub locationWords : (t : List ℕ) (x : Layout) → List ℕ
-locationWords t x = 1 ∷ (mergedWords t x false ++ mergedWords t x true)
+unfoldable pub locationWords : (t : List ℕ) (x : Layout) (inits invs : Functions) → List ℕ
+locationWords t x inits invs = 1 ∷ (mergedWords t x inits ++ mergedWords t x invs)
 
--- the set, the location, so many edges, and the edges
-unfoldable pub automatonWords : (t : List ℕ) (x : Layout) (own : List ℕ) (count : ℕ) → List ℕ
-automatonWords t x own count = syncBy t x own ++ (locationWords t x ++ (count ∷ edgesIn t x own))
+module _ (t : List ℕ) (g : Gathered) (takers : List ℕ) where
+  -- the set, the location, so many edges, and the edges
+  unfoldable pub automatonWords : List ℕ
+  automatonWords =
+      wordsOf (g .sets) ++ (locationWords t (g .wildcards) (g .inits) (g .invs) ++
+      (g .edges ∷ edgesFrom t (g .wildcards .variables) takers 0 (g .edges)))
 
--- the head, the automaton, and a tree of one leaf
-unfoldable pub mergedSheet : (t : List ℕ) (x : Layout) (own : List ℕ) (count : ℕ) → List ℕ
-mergedSheet t x own count = headWords t x ++ (automatonWords t x own count ++ (1 ∷ 2 ∷ []))
+  -- the head, the automaton, and a tree of one leaf
+  unfoldable pub mergedSheet : List ℕ
+  mergedSheet = headWords t (g .wildcards) ++ (automatonWords ++ (1 ∷ 2 ∷ []))

@@ -1,4 +1,5 @@
--- The synchronising set of the whole, as two words. A layout says how many actions there are and where the tree stands.
+-- The synchronising set of the whole, as two words, from the automata's own. A layout says how many actions there are
+-- and where the tree stands.
 use mathlib.Core.Bool.{Bool, true, false, not, _&&_}
 use mathlib.Core.List.{List, [], _∷_}
 use Prim.Native.Nat.{ℕ, zero, suc, _+_, _*_, _%_}
@@ -6,6 +7,8 @@ use lib.Dec.{eqb, leb}
 use Rattle.table_tree.specs.Members.{inSetAt}
 use Rattle.table_places.specs.declared.layout.Layout.{Layout}
 use Rattle.table_places.specs.Outline.{nodesPlace}
+use Rattle.table_places.specs.Own.{ownSets}
+use Rattle.merge_words.specs.declared.sync.Sets.{Sets}
 
 -- is an action, from 1 to A, in the whole's set?
 unfoldable pub isShared : (t : List ℕ) (x : Layout) (own : List ℕ) (action : ℕ) → Bool
@@ -21,5 +24,11 @@ unfoldable pub bitsFrom : (f : ℕ → Bool) (from n word : ℕ) → ℕ
 bitsFrom f from zero word = word
 bitsFrom f from (suc n) word = bitsFrom f from n (shifted word (f (from + n)))
 
-unfoldable pub syncBy : (t : List ℕ) (x : Layout) (own : List ℕ) → List ℕ
-syncBy t x own = bitsFrom (isShared t x own) 0 32 0 ∷ bitsFrom (isShared t x own) 32 32 0 ∷ []
+-- the automata's own sets, and the whole's
+unfoldable pub setsOf : (t : List ℕ) (x : Layout) → Sets
+setsOf t x =
+    let own = ownSets t (x .sets) in
+    record { own = own; low = bitsFrom (isShared t x own) 0 32 0; high = bitsFrom (isShared t x own) 32 32 0 }
+
+unfoldable pub wordsOf : Sets → List ℕ
+wordsOf s = s .low ∷ s .high ∷ []

@@ -1,16 +1,18 @@
-// The merged sheet of Definition 4 of source document 003, from the words of a table to a table: each part of it is
-// appended to the words before it. Every function is total: on words that are no sheet's it appends what its definition
-// says.
+// The merged sheet of Definition 4 of source document 003, from the words of a table to a table. What the definition
+// needs is gathered in the order in which it lists it, and the merged sheet is written from that. Every function is
+// total: on words that are no sheet's it gathers and writes what its definition says.
 mod head;
+mod parts;
 mod rows;
 mod sheet;
 mod survey;
 mod sync;
 
 use model::Model;
-use table_places::Layout;
+pub use parts::Gathered;
+pub use sync::Sets;
 ghost use mathlib.Core.Path.{_≡_};
-ghost use Rattle.merge_words.specs.Linearize.{refusedBy, mergedTo, sheetTable, linearFor, linearIn, linearBy};
+ghost use Rattle.merge_words.specs.Linearize.{refusedBy, mergedTo, sheetTable, linearFor, linearBy};
 
 // Row 0, the merged sheet's table and its count of edges; or the row that refuses, no edges and an empty table.
 pub struct Linearization {
@@ -29,47 +31,56 @@ pub fn refused(row: u32) -> Linearization
     }
 }
 
-// The merged sheet, with so many edges.
-fn merged(t: &[u32], x: Layout, own: &[u64; 16], edges: usize) -> Linearization
-    ensures { λ r. ⌜ r ≡ mergedTo edges (sheetTable (now (t .entry)) x (now (own .entry)) edges) ⌝ }
+// The merged sheet, from what was gathered.
+fn merged(t: &[u32], g: Gathered, takers: &[u32; Model::WORDS]) -> Linearization
+    ensures { λ r. ⌜ r ≡ mergedTo (g .edges) (sheetTable (now (t .entry)) g (now (takers .entry))) ⌝ }
 {
     let mut table = [0u32; Model::WORDS];
-    let _end = sheet::sheet(t, x, own, edges, &mut table, 0);
+    let _end = sheet::sheet(t, g, takers, &mut table, 0);
     Linearization {
         row: 0,
-        edges,
+        edges: g.edges,
         table,
     }
 }
 
 // The same unless a row from 32 to 34 refuses.
-fn admitted(t: &[u32], x: Layout, own: &[u64; 16], edges: usize) -> Linearization
-    ensures { λ r. ⌜ r ≡ linearFor (now (t .entry)) x (now (own .entry)) edges ⌝ }
+fn admitted(t: &[u32], g: Gathered, takers: &[u32; Model::WORDS]) -> Linearization
+    ensures { λ r. ⌜ r ≡ linearFor (now (t .entry)) g (now (takers .entry)) ⌝ }
 {
-    let row = rows::fault(t, x, own, edges);
+    let row = rows::fault(t, g, takers);
     if row == 0 {
-        merged(t, x, own, edges)
+        merged(t, g, takers)
     } else {
         refused(row)
     }
 }
 
-// The merged edges counted, and then the rest.
-fn counted(t: &[u32], x: Layout) -> Linearization
-    ensures { λ r. ⌜ r ≡ linearIn (now (t .entry)) x ⌝ }
-{
-    let own = table_places::own_sets(t, x);
-    let edges = merge_takers::all_moves(t, x, &own);
-    admitted(t, x, &own, edges)
-}
-
-// The linearization over the words of a table, which is not checked.
+// The linearization over the words of a table, which is not checked: Definition 4 from the top.
 pub fn linearize(t: &[u32]) -> Linearization
     ensures { λ r. ⌜ r ≡ linearBy (now (t .entry)) ⌝ }
 {
-    let x = table_places::layout_of(t);
-    if rows::crowded(x) {
+    // p leads to xs (#): a wild-card for each automaton, and where it stands
+    let wildcards = table_places::layout_of(t);
+    if rows::crowded(wildcards) {
         return refused(31);
     }
-    counted(t, x)
+    // to fs (ipred): the initial predicates
+    let inits = merge_predicates::functions_of(t, wildcards, false);
+    // to gs (inv): the invariants
+    let invs = merge_predicates::functions_of(t, wildcards, true);
+    // to A (sync): the synchronising set
+    let sets = sync::gather(t, wildcards);
+    // E: the edges, one for each action transition of p
+    let own = sets.own;
+    let mut takers = [0u32; Model::WORDS];
+    let edges = merge_takers::gather(t, wildcards, &own, &mut takers);
+    let g = Gathered {
+        wildcards,
+        inits,
+        invs,
+        sets,
+        edges,
+    };
+    admitted(t, g, &takers)
 }

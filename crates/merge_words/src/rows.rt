@@ -1,4 +1,5 @@
 // Rows 31 to 34: is there a merged sheet?
+use crate::parts::Gathered;
 use crate::survey::{self};
 use model::Model;
 use table_places::Layout;
@@ -12,14 +13,14 @@ pub fn crowded(x: Layout) -> bool
     Model::VARIABLES < merge_append::pointer(x.variables, x.automata)
 }
 
-// The first of rows 32 to 34 that refuses, or 0; `edges` is the count of merged edges.
-pub fn fault(t: &[u32], x: Layout, own: &[u64; 16], edges: usize) -> u32
-    ensures { λ r. ⌜ r ≡ faultBy (now (t .entry)) x (now (own .entry)) edges ⌝ }
+// The first of rows 32 to 34 that refuses, or 0.
+pub fn fault(t: &[u32], g: Gathered, takers: &[u32; Model::WORDS]) -> u32
+    ensures { λ r. ⌜ r ≡ faultBy (now (t .entry)) g (now (takers .entry)) ⌝ }
 {
-    if Model::EDGES < edges {
+    if Model::EDGES < g.edges {
         return 32;
     }
-    let seen = survey::whole(t, x, own);
+    let seen = survey::whole(t, g, takers);
     if seen.deep {
         return 33;
     }

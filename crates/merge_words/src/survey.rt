@@ -1,19 +1,21 @@
 // What rows 33 and 34 ask of the merged predicates: is one too deep, and how many nodes they have.
-use table_places::Layout;
+use crate::parts::Gathered;
+use merge_predicates::Functions;
+use model::Model;
 ghost use mathlib.Core.Path.{_≡_};
-ghost use Rattle.merge_takers.specs.Moves.{placesOf};
-ghost use Rattle.merge_words.specs.Survey.{withEdge, surveyFrom, surveyUnder, surveyIn, surveyStart, surveyWhole};
+ghost use Rattle.merge_append.specs.Runs.{run};
+ghost use Rattle.merge_words.specs.Survey.{withEdge, surveyFrom, surveyOf, surveyStart, surveyWhole};
 
 pub struct Survey {
     pub deep: bool,
     pub nodes: usize,
 }
 
-// Move k of the planned action, taken in.
-fn with_edge(t: &[u32], x: Layout, action: usize, cells: &[u32; 192], k: u32, s: Survey) -> Survey
-    ensures { λ r. ⌜ r ≡ withEdge (now (t .entry)) (placesOf (now (t .entry)) x (now (cells .entry)) action k) s ⌝ }
+// The merged edge whose takers stand at a place of the list, taken in.
+fn with_edge(t: &[u32], takers: &[u32; Model::WORDS], at: usize, s: Survey) -> Survey
+    ensures { λ r. ⌜ r ≡ withEdge (now (t .entry)) (run (now (takers .entry)) at 16) s ⌝ }
 {
-    let places = merge_takers::places_of(t, x, action, cells, k);
+    let places = merge_takers::places_at(takers, at);
     let deep = merge_edges::updates_deep(t, places);
     let nodes = merge_edges::takers_nodes(t, places);
     Survey {
@@ -22,66 +24,46 @@ fn with_edge(t: &[u32], x: Layout, action: usize, cells: &[u32; 192], k: u32, s:
     }
 }
 
-// The first `count` moves of the planned action.
-fn with_edges(
-    t: &[u32],
-    x: Layout,
-    action: usize,
-    cells: &[u32; 192],
-    count: u32,
-    s: Survey,
-) -> Survey
-    ensures { λ r. ⌜ r ≡ surveyFrom (now (t .entry)) x (now (cells .entry)) action 0 count s ⌝ }
+// The first `count` edges of the list.
+fn with_edges(t: &[u32], takers: &[u32; Model::WORDS], count: usize, s: Survey) -> Survey
+    ensures { λ r. ⌜ r ≡ surveyFrom (now (t .entry)) (now (takers .entry)) 0 count s ⌝ }
 {
-    let mut k = 0;
+    let mut left = count;
+    let mut at = 0;
     let mut sofar = s;
-    while k < count {
-        sofar = with_edge(t, x, action, cells, k, sofar);
-        k += 1;
+    while left != 0 {
+        sofar = with_edge(t, takers, at, sofar);
+        at = table_places::step(takers, at, 16);
+        left -= 1;
     }
     sofar
 }
 
-// The edges of an action.
-fn action_survey(t: &[u32], x: Layout, own: &[u64; 16], action: u32, s: Survey) -> Survey
-    ensures { λ r. ⌜ r ≡ surveyUnder (now (t .entry)) x (now (own .entry)) action s ⌝ }
+// The merged init, or the merged inv.
+fn predicate(t: &[u32], f: Functions) -> Survey
+    ensures { λ r. ⌜ r ≡ surveyOf (now (t .entry)) f ⌝ }
 {
-    let p = merge_takers::plan(t, x, own, action);
-    let cells = p.cells;
-    with_edges(t, x, arithmetic::index(action), &cells, p.count, s)
+    let places = f.places;
+    let deep = merge_predicates::merged_deep(t, &places, f.total);
+    let nodes = merge_predicates::merged_nodes(t, &places, f.total);
+    Survey { deep, nodes }
 }
 
-// The edges of all actions.
-fn all_survey(t: &[u32], x: Layout, own: &[u64; 16], s: Survey) -> Survey
-    ensures { λ r. ⌜ r ≡ surveyIn (now (t .entry)) x (now (own .entry)) s ⌝ }
+// Both of them.
+fn start(t: &[u32], inits: Functions, invs: Functions) -> Survey
+    ensures { λ r. ⌜ r ≡ surveyStart (now (t .entry)) inits invs ⌝ }
 {
-    let last = merge_takers::last_action(x);
-    let mut action = 0;
-    let mut sofar = s;
-    while action <= last {
-        sofar = action_survey(t, x, own, action, sofar);
-        action += 1;
-    }
-    sofar
-}
-
-// The merged init and the merged inv.
-fn start(t: &[u32], x: Layout) -> Survey
-    ensures { λ r. ⌜ r ≡ surveyStart (now (t .entry)) x ⌝ }
-{
-    let init_deep = merge_predicates::merged_deep(t, x, false);
-    let inv_deep = merge_predicates::merged_deep(t, x, true);
-    let init = merge_predicates::merged_nodes(t, x, false);
-    let inv = merge_predicates::merged_nodes(t, x, true);
+    let init = predicate(t, inits);
+    let inv = predicate(t, invs);
     Survey {
-        deep: init_deep | inv_deep,
-        nodes: merge_append::add(init, inv),
+        deep: init.deep | inv.deep,
+        nodes: merge_append::add(init.nodes, inv.nodes),
     }
 }
 
 // All merged predicates.
-pub fn whole(t: &[u32], x: Layout, own: &[u64; 16]) -> Survey
-    ensures { λ r. ⌜ r ≡ surveyWhole (now (t .entry)) x (now (own .entry)) ⌝ }
+pub fn whole(t: &[u32], g: Gathered, takers: &[u32; Model::WORDS]) -> Survey
+    ensures { λ r. ⌜ r ≡ surveyWhole (now (t .entry)) g (now (takers .entry)) ⌝ }
 {
-    all_survey(t, x, own, start(t, x))
+    with_edges(t, takers, g.edges, start(t, g.inits, g.invs))
 }

@@ -1,18 +1,30 @@
-// The synchronising set of the whole.
+// The synchronising set of the whole, from the automata's own.
 use model::Model;
 use table_places::Layout;
 ghost use mathlib.Core.Path.{_≡_};
 ghost use Prim.Native.Nat.{_≤_};
 ghost use Rattle.merge_append.specs.Append.{Appended};
-ghost use Rattle.merge_words.specs.Sync.{isShared, shifted, bitsFrom, syncBy};
+ghost use Rattle.merge_words.specs.Sync.{isShared, shifted, bitsFrom, setsOf, wordsOf};
+
+// Each automaton's own set, and the whole's in two words: actions 0 to 31, and 32 to 63.
+pub struct Sets {
+    pub own: [u64; 16],
+    pub low: u32,
+    pub high: u32,
+}
 
 // Is the action, from 1 to A, in the whole's set?
 fn shared(t: &[u32], x: Layout, own: &[u64], action: u32) -> bool
     ensures { λ r. ⌜ r ≡ isShared (now (t .entry)) x (now (own .entry)) action ⌝ }
 {
+    if action == 0 {
+        return false;
+    }
+    if x.actions < arithmetic::index(action) {
+        return false;
+    }
     let root = table_places::nodes_at(t, x.tree);
-    let inside = table_tree::in_set(t, root, own, action);
-    (action != 0) & (arithmetic::index(action) <= x.actions) & inside
+    table_tree::in_set(t, root, own, action)
 }
 
 // A bit after the 31 bits of a word.
@@ -40,13 +52,20 @@ fn bits(t: &[u32], x: Layout, own: &[u64], from: u32) -> u32
     word
 }
 
-// The set in two words.
-pub fn sync(t: &[u32], x: Layout, own: &[u64], out: &mut [u32; Model::WORDS], at: usize) -> usize
-    ensures { λ r. ⌜ Appended (syncBy (now (t .entry)) x (now (own .entry)))
-        at (now (out .entry)) (now (out .exit)) r ⌝ }
+// The synchronising sets: each automaton's own, and the whole's.
+pub fn gather(t: &[u32], x: Layout) -> Sets
+    ensures { λ r. ⌜ r ≡ setsOf (now (t .entry)) x ⌝ }
 {
-    let low = bits(t, x, own, 0);
-    let high = bits(t, x, own, 32);
-    let next = merge_append::put(arithmetic::index(low), out, at);
-    merge_append::put(arithmetic::index(high), out, next)
+    let own = table_places::own_sets(t, x);
+    let low = bits(t, x, &own, 0);
+    let high = bits(t, x, &own, 32);
+    Sets { own, low, high }
+}
+
+// The whole's set in two words.
+pub fn write(s: Sets, out: &mut [u32; Model::WORDS], at: usize) -> usize
+    ensures { λ r. ⌜ Appended (wordsOf s) at (now (out .entry)) (now (out .exit)) r ⌝ }
+{
+    let next = merge_append::put(arithmetic::index(s.low), out, at);
+    merge_append::put(arithmetic::index(s.high), out, next)
 }

@@ -16,12 +16,35 @@ refused-requires c κs = search needs
 returns : tie.Need-returns
 returns c = search (needs, linearize-laws)
 
-counted-requires : tie.Need-counted-requires
-counted-requires c κs = search needs
+functions-of-requires : tie.Need-functions-of-requires
+functions-of-requires c κs = search needs
+
+functions-of-requires-2 : tie.Need-functions-of-requires-2
+functions-of-requires-2 c κs = search needs
+
+gather-requires : tie.Need-gather-requires
+gather-requires c κs = search needs
+
+gather-requires-2 : tie.Need-gather-requires-2
+gather-requires-2 c κs = search needs
+
+admitted-requires : tie.Need-admitted-requires
+admitted-requires c κs = search needs
 
 returns-2 : tie.Need-returns-2
 returns-2 c = search (needs, linearize-laws)
 
 pub linearize-spec : {M : Type 1} → statement M
 linearize-spec =
-    tie.close (tie.spec layout-of-requires crowded-requires refused-requires returns counted-requires returns-2)
+    tie.close
+    (tie.spec
+    layout-of-requires
+    crowded-requires
+    refused-requires
+    returns
+    functions-of-requires
+    functions-of-requires-2
+    gather-requires
+    gather-requires-2
+    admitted-requires
+    returns-2)

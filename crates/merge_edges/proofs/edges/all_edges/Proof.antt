@@ -1,29 +1,31 @@
--- `merge_edges::edges::all_edges` meets its contract: what is done and what is left make up the whole. The measure is the actions left.
+-- `merge_edges::edges::all_edges` meets its contract: what is done and what is left make up the whole. The measure is the edges left.
 use Rattle.merge_edges.proofs.EdgesLaws.{all-laws}
-use Prim.Native.Nat.{_+_, _-_, _≤_}
 use Rattle.merge_append.proofs.AppendLaws.{Underway}
-use Rattle.merge_edges.specs.Edges.{edgesOf, edgesIn}
+use Rattle.merge_edges.specs.Edges.{edgesFrom}
 use borrow.Author.Needs.{needs}
 use Rattle.merge_edges.proofs.edges.all_edges.Statement.{statement}
 use Rattle.merge_edges.proofs.edges.all_edges.Tie as tie
 
 abbrev Inv-loop : tie.InvT-loop
-Inv-loop t x own out₀ at last action₀ next₀ out action next = (last ≤ 63) × (action ≤ last + 1) × Underway (edgesIn t x own) at out₀ (edgesOf t x own action (last + 1 - action)) next out
+Inv-loop t variables list count out₀ at left₀ place₀ next₀ out left place next = Underway (edgesFrom t variables list 0 count) at out₀ (edgesFrom t variables list place left) next out
 
 abbrev μ-loop : tie.MeasureT-loop
-μ-loop t x own out₀ at last action₀ next₀ out action next = last + 1 - action
-
-last-action-requires : tie.Need-last-action-requires Inv-loop μ-loop
-last-action-requires c κs = search needs
+μ-loop t variables list count out₀ at left₀ place₀ next₀ out left place next = left
 
 loop-holds : tie.Need-loop-holds Inv-loop μ-loop
 loop-holds c = search (needs, all-laws)
 
-action-edges-requires : tie.Need-action-edges-requires Inv-loop μ-loop
-action-edges-requires c κs = search needs
+places-at-requires : tie.Need-places-at-requires Inv-loop μ-loop
+places-at-requires c κs = search needs
 
-add-action : tie.Need-add-action Inv-loop μ-loop
-add-action c = search needs
+edge-requires : tie.Need-edge-requires Inv-loop μ-loop
+edge-requires c κs = search needs
+
+step-requires : tie.Need-step-requires Inv-loop μ-loop
+step-requires c κs = search needs
+
+sub-left : tie.Need-sub-left Inv-loop μ-loop
+sub-left c = search needs
 
 loop-less : tie.Need-loop-less Inv-loop μ-loop
 loop-less c = search needs
@@ -40,10 +42,11 @@ all-edges-spec =
     (tie.spec
     Inv-loop
     μ-loop
-    last-action-requires
     loop-holds
-    action-edges-requires
-    add-action
+    places-at-requires
+    edge-requires
+    step-requires
+    sub-left
     loop-less
     loop-again
     returns)

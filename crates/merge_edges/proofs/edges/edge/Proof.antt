@@ -4,8 +4,8 @@ use borrow.Author.Needs.{needs}
 use Rattle.merge_edges.proofs.edges.edge.Statement.{statement}
 use Rattle.merge_edges.proofs.edges.edge.Tie as tie
 
-places-of-requires : tie.Need-places-of-requires
-places-of-requires c κs = search needs
+action-of-requires : tie.Need-action-of-requires
+action-of-requires c κs = search needs
 
 edge-requires : tie.Need-edge-requires
 edge-requires c κs = search needs
@@ -14,4 +14,4 @@ returns : tie.Need-returns
 returns c = search (needs, edge-is)
 
 pub edge-spec : {M : Type 1} → statement M
-edge-spec = tie.close (tie.spec places-of-requires edge-requires returns)
+edge-spec = tie.close (tie.spec action-of-requires edge-requires returns)

@@ -2,16 +2,16 @@
 use Rattle.merge_predicates.proofs.ClauseLaws.{automata-laws}
 use Prim.Native.Nat.{_-_, _≤_}
 use Rattle.merge_append.proofs.AppendLaws.{Underway}
-use Rattle.merge_predicates.specs.Clauses.{automataClauses}
+use Rattle.merge_predicates.specs.Clauses.{functionClauses}
 use borrow.Author.Needs.{needs}
 use Rattle.merge_predicates.proofs.clauses.at_automata.Statement.{statement}
 use Rattle.merge_predicates.proofs.clauses.at_automata.Tie as tie
 
 abbrev Inv-loop : tie.InvT-loop
-Inv-loop t inv out₀ at count variables places i₀ next₀ out i next = (count ≤ 16) × (i ≤ count) × Underway (automataClauses t inv places variables 0 count) at out₀ (automataClauses t inv places variables i (count - i)) next out
+Inv-loop t places out₀ at domains count variables i₀ first₀ next₀ out i first next = (count ≤ 16) × (i ≤ count) × Underway (functionClauses t domains places variables 0 count 0) at out₀ (functionClauses t domains places variables i (count - i) first) next out
 
 abbrev μ-loop : tie.MeasureT-loop
-μ-loop t inv out₀ at count variables places i₀ next₀ out i next = count - i
+μ-loop t places out₀ at domains count variables i₀ first₀ next₀ out i first next = count - i
 
 automata-of-requires : tie.Need-automata-of-requires Inv-loop μ-loop
 automata-of-requires c κs = search needs
@@ -22,14 +22,17 @@ loop-holds c = search (needs, automata-laws)
 pointer-requires : tie.Need-pointer-requires Inv-loop μ-loop
 pointer-requires c κs = search needs
 
-mul-place : tie.Need-mul-place Inv-loop μ-loop
-mul-place c = search needs
+mul-locations : tie.Need-mul-locations Inv-loop μ-loop
+mul-locations c = search needs
 
-array-read-place : tie.Need-array-read-place Inv-loop μ-loop
-array-read-place c = search needs
+array-read-locations : tie.Need-array-read-locations Inv-loop μ-loop
+array-read-locations c = search needs
 
-at-automaton-requires : tie.Need-at-automaton-requires Inv-loop μ-loop
-at-automaton-requires c κs = search needs
+at-locations-requires : tie.Need-at-locations-requires Inv-loop μ-loop
+at-locations-requires c κs = search needs
+
+add-requires : tie.Need-add-requires Inv-loop μ-loop
+add-requires c κs = search needs
 
 add-i : tie.Need-add-i Inv-loop μ-loop
 add-i c = search needs
@@ -52,9 +55,10 @@ at-automata-spec =
     automata-of-requires
     loop-holds
     pointer-requires
-    mul-place
-    array-read-place
-    at-automaton-requires
+    mul-locations
+    array-read-locations
+    at-locations-requires
+    add-requires
     add-i
     loop-less
     loop-again

@@ -1,38 +1,32 @@
--- `merge_predicates::clauses::merged_nodes` meets its contract: from each turn on, the definition goes on to the same sum. The measure is the automata left.
+-- `merge_predicates::clauses::merged_nodes` meets its contract: from each turn on, the definition goes on to the same sum. The measure is the values left.
 use Rattle.merge_predicates.proofs.ClauseLaws.{nodes-laws}
 use mathlib.Core.Path.{_≡_}
 use Prim.Native.Nat.{_-_, _≤_}
-use Rattle.merge_predicates.specs.Clauses.{automataNodes}
+use Rattle.merge_predicates.specs.Clauses.{valueNodes}
 use borrow.Author.Needs.{needs}
 use Rattle.merge_predicates.proofs.clauses.merged_nodes.Statement.{statement}
 use Rattle.merge_predicates.proofs.clauses.merged_nodes.Tie as tie
 
 abbrev Inv-loop : tie.InvT-loop
-Inv-loop t inv count places i₀ total₀ i total = (count ≤ 16) × (i ≤ count) × (automataNodes t inv places i (count - i) total ≡ automataNodes t inv places 0 count 1)
+Inv-loop t places count i₀ sum₀ i sum = (i ≤ count) × (valueNodes t places i (count - i) sum ≡ valueNodes t places 0 count 1)
 
 abbrev μ-loop : tie.MeasureT-loop
-μ-loop t inv count places i₀ total₀ i total = count - i
-
-automata-of-requires : tie.Need-automata-of-requires Inv-loop μ-loop
-automata-of-requires c κs = search needs
+μ-loop t places count i₀ sum₀ i sum = count - i
 
 loop-holds : tie.Need-loop-holds Inv-loop μ-loop
 loop-holds c = search (needs, nodes-laws)
 
-mul-place : tie.Need-mul-place Inv-loop μ-loop
-mul-place c = search needs
+value-requires : tie.Need-value-requires Inv-loop μ-loop
+value-requires c κs = search needs
 
-array-read-place : tie.Need-array-read-place Inv-loop μ-loop
-array-read-place c = search needs
+word-requires : tie.Need-word-requires Inv-loop μ-loop
+word-requires c κs = search needs
 
-location-count-requires : tie.Need-location-count-requires Inv-loop μ-loop
-location-count-requires c κs = search needs
+add-requires : tie.Need-add-requires Inv-loop μ-loop
+add-requires c κs = search needs
 
-first-location-requires : tie.Need-first-location-requires Inv-loop μ-loop
-first-location-requires c κs = search needs
-
-location-nodes-requires : tie.Need-location-nodes-requires Inv-loop μ-loop
-location-nodes-requires c κs = search needs
+add-requires-2 : tie.Need-add-requires-2 Inv-loop μ-loop
+add-requires-2 c κs = search needs
 
 add-i : tie.Need-add-i Inv-loop μ-loop
 add-i c = search needs
@@ -52,13 +46,11 @@ merged-nodes-spec =
     (tie.spec
     Inv-loop
     μ-loop
-    automata-of-requires
     loop-holds
-    mul-place
-    array-read-place
-    location-count-requires
-    first-location-requires
-    location-nodes-requires
+    value-requires
+    word-requires
+    add-requires
+    add-requires-2
     add-i
     loop-less
     loop-again

@@ -4,8 +4,8 @@ use borrow.Author.Needs.{needs}
 use Rattle.merge_words.proofs.sheet.automaton.Statement.{statement}
 use Rattle.merge_words.proofs.sheet.automaton.Tie as tie
 
-sync-requires : tie.Need-sync-requires
-sync-requires c κs = search needs
+write-requires : tie.Need-write-requires
+write-requires c κs = search needs
 
 location-requires : tie.Need-location-requires
 location-requires c κs = search needs
@@ -21,4 +21,4 @@ returns c = search (needs, automaton-is)
 
 pub automaton-spec : {M : Type 1} → statement M
 automaton-spec =
-    tie.close (tie.spec sync-requires location-requires put-requires all-edges-requires returns)
+    tie.close (tie.spec write-requires location-requires put-requires all-edges-requires returns)

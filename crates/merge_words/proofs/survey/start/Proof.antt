@@ -4,17 +4,11 @@ use borrow.Author.Needs.{needs}
 use Rattle.merge_words.proofs.survey.start.Statement.{statement}
 use Rattle.merge_words.proofs.survey.start.Tie as tie
 
-merged-deep-requires : tie.Need-merged-deep-requires
-merged-deep-requires c κs = search needs
+predicate-requires : tie.Need-predicate-requires
+predicate-requires c κs = search needs
 
-merged-deep-requires-2 : tie.Need-merged-deep-requires-2
-merged-deep-requires-2 c κs = search needs
-
-merged-nodes-requires : tie.Need-merged-nodes-requires
-merged-nodes-requires c κs = search needs
-
-merged-nodes-requires-2 : tie.Need-merged-nodes-requires-2
-merged-nodes-requires-2 c κs = search needs
+predicate-requires-2 : tie.Need-predicate-requires-2
+predicate-requires-2 c κs = search needs
 
 add-requires : tie.Need-add-requires
 add-requires c κs = search needs
@@ -23,12 +17,4 @@ returns : tie.Need-returns
 returns c = search (needs, start-is)
 
 pub start-spec : {M : Type 1} → statement M
-start-spec =
-    tie.close
-    (tie.spec
-    merged-deep-requires
-    merged-deep-requires-2
-    merged-nodes-requires
-    merged-nodes-requires-2
-    add-requires
-    returns)
+start-spec = tie.close (tie.spec predicate-requires predicate-requires-2 add-requires returns)

@@ -7,11 +7,11 @@ use Rattle.merge_words.proofs.survey.whole.Tie as tie
 start-requires : tie.Need-start-requires
 start-requires c κs = search needs
 
-all-survey-requires : tie.Need-all-survey-requires
-all-survey-requires c κs = search needs
+with-edges-requires : tie.Need-with-edges-requires
+with-edges-requires c κs = search needs
 
 returns : tie.Need-returns
 returns c = search (needs, whole-is)
 
 pub whole-spec : {M : Type 1} → statement M
-whole-spec = tie.close (tie.spec start-requires all-survey-requires returns)
+whole-spec = tie.close (tie.spec start-requires with-edges-requires returns)

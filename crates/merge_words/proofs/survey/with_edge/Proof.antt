@@ -4,8 +4,8 @@ use borrow.Author.Needs.{needs}
 use Rattle.merge_words.proofs.survey.with_edge.Statement.{statement}
 use Rattle.merge_words.proofs.survey.with_edge.Tie as tie
 
-places-of-requires : tie.Need-places-of-requires
-places-of-requires c κs = search needs
+places-at-requires : tie.Need-places-at-requires
+places-at-requires c κs = search needs
 
 updates-deep-requires : tie.Need-updates-deep-requires
 updates-deep-requires c κs = search needs
@@ -23,7 +23,7 @@ pub with-edge-spec : {M : Type 1} → statement M
 with-edge-spec =
     tie.close
     (tie.spec
-    places-of-requires
+    places-at-requires
     updates-deep-requires
     takers-nodes-requires
     add-requires

@@ -1,0 +1,1 @@
+// No code: a statement about what the merger gathers, and its proof.
