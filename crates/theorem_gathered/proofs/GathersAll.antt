@@ -8,7 +8,8 @@ use native.Mathlib.Omega.{arith}
 use lib.ListN.{length, getD, drop, replicate, length-map, length-replicate, List·getD-append, List·getD-map}
 use lib.Seq.{sets, sets-eq, drop-cons}
 use Rattle.model.specs.Basic.{keep, countUp}
-use Rattle.model.specs.Bounds.{maxAutomata, tableWords}
+use borrow.Author.Tests.{le-ltb}
+use Rattle.model.specs.Bounds.{maxAutomata, maxEdges, tableWords}
 use Rattle.model.specs.Predicate.{Pred, all, none, preds, wordsAll}
 use Rattle.model.specs.Model.{Model, Location, Automaton, automaton, nobody, inSet}
 use Rattle.model.specs.Rules.{Taker}
@@ -34,7 +35,7 @@ use Rattle.merge_table.proofs.Standing.{automata-cons}
 use Rattle.merge_table.proofs.HeadIs.{laid-automata}
 use Rattle.merge_table.proofs.FunctionsAre.{predicates, sizes, AreFunctions, init-functions, inv-functions}
 use Rattle.merge_table.proofs.SyncIs.{sync-words}
-use Rattle.merge_table.proofs.CountIs.{count-exact}
+use Rattle.merge_table.proofs.CountIs.{count-row, count-exact}
 use Rattle.merge_table.proofs.GatherIs.{Move, moved, allMoves, moves-total, Recorded, move-recorded}
 use Rattle.theorem_definition4.specs.Table3.{Position, Transition}
 use Rattle.theorem_definition4.proofs.Positions.{positions, positions-length, LabelsOf}
@@ -176,25 +177,30 @@ module _ (m : Model) (lawful : Lawful m) (t rest : List ℕ) (e : t ≡ sheetWor
         let here : Told (moved a (by .takers)) k = subst (λ (v : Move). Told v k) (at .2) (told k few) in
         (k, few, told-as t (labels .before) (labels .conjuncts) (labels .after) here)
 
-    -- the law
-    pub gathers : Gathers m t (gatheredIn t (layoutOf t)) (takersFor t (layoutOf t))
-    unfolding gatheredIn
-    gathers =
-        let p = linear-is m lawful in
-        record {
-          xs = cards;
-          leads-xs = wilds-to (λ d. d .from) (m .tree);
-          as-many = laid-automata m lawful t rest e ∙ sym as-many;
-          standing = λ i h. automaton-stands i (omega (arith, as-many));
-          fs = map (valuesOf (λ l. l .init)) (m .automata);
-          leads-fs = leads-are m (λ l. l .init) lawful;
-          inits = holds t (λ l. l .init) (m .automata) _ (lawful .few-automata) (init-functions m lawful t rest e);
-          gs = map (valuesOf (λ l. l .inv)) (m .automata);
-          leads-gs = leads-are m (λ l. l .inv) lawful;
-          invs = holds t (λ l. l .inv) (m .automata) _ (lawful .few-automata) (inv-functions m lawful t rest e);
-          A = p .A;
-          leads-A = p .leads-A;
-          set = set-holds;
-          transition = λ k h. transition-told k (omega (arith, count));
-          each-transition = λ a vs r vs' s. let f = each-told a vs r vs' s in (f .0, omega (arith, f .1, count), f .2);
-        }
+  -- so many edges as a sheet can have: row 32 does not refuse
+  few : gatheredIn t (layoutOf t) .edges ≤ maxEdges → row32 m ≡ false
+  unfolding gatheredIn
+  few h = sym (count-row m lawful t rest e) ∙ le-ltb maxEdges _ h
+
+  -- the law
+  pub gathers : Gathers m t (gatheredIn t (layoutOf t)) (takersFor t (layoutOf t))
+  unfolding gatheredIn
+  gathers =
+      let p = linear-is m lawful in
+      record {
+        xs = cards;
+        leads-xs = wilds-to (λ d. d .from) (m .tree);
+        as-many = laid-automata m lawful t rest e ∙ sym as-many;
+        standing = λ i h. automaton-stands i (omega (arith, as-many));
+        fs = map (valuesOf (λ l. l .init)) (m .automata);
+        leads-fs = leads-are m (λ l. l .init) lawful;
+        inits = holds t (λ l. l .init) (m .automata) _ (lawful .few-automata) (init-functions m lawful t rest e);
+        gs = map (valuesOf (λ l. l .inv)) (m .automata);
+        leads-gs = leads-are m (λ l. l .inv) lawful;
+        invs = holds t (λ l. l .inv) (m .automata) _ (lawful .few-automata) (inv-functions m lawful t rest e);
+        A = p .A;
+        leads-A = p .leads-A;
+        set = set-holds;
+        transition = λ n k h. transition-told (few n) k (omega (arith, count (few n)));
+        each-transition = λ n a vs r vs' s. let f = each-told (few n) a vs r vs' s in (f .0, omega (arith, f .1, count (few n)), f .2);
+      }

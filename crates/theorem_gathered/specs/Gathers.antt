@@ -4,9 +4,10 @@ use mathlib.Core.Path.{_≡_}
 use mathlib.Core.Bool.{true, false}
 use mathlib.Core.List.{List, [], _++_, map, flatMap, List·Memᴰ}
 use mathlib.Core.Logic.{_↔_}
-use Prim.Native.Nat.{ℕ, _*_, _<_}
+use Prim.Native.Nat.{ℕ, _*_, _≤_, _<_}
 use lib.ListN.{length, getD, take, drop}
 use lib.Dec.{eqb}
+use Rattle.model.specs.Bounds.{maxEdges}
 use Rattle.model.specs.Predicate.{Pred, all, none, preds, wordsAll}
 use Rattle.model.specs.Model.{Model, automaton}
 use Rattle.model.specs.Lines.{automatonLines}
@@ -64,10 +65,11 @@ pub record Gathers (m : Model) (t : List ℕ) (g : Gathered) (takers : List ℕ)
   pub A : List ℕ
   pub leads-A : Syncs m (m .tree) A
   pub set : (a : ℕ) → List·Memᴰ a (setOf (g .sets .low) (g .sets .high)) ↔ List·Memᴰ a A
-  -- the edges: the places of each are those of a transition, and every transition has its places
-  pub transition : (k : ℕ) → k < g .edges
+  -- the edges, if they are no more than a sheet can have (row 32): the places of each are those of a transition, and
+  -- every transition has its places
+  pub transition : g .edges ≤ maxEdges → (k : ℕ) → k < g .edges
       → (a : ℕ) × (vs : List Position) × (r : List Pred) × (vs' : List Position)
       × Labelled t (run takers (16 * k) 16) (length xs) a vs r vs' × Transition m a (m .tree) vs r vs'
-  pub each-transition : (a : ℕ) (vs : List Position) (r : List Pred) (vs' : List Position)
+  pub each-transition : g .edges ≤ maxEdges → (a : ℕ) (vs : List Position) (r : List Pred) (vs' : List Position)
       → Transition m a (m .tree) vs r vs'
       → (k : ℕ) × (k < g .edges) × Labelled t (run takers (16 * k) 16) (length xs) a vs r vs'
