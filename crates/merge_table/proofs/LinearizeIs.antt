@@ -25,7 +25,7 @@ use Rattle.table_places.specs.declared.layout.Layout.{Layout}
 use Rattle.table_places.specs.Layout.{layoutOf}
 use Rattle.merge_takers.specs.Gather.{gathered}
 use Rattle.merge_words.specs.MergedSheet.{mergedSheet}
-use Rattle.merge_words.specs.declared.parts.Gathered.{Gathered}
+use Rattle.merge_words.specs.declared.gathering.Gathered.{Gathered}
 use Rattle.merge_words.specs.declared.survey.Survey.{Survey}
 use Rattle.merge_words.specs.Survey.{surveyFrom, surveyStart, surveyWhole}
 use Rattle.merge_words.specs.Linearize.{gatheredIn, takersFor, refusedBy, mergedTo, isCrowded, faultBy, sheetTable, linearFor, linearBy}

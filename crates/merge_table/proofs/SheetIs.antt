@@ -19,7 +19,7 @@ use Rattle.table_places.proofs.OutlineLaws.{wordsOf, edgeWords, words-append}
 use Rattle.merge_append.specs.NodeWords.{most}
 use Rattle.merge_edges.specs.Edges.{edgesFrom}
 use Rattle.table_places.specs.Layout.{layoutOf}
-use Rattle.merge_words.specs.declared.parts.Gathered.{Gathered}
+use Rattle.merge_words.specs.declared.gathering.Gathered.{Gathered}
 use Rattle.merge_words.specs.MergedSheet.{locationWords, automatonWords, mergedSheet}
 use Rattle.merge_words.specs.Linearize.{gatheredIn, takersFor}
 use Rattle.model.proofs.Count.{count-is}

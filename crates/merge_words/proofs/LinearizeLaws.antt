@@ -16,7 +16,7 @@ use Rattle.merge_predicates.specs.Functions.{functionsOf}
 use Rattle.merge_takers.specs.Moves.{movesIn}
 use Rattle.merge_takers.specs.Gather.{gathered}
 use Rattle.merge_words.specs.declared.Linearization.{Linearization}
-use Rattle.merge_words.specs.declared.parts.Gathered.{Gathered}
+use Rattle.merge_words.specs.declared.gathering.Gathered.{Gathered}
 use Rattle.merge_words.specs.declared.survey.Survey.{Survey}
 use Rattle.merge_words.specs.declared.sync.Sets.{Sets}
 use Rattle.merge_words.specs.Sync.{setsOf}

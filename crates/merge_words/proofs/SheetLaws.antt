@@ -6,7 +6,7 @@ use Rattle.table_places.specs.declared.layout.Layout.{Layout}
 use Rattle.merge_predicates.specs.declared.functions.Functions.{Functions}
 use Rattle.merge_predicates.specs.Clauses.{mergedWords}
 use Rattle.merge_edges.specs.Edges.{edgesFrom}
-use Rattle.merge_words.specs.declared.parts.Gathered.{Gathered}
+use Rattle.merge_words.specs.declared.gathering.Gathered.{Gathered}
 use Rattle.merge_words.specs.Head.{headWords}
 use Rattle.merge_words.specs.Sync.{wordsOf}
 use Rattle.merge_words.specs.MergedSheet.{locationWords, automatonWords, mergedSheet}

@@ -1,5 +1,5 @@
 -- Each way out of the code of src/survey.rt.
-use mathlib.Core.Path.{_≡_, refl, sym, ap, ap₂, _∙_}
+use mathlib.Core.Path.{_≡_, refl, ap, ap₂, _∙_}
 use mathlib.Core.Bool.{Bool, _||_}
 use mathlib.Core.List.{List}
 use Prim.Native.Nat.{ℕ, zero, suc, _+_, _-_}
@@ -11,7 +11,7 @@ use Rattle.merge_predicates.specs.declared.functions.Functions.{Functions}
 use Rattle.merge_predicates.specs.Clauses.{valueNodes, mergedNodes}
 use Rattle.merge_predicates.specs.Depths.{valuesDeeper, mergedDeep}
 use Rattle.merge_edges.specs.Edge.{takersNodes, updatesDeep}
-use Rattle.merge_words.specs.declared.parts.Gathered.{Gathered}
+use Rattle.merge_words.specs.declared.gathering.Gathered.{Gathered}
 use Rattle.merge_words.specs.declared.survey.Survey.{Survey}
 use Rattle.merge_words.specs.Survey.{surveyed, withEdge, surveyFrom, surveyOf, surveyStart, surveyWhole}
 

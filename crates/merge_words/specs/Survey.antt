@@ -10,7 +10,7 @@ use Rattle.merge_predicates.specs.declared.functions.Functions.{Functions}
 use Rattle.merge_predicates.specs.Clauses.{mergedNodes}
 use Rattle.merge_predicates.specs.Depths.{mergedDeep}
 use Rattle.merge_edges.specs.Edge.{takersNodes, updatesDeep}
-use Rattle.merge_words.specs.declared.parts.Gathered.{Gathered}
+use Rattle.merge_words.specs.declared.gathering.Gathered.{Gathered}
 use Rattle.merge_words.specs.declared.survey.Survey.{Survey}
 
 abbrev pub surveyed : (deep : Bool) (nodes : ℕ) → Survey

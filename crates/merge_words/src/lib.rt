@@ -1,15 +1,15 @@
 // The merged sheet of Definition 4 of source document 003, from the words of a table to a table. What the definition
 // needs is gathered in the order in which it lists it, and the merged sheet is written from that. Every function is
 // total: on words that are no sheet's it gathers and writes what its definition says.
+mod gathering;
 mod head;
-mod parts;
 mod rows;
 mod sheet;
 mod survey;
 mod sync;
 
+pub use gathering::Gathered;
 use model::Model;
-pub use parts::Gathered;
 pub use sync::Sets;
 ghost use mathlib.Core.Path.{_≡_};
 ghost use Rattle.merge_words.specs.Linearize.{refusedBy, mergedTo, sheetTable, linearFor, linearBy};

@@ -1,5 +1,5 @@
 // Rows 31 to 34: is there a merged sheet?
-use crate::parts::Gathered;
+use crate::gathering::Gathered;
 use crate::survey::{self};
 use model::Model;
 use table_places::Layout;

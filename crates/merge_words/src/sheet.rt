@@ -1,6 +1,6 @@
 // The merged sheet, whole, from what was gathered.
+use crate::gathering::Gathered;
 use crate::head::{self};
-use crate::parts::Gathered;
 use crate::sync::{self};
 use merge_predicates::Functions;
 use model::Model;

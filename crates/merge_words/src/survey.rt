@@ -1,5 +1,5 @@
 // What rows 33 and 34 ask of the merged predicates: is one too deep, and how many nodes they have.
-use crate::parts::Gathered;
+use crate::gathering::Gathered;
 use merge_predicates::Functions;
 use model::Model;
 ghost use mathlib.Core.Path.{_≡_};

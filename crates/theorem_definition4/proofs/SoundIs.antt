@@ -14,7 +14,7 @@ use Rattle.model.specs.Lawful.{Lawful}
 use Rattle.model.proofs.Tests.{and-left, and-right, and-intro, eq-of, eq-self, exists-append}
 use Rattle.model.proofs.Numbered.{size}
 use Rattle.model.proofs.Merged.{automaton-at}
-use Rattle.theorem_definition4.specs.Table2.{Rests, rule-9, rule-12, rule-14, Acts, rule-8, rule-10, rule-11-left, rule-11-right, rule-13}
+use Rattle.theorem_definition4.specs.Table2.{SymbolicEnvironment, rule-9, rule-12, rule-14, SymbolicAction, rule-8, rule-10, rule-11-left, rule-11-right, rule-13}
 use Rattle.theorem_definition4.specs.Table3.{Position, at, WildCards, wild-15, wild-16, wild-20, Leads, rule-15, rule-16, rule-20, Syncs, sync-15, sync-16, sync-20}
 use Rattle.theorem_definition4.specs.Table3.{Transition, rule-17, rule-18-left, rule-18-right, rule-19, rule-21}
 use Rattle.theorem_definition4.specs.Sound.{LocationsOf, of-leaf, of-par, of-syn, chosen, fits, below, put, overwritten, LeadsTo, StepsTo, LinearIsSymbolic}
@@ -118,19 +118,19 @@ module _ {m : Model} where
   -- Theorem 5: what a composition leads to, at a location of each automaton
   rests : {c : Tree} {ls : List ℕ} {fs gs : List (List Pred)} {A : List ℕ}
       → LocationsOf m c ls → Leads m (λ x. x .init) c fs → Leads m (λ x. x .inv) c gs → Syncs m c A
-      → Rests m c (chosen fs ls) (chosen gs ls) A ls
+      → SymbolicEnvironment m c (chosen fs ls) (chosen gs ls) A ls
   rests (of-leaf {k = k} {v = v} h) rule-15 rule-15 sync-15 =
-      subst₂ (λ u n. Rests m (leaf k) u n (automaton m k .sync) (v ∷ [])) (leaf-chosen m (λ x. x .init) refl k v) (leaf-chosen m (λ x. x .inv) refl k v) (rule-9 h)
+      subst₂ (λ u n. SymbolicEnvironment m (leaf k) u n (automaton m k .sync) (v ∷ [])) (leaf-chosen m (λ x. x .init) refl k v) (leaf-chosen m (λ x. x .inv) refl k v) (rule-9 h)
   rests (of-par {c = c} {d = d} {ls = ls} {ks = ks} x y) (rule-16 {fs = fs} {gs = fs'} f f') (rule-16 {fs = gs} {gs = gs'} g g') (sync-16 {A = A} {B = B} s s') =
-      subst₂ (λ u n. Rests m (par c d) u n (A ++ B) (ls ++ ks))
+      subst₂ (λ u n. SymbolicEnvironment m (par c d) u n (A ++ B) (ls ++ ks))
       (sym (chosen-append fs fs' ls ks (leads-long f ∙ sym (located-long x))))
       (sym (chosen-append gs gs' ls ks (leads-long g ∙ sym (located-long x))))
       (rule-12 (rests x f g s) (rests y f' g' s'))
   rests (of-syn x) (rule-20 f) (rule-20 g) (sync-20 s) = rule-14 (rests x f g s)
 
-  leads-rests : {c : Tree} {ls : List ℕ} {u n : List Pred} {A : List ℕ} → LeadsTo m c ls u n A → Rests m c u n A ls
+  leads-rests : {c : Tree} {ls : List ℕ} {u n : List Pred} {A : List ℕ} → LeadsTo m c ls u n A → SymbolicEnvironment m c u n A ls
   leads-rests {c = c} {ls = ls} {A = A} x =
-      subst₂ (λ u n. Rests m c u n A ls) (sym (x .init)) (sym (x .inv)) (rests (x .located) (x .leads-fs) (x .leads-gs) (x .leads-A))
+      subst₂ (λ u n. SymbolicEnvironment m c u n A ls) (sym (x .init)) (sym (x .inv)) (rests (x .located) (x .leads-fs) (x .leads-gs) (x .leads-A))
 
   -- Theorem 6: the parts of an environment transition lead to the parts of its labels
   abbrev lead-leaf : {k v : ℕ} → v < length (automaton m k .locations) → LeadsTo m (leaf k) (v ∷ []) (location m k v .init ∷ []) (location m k v .inv ∷ []) (automaton m k .sync)
@@ -170,7 +170,7 @@ module _ {m : Model} where
     inv = x .inv;
   }
 
-  rests-leads : {c : Tree} {ls : List ℕ} {u n : List Pred} {A : List ℕ} → Rests m c u n A ls → LeadsTo m c ls u n A
+  rests-leads : {c : Tree} {ls : List ℕ} {u n : List Pred} {A : List ℕ} → SymbolicEnvironment m c u n A ls → LeadsTo m c ls u n A
   rests-leads (rule-9 h) = lead-leaf h
   rests-leads (rule-12 p q) = lead-par (rests-leads p) (rests-leads q)
   rests-leads (rule-14 {list = list} p) = lead-syn list (rests-leads p)
@@ -179,18 +179,18 @@ module _ {m : Model} where
 module _ {m : Model} {a : ℕ} where
   -- the same transition under labels that are equal
   acts-as : {c : Tree} {b b⁺ : Bool} {u u⁺ n n⁺ n' n'⁺ r : List Pred} {ks ks⁺ : List ℕ}
-      → b ≡ b⁺ → u ≡ u⁺ → n ≡ n⁺ → n' ≡ n'⁺ → ks ≡ ks⁺ → Acts m a c b u n n' r ks → Acts m a c b⁺ u⁺ n⁺ n'⁺ r ks⁺
+      → b ≡ b⁺ → u ≡ u⁺ → n ≡ n⁺ → n' ≡ n'⁺ → ks ≡ ks⁺ → SymbolicAction m a c b u n n' r ks → SymbolicAction m a c b⁺ u⁺ n⁺ n'⁺ r ks⁺
   acts-as {c = c} {b⁺ = b⁺} {u⁺ = u⁺} {n = n} {n⁺ = n⁺} {n' = n'} {n'⁺ = n'⁺} {r = r} {ks = ks} p q s t v x =
-      subst (λ js. Acts m a c b⁺ u⁺ n⁺ n'⁺ r js) v
-      (subst₂ (λ i j. Acts m a c b⁺ u⁺ i j r ks) s t
-      (subst₂ (λ i j. Acts m a c i j n n' r ks) p q x))
+      subst (λ js. SymbolicAction m a c b⁺ u⁺ n⁺ n'⁺ r js) v
+      (subst₂ (λ i j. SymbolicAction m a c b⁺ u⁺ i j r ks) s t
+      (subst₂ (λ i j. SymbolicAction m a c i j n n' r ks) p q x))
 
   -- what two sides do is told of the whole
   module _ {c d : Tree} (fs fs' gs gs' : List (List Pred)) (ls ks : List ℕ) (vs ws : List Position)
       (f : length fs ≡ length ls) (g : length gs ≡ length ls) (v : length vs ≡ length ls) where
     acts-par : {b b⁺ : Bool} {r : List Pred} → b ≡ b⁺
-        → Acts m a (par c d) b (chosen fs ls ++ chosen fs' ks) (chosen gs ls ++ chosen gs' ks) (chosen gs (overwritten vs ls) ++ chosen gs' (overwritten ws ks)) r (overwritten vs ls ++ overwritten ws ks)
-        → Acts m a (par c d) b⁺ (chosen (fs ++ fs') (ls ++ ks)) (chosen (gs ++ gs') (ls ++ ks)) (chosen (gs ++ gs') (overwritten (vs ++ ws) (ls ++ ks))) r (overwritten (vs ++ ws) (ls ++ ks))
+        → SymbolicAction m a (par c d) b (chosen fs ls ++ chosen fs' ks) (chosen gs ls ++ chosen gs' ks) (chosen gs (overwritten vs ls) ++ chosen gs' (overwritten ws ks)) r (overwritten vs ls ++ overwritten ws ks)
+        → SymbolicAction m a (par c d) b⁺ (chosen (fs ++ fs') (ls ++ ks)) (chosen (gs ++ gs') (ls ++ ks)) (chosen (gs ++ gs') (overwritten (vs ++ ws) (ls ++ ks))) r (overwritten (vs ++ ws) (ls ++ ks))
     acts-par e x =
         let there = sym (overwritten-append vs ws ls ks v) in
         acts-as e (sym (chosen-append fs fs' ls ks f)) (sym (chosen-append gs gs' ls ks g))
@@ -199,7 +199,7 @@ module _ {m : Model} {a : ℕ} where
 
   acts : {c : Tree} {vs vs' : List Position} {r : List Pred} {ls : List ℕ} {fs gs : List (List Pred)} {A : List ℕ}
       → Transition m a c vs r vs' → LocationsOf m c ls → Leads m (λ x. x .init) c fs → Leads m (λ x. x .inv) c gs → Syncs m c A → below vs ls ≡ true
-      → Acts m a c (member a A) (chosen fs ls) (chosen gs ls) (chosen gs (overwritten vs' ls)) r (overwritten vs' ls)
+      → SymbolicAction m a c (member a A) (chosen fs ls) (chosen gs ls) (chosen gs (overwritten vs' ls)) r (overwritten vs' ls)
   unfolding below fits overwritten put
   acts (rule-17 {k = k} {e = e} i q) (of-leaf {v = v} l) rule-15 rule-15 sync-15 h =
       let same : e .from ≡ v = eq-of (e .from) v (and-left (eqb (e .from) v) true h) in
@@ -234,7 +234,7 @@ module _ {m : Model} {a : ℕ} where
   acts (rule-21 {list = list} t) (of-syn x) (rule-20 f) (rule-20 g) (sync-20 {A = A} s) h =
       acts-as (or-comm (member a A) (member a list) ∙ sym (member-append a list A)) refl refl refl refl (rule-13 (acts t x f g s h))
 
-  steps-acts : {c : Tree} {b : Bool} {u n n' r : List Pred} {ls ks : List ℕ} → StepsTo m c a b u n n' r ls ks → Acts m a c b u n n' r ks
+  steps-acts : {c : Tree} {b : Bool} {u n n' r : List Pred} {ls ks : List ℕ} → StepsTo m c a b u n n' r ls ks → SymbolicAction m a c b u n n' r ks
   steps-acts x =
       let l = x .leads in
       acts-as (sym (x .marked)) (sym (l .init)) (sym (l .inv)) (ap (chosen (l .gs)) (sym (x .reached)) ∙ sym (x .inv')) (sym (x .reached))
@@ -290,7 +290,7 @@ module _ {m : Model} where
   edge-begins lawful k e =
       automaton-at m lawful (λ x. List·Memᴰ e (x .edges) → e .from < length (x .locations)) (λ i. absurd (List·Memᴰ·not-nil i)) (λ x h i. h .edges e i .from) k
 
-  acts-steps : Lawful m → {c : Tree} {a : ℕ} {b : Bool} {u n n' r : List Pred} {ks : List ℕ} → Acts m a c b u n n' r ks
+  acts-steps : Lawful m → {c : Tree} {a : ℕ} {b : Bool} {u n n' r : List Pred} {ks : List ℕ} → SymbolicAction m a c b u n n' r ks
       → (ls : List ℕ) × StepsTo m c a b u n n' r ls ks
   unfolding below fits overwritten put
   acts-steps lawful (rule-8 {k = k} {e = e} i q) = (

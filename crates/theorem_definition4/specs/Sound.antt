@@ -10,7 +10,7 @@ use Rattle.model.specs.Basic.{member}
 use Rattle.model.specs.Predicate.{Pred, all, none}
 use Rattle.model.specs.Composition.{Tree, par, syn, leaf}
 use Rattle.model.specs.Model.{Model, automaton}
-use Rattle.theorem_definition4.specs.Table2.{Rests, Acts}
+use Rattle.theorem_definition4.specs.Table2.{SymbolicEnvironment, SymbolicAction}
 use Rattle.theorem_definition4.specs.Table3.{Position, wild, at, Leads, Syncs, Transition}
 
 -- ls ∈ locsof(p): a location of each automaton, left to right
@@ -72,10 +72,12 @@ module _ (m : Model) (c : Tree) where
 -- of every sheet within the limits, and every part of its composition
 pub record LinearIsSymbolic (m : Model) : Type 0 where
   -- Theorems 5 and 6: the leads-to transitions are sound and complete
-  pub theorem-5 : (c : Tree) (ls : List ℕ) (u n : List Pred) (A : List ℕ) → LeadsTo m c ls u n A → Rests m c u n A ls
-  pub theorem-6 : (c : Tree) (ls : List ℕ) (u n : List Pred) (A : List ℕ) → Rests m c u n A ls → LeadsTo m c ls u n A
+  pub theorem-5 : (c : Tree) (ls : List ℕ) (u n : List Pred) (A : List ℕ)
+      → LeadsTo m c ls u n A → SymbolicEnvironment m c u n A ls
+  pub theorem-6 : (c : Tree) (ls : List ℕ) (u n : List Pred) (A : List ℕ)
+      → SymbolicEnvironment m c u n A ls → LeadsTo m c ls u n A
   -- Theorems 7 and 8: so are the linear action transitions
   pub theorem-7 : (c : Tree) (a : ℕ) (b : Bool) (u n n' r : List Pred) (ls ks : List ℕ)
-      → StepsTo m c a b u n n' r ls ks → Acts m a c b u n n' r ks
+      → StepsTo m c a b u n n' r ls ks → SymbolicAction m a c b u n n' r ks
   pub theorem-8 : (c : Tree) (a : ℕ) (b : Bool) (u n n' r : List Pred) (ks : List ℕ)
-      → Acts m a c b u n n' r ks → (ls : List ℕ) × StepsTo m c a b u n n' r ls ks
+      → SymbolicAction m a c b u n n' r ks → (ls : List ℕ) × StepsTo m c a b u n n' r ls ks

@@ -1,9 +1,9 @@
 -- What the merger gathers of a lawful sheet is what Definition 4 lists.
 use mathlib.Core.Path.{_≡_, refl, sym, ap, ap₂, _∙_, subst}
-use mathlib.Core.Bool.{Bool, true, false}
-use mathlib.Core.List.{List, [], _∷_, _++_, append-assoc, map, flatMap, List·Memᴰ, List·Memᴰ·head, List·Memᴰ·tail, List·Memᴰ·not-nil, Memᴰ·map}
+use mathlib.Core.Bool.{false}
+use mathlib.Core.List.{List, [], _∷_, _++_, map, flatMap, List·Memᴰ, List·Memᴰ·head, List·Memᴰ·tail, Memᴰ·map}
 use mathlib.Core.Logic.{_↔_}
-use Prim.Native.Nat.{ℕ, zero, suc, _+_, _*_, _≤_, _<_}
+use Prim.Native.Nat.{ℕ, suc, _+_, _*_, _≤_, _<_}
 use native.Mathlib.Omega.{arith}
 use lib.ListN.{length, getD, drop, replicate, length-map, length-replicate, List·getD-append, List·getD-map}
 use lib.Seq.{sets, sets-eq, drop-cons}
@@ -19,7 +19,7 @@ use Rattle.model.specs.Table.{code, predWords, lineWords, lowBits, highBits, se
 use Rattle.model.specs.Moves.{moves}
 use Rattle.model.specs.Linear.{linear, mergedCount, row32}
 use Rattle.model.proofs.Count.{count-is}
-use Rattle.model.proofs.Numbered.{size, numbered, size-is}
+use Rattle.model.proofs.Numbered.{numbered, size-is}
 use Rattle.model.proofs.LinearLimits.{keep-rises}
 use Rattle.table_tree.proofs.Inside.{list-back}
 use Rattle.table_places.specs.Outline.{automatonAt}
@@ -28,7 +28,6 @@ use Rattle.table_places.proofs.LayoutLaws.{set-place}
 use Rattle.table_places.proofs.OutlineLaws.{automaton-at, automatonWords}
 use Rattle.merge_append.specs.Runs.{run}
 use Rattle.merge_predicates.specs.declared.functions.Functions.{Functions}
-use Rattle.merge_predicates.specs.Functions.{functionsOf}
 use Rattle.merge_words.specs.Sync.{setsOf, wordsOf}
 use Rattle.merge_words.specs.Linearize.{gatheredIn, takersFor}
 use Rattle.merge_table.proofs.Standing.{automata-cons}
@@ -38,7 +37,7 @@ use Rattle.merge_table.proofs.SyncIs.{sync-words}
 use Rattle.merge_table.proofs.CountIs.{count-row, count-exact}
 use Rattle.merge_table.proofs.GatherIs.{Move, moved, allMoves, moves-total, Recorded, move-recorded}
 use Rattle.theorem_definition4.specs.Table3.{Position, Transition}
-use Rattle.theorem_definition4.proofs.Positions.{positions, positions-length, LabelsOf}
+use Rattle.theorem_definition4.proofs.Positions.{positions, positions-length}
 use Rattle.theorem_definition4.proofs.Table3Is.{TakenBy, transitions-are, wilds-to, labels-own, valuesOf, leads-are}
 use Rattle.theorem_definition4.proofs.Definition4Is.{counted-in, joined-in, transition-bounded, linear-is}
 use Rattle.theorem_gathered.specs.Gathers.{allValues, Holds, Labelled, Gathers}

@@ -1,14 +1,12 @@
 -- The places of a move are the labels of its transition.
 use mathlib.Core.Path.{_≡_, refl, sym, ap, ap₂, _∙_}
 use mathlib.Core.Bool.{Bool, true, false}
-use mathlib.Core.List.{List, [], _∷_, _++_, map, map-append, map-map}
+use mathlib.Core.List.{List, [], _∷_, _++_, map, map-append}
 use mathlib.Core.Option.{Option, none, some, Option·map}
 use Prim.Native.Nat.{ℕ, _≤_}
-use native.Mathlib.Omega.{arith}
 use lib.ListN.{length, take}
 use lib.Dec.{eqb}
 use Rattle.model.specs.Basic.{countUp}
-use Rattle.model.specs.Predicate.{Pred}
 use Rattle.model.specs.Composition.{Tree, par, syn, leaf, leaves}
 use Rattle.model.specs.Model.{Model, Edge}
 use Rattle.model.specs.Rules.{Taker}

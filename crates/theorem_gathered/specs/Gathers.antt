@@ -17,7 +17,7 @@ use Rattle.merge_append.specs.Runs.{run}
 use Rattle.merge_predicates.specs.declared.functions.Functions.{Functions}
 use Rattle.merge_edges.specs.Edge.{updatesAt}
 use Rattle.merge_edges.specs.Edges.{actionAt}
-use Rattle.merge_words.specs.declared.parts.Gathered.{Gathered}
+use Rattle.merge_words.specs.declared.gathering.Gathered.{Gathered}
 use Rattle.theorem_definition4.specs.Table3.{Position, wild, at, WildCards, Leads, Syncs, Transition}
 
 -- the values of functions, one function's after the other's
