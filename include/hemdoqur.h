@@ -44,7 +44,7 @@
  * sheets that could be made, and rounded up; rust/hemdoqur/tests/stack.rs holds the archive to them. */
 #define SHEET_STACK_READ 229376
 #define SHEET_STACK_WRITE 73728
-#define SHEET_STACK_MERGE 204800
+#define SHEET_STACK_MERGE 245760
 #define SHEET_STACK_SIZE 12288
 #define SHEET_STACK_STEP 147456
 #define SHEET_STACK_ENVIRONMENT 16384
@@ -159,8 +159,8 @@ uint64_t sheet_size(const uint32_t *table, size_t table_length);
  * short buffer. The bytes behind the text stay as they were. */
 uint64_t sheet_write(const uint32_t *table, size_t table_length, uint8_t *out, size_t out_length);
 
-/* Writes the text of one automaton that does exactly what all automata of the table do together: edges * 2^17 +
- * length. Else row * 2^32: 18 or 19 for the table, 31 to 34 for a limit that the merged sheet breaks, 35 for a short
+/* Writes the text of one automaton that does exactly what all automata of the table do together, equal edges once:
+ * edges * 2^17 + length. Else row * 2^32: 18 or 19 for the table, 31 to 34 for a limit that the merged sheet breaks, 35 for a short
  * buffer. The bytes behind the text stay as they were. */
 uint64_t sheet_merge(const uint32_t *table, size_t table_length, uint8_t *out, size_t out_length);
 

@@ -12,7 +12,7 @@ use borrow.Author.Tests.{eqb-true, eqb-false, eq-eqb, ltb-true, ltb-false}
 use Rattle.model.specs.Basic.{every, keep, member, countUp}
 use Rattle.model.specs.Table.{bit}
 use Rattle.model.proofs.Tests.{and-right, not-false, both-ways}
-use Rattle.model.proofs.Lists.{keep-first, keep-skip, member-keep, member-count}
+use Rattle.model.proofs.Lists.{keep-keep, member-keep, member-count}
 use Rattle.table_tree.proofs.SetLaws.{keep-alike, every-kept, kept-all, bit-above}
 use Rattle.judge_search.specs.Search.{isCovered}
 use Rattle.judge_search.specs.Masks.{mask}
@@ -49,18 +49,6 @@ listOf n u = keep (bit u) (countUp 0 n)
 
 pub list-mask : (f : ℕ → Bool) (n : ℕ) → keep f (countUp 0 n) ≡ listOf n (mask f n)
 list-mask f n = keep-alike f (bit (mask f n)) 0 n (λ k a b. sym (bit-mask f n k (omega arith)))
-
-keep-keep : (f g : ℕ → Bool) (l : List ℕ) → keep g (keep f l) ≡ keep (λ k. f k && g k) l
-keep-keep f g [] = unfold keep in refl
-keep-keep f g (x ∷ l) = go (f x) refl (g x) refl (keep-keep f g l)
-  where
-    both : ℕ → Bool
-    both k = f k && g k
-
-    go : (a : Bool) → f x ≡ a → (b : Bool) → g x ≡ b → keep g (keep f l) ≡ keep both l → keep g (keep f (x ∷ l)) ≡ keep both (x ∷ l)
-    go true e true h ih = ap (keep g) (keep-first f x l e) ∙ keep-first g x (keep f l) h ∙ ap (λ r. x ∷ r) ih ∙ sym (keep-first both x l (rw (e, h)))
-    go true e false h ih = ap (keep g) (keep-first f x l e) ∙ keep-skip g x (keep f l) h ∙ ih ∙ sym (keep-skip both x l (rw (e, h)))
-    go false e b h ih = ap (keep g) (keep-skip f x l e) ∙ ih ∙ sym (keep-skip both x l (rw e))
 
 -- what is kept of a set, where r has the bits of what is kept
 pub list-and : (g : ℕ → Bool) (n u r : ℕ) → ((k : ℕ) → k < n → bit r k ≡ g k) → keep g (listOf n u) ≡ listOf n (bitAnd u r)

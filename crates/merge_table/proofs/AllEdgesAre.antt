@@ -12,7 +12,8 @@ use Rattle.model.specs.Lawful.{Lawful}
 use Rattle.model.specs.Lines.{edgeLine}
 use Rattle.model.specs.Table.{lineWords, sheetWords}
 use Rattle.model.specs.Moves.{moves}
-use Rattle.model.specs.Linear.{mergedEdge, mergedEdges, row32}
+use Rattle.model.specs.Linear.{mergedEdge, edgesWithRepeats}
+use Rattle.model.specs.Repeats.{row32WithRepeats}
 use Rattle.table_places.specs.declared.layout.Layout.{Layout}
 use Rattle.table_places.specs.Outline.{reach}
 use Rattle.table_places.specs.Layout.{layoutOf}
@@ -48,8 +49,8 @@ module _ (m : Model) (lawful : Lawful m) (t rest : List ℕ) (e : t ≡ sheetWor
     edges-from list (v ∷ vs) at r = ap₂ (λ (k l : List ℕ). k ++ l) (one-edge v (run list at 16) (r .0)) (edges-from list vs (reach list at 16) (r .1))
 
     -- the law: all edges, in their order
-    pub edges-words : row32 m ≡ false → (old : List ℕ) → length old ≡ tableWords
-        → edgesFrom t (layoutOf t .variables) (gathered t (layoutOf t) (ownOf t) old) 0 (length (mergedEdges m)) ≡ edgeWords (mergedEdges m)
+    pub edges-words : row32WithRepeats m ≡ false → (old : List ℕ) → length old ≡ tableWords
+        → edgesFrom t (layoutOf t .variables) (gathered t (layoutOf t) (ownOf t) old) 0 (length (edgesWithRepeats m)) ≡ edgeWords (edgesWithRepeats m)
     edges-words kept old long =
         let list = gathered t lay (ownOf t) old in
         ap (edgesFrom t (lay .variables) list 0) (sym (moves-total m)) ∙ edges-from list (allMoves m) 0 (moves-gathered m lawful t rest e kept old long) ∙ ap edgeWords (moves-edges m)

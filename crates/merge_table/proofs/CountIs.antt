@@ -16,7 +16,8 @@ use Rattle.model.specs.Model.{Model}
 use Rattle.model.specs.Lawful.{Lawful}
 use Rattle.model.specs.Table.{sheetWords}
 use Rattle.model.specs.Moves.{moveCount}
-use Rattle.model.specs.Linear.{mergedCount, row31, row32}
+use Rattle.model.specs.Linear.{row31}
+use Rattle.model.specs.Repeats.{countWithRepeats, row32WithRepeats}
 use Rattle.merge_moves.specs.declared.planning.Planned.{Planned}
 use Rattle.merge_moves.specs.Capping as M
 use Rattle.merge_moves.proofs.CappingLaws.{cap-small, cap-large}
@@ -103,29 +104,29 @@ module _ (m : Model) (lawful : Lawful m) (t rest : List ℕ) (e : t ≡ sheetWor
   unfolding movesIn
   counted-is = ap (λ a. movesOf t lay (ownOf t) 0 (a + 1) 0) (last-is m lawful t rest e)
 
-  whole-count : countFrom m 0 (m .actions + 1) ≡ mergedCount m
-  unfolding mergedCount
+  whole-count : countFrom m 0 (m .actions + 1) ≡ countWithRepeats m
+  unfolding countWithRepeats
   whole-count = ap (countFrom m 0) (add-one (m .actions))
 
-  exact : mergedCount m ≤ maxEdges → counted ≡ mergedCount m
+  exact : countWithRepeats m ≤ maxEdges → counted ≡ countWithRepeats m
   exact h = counted-is ∙ few-are (m .actions + 1) 0 0 (omega (arith, whole-count)) ∙ zero-add (countFrom m 0 (m .actions + 1)) ∙ whole-count
 
-  pub count-row : ltb maxEdges (movesIn t (layoutOf t) (ownOf t)) ≡ row32 m
-  unfolding row32
-  count-row = go (decLt maxEdges (mergedCount m))
+  pub count-row : ltb maxEdges (movesIn t (layoutOf t) (ownOf t)) ≡ row32WithRepeats m
+  unfolding row32WithRepeats
+  count-row = go (decLt maxEdges (countWithRepeats m))
     where
-      go : Dec (maxEdges < mergedCount m) → ltb maxEdges counted ≡ ltb maxEdges (mergedCount m)
-      go (yes h) = ap (ltb maxEdges) counted-is ∙ lt-ltb maxEdges _ (many-are (m .actions + 1) 0 0 (omega (arith, whole-count))) ∙ sym (lt-ltb maxEdges (mergedCount m) h)
+      go : Dec (maxEdges < countWithRepeats m) → ltb maxEdges counted ≡ ltb maxEdges (countWithRepeats m)
+      go (yes h) = ap (ltb maxEdges) counted-is ∙ lt-ltb maxEdges _ (many-are (m .actions + 1) 0 0 (omega (arith, whole-count))) ∙ sym (lt-ltb maxEdges (countWithRepeats m) h)
       go (no h) = ap (ltb maxEdges) (exact (omega arith))
 
-  pub count-exact : row32 m ≡ false → movesIn t (layoutOf t) (ownOf t) ≡ mergedCount m
-  unfolding row32
-  count-exact h = exact (ltb-false maxEdges (mergedCount m) h)
+  pub count-exact : row32WithRepeats m ≡ false → movesIn t (layoutOf t) (ownOf t) ≡ countWithRepeats m
+  unfolding row32WithRepeats
+  count-exact h = exact (ltb-false maxEdges (countWithRepeats m) h)
 
-  pub counts-few : row32 m ≡ false → (a : ℕ) → a ≤ m .actions → moveCount m a (m .tree) ≤ maxEdges
-  unfolding row32
+  pub counts-few : row32WithRepeats m ≡ false → (a : ℕ) → a ≤ m .actions → moveCount m a (m .tree) ≤ maxEdges
+  unfolding row32WithRepeats
   counts-few h a l =
-      let all = ltb-false maxEdges (mergedCount m) h in
+      let all = ltb-false maxEdges (countWithRepeats m) h in
       let one = one-of m (m .actions + 1) 0 a (omega arith) (omega arith) in
       omega (arith, whole-count)
 

@@ -22,7 +22,8 @@ use Rattle.model.specs.Moves.{under, alone}
 use Rattle.model.specs.Linear.{pointer, pointerMoves, mergedEdge}
 use Rattle.model.proofs.Tests.{exists-append}
 use Rattle.model.proofs.Lists.{keep-out}
-use Rattle.model.proofs.LinearLimits.{preds-count, pointers-length}
+use Rattle.model.proofs.LinearLimits.{preds-count}
+use Rattle.model.proofs.Pointers.{pointers-length}
 use Rattle.model.proofs.Sizes.{words-fit}
 use Rattle.table_places.specs.Outline.{reach, nodesPlace, afterPredicate, updatePlace, firstEdge, edgesAt, afterAutomaton, firstAutomaton}
 use Rattle.table_places.specs.Layout.{layoutOf}
@@ -124,7 +125,7 @@ module _ (t : List ℕ) (action n at : ℕ) where
 
 -- the first of some edges
 module _ (t : List ℕ) (at : ℕ) (x : Edge) (es : List Edge) (rest : List ℕ) (e : drop at t ≡ edgeWords (x ∷ es) ++ rest) where
-  first-there : drop at t ≡ lineWords (edgeLine x) ++ (edgeWords es ++ rest)
+  pub first-there : drop at t ≡ lineWords (edgeLine x) ++ (edgeWords es ++ rest)
   unfolding flatMap
   first-there = e ∙ append-assoc (lineWords (edgeLine x)) (edgeWords es) rest
 

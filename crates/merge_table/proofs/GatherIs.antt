@@ -16,8 +16,9 @@ use Rattle.model.specs.Rules.{Taker}
 use Rattle.model.specs.Lawful.{Lawful}
 use Rattle.model.specs.Table.{sheetWords}
 use Rattle.model.specs.Moves.{moves, moveCount}
-use Rattle.model.specs.Linear.{mergedEdge, mergedEdges, mergedCount, row32}
-use Rattle.model.proofs.Count.{moves-length, count-is}
+use Rattle.model.specs.Linear.{mergedEdge, edgesWithRepeats}
+use Rattle.model.specs.Repeats.{countWithRepeats, row32WithRepeats}
+use Rattle.model.proofs.Count.{moves-length, repeats-counted}
 use Rattle.table_append.specs.Append.{put}
 use Rattle.table_append.proofs.Stored.{put-sets}
 use Rattle.table_places.specs.declared.layout.Layout.{Layout}
@@ -61,11 +62,11 @@ edges-for m (a ∷ l) =
     map-append (moveEdge m) (map (moved a) (moves m a (m .tree))) (movesFor m l) ∙
     ap₂ (λ (x y : List Edge). x ++ y) (map-map (moveEdge m) (moved a) (moves m a (m .tree))) (edges-for m l)
 
-pub moves-edges : (m : Model) → map (moveEdge m) (allMoves m) ≡ mergedEdges m
-unfolding allMoves mergedEdges
+pub moves-edges : (m : Model) → map (moveEdge m) (allMoves m) ≡ edgesWithRepeats m
+unfolding allMoves edgesWithRepeats
 moves-edges m = edges-for m (countUp 0 (suc (m .actions)))
 
-pub moves-total : (m : Model) → length (allMoves m) ≡ length (mergedEdges m)
+pub moves-total : (m : Model) → length (allMoves m) ≡ length (edgesWithRepeats m)
 moves-total m = sym (length-map (allMoves m) (moveEdge m)) ∙ ap length (moves-edges m)
 
 module _ (m : Model) (t : List ℕ) where
@@ -205,7 +206,7 @@ module _ (m : Model) (lawful : Lawful m) (t rest : List ℕ) (e : t ≡ sheetWor
         moves-under a l (few a l) list _ (movesFor m (countUp (suc a) n)) (λ p q. moves-upto list others n (suc a) p (omega arith) (rw z at q)) at parts
 
   -- the law: where row 32 does not refuse, a list as long as a table has all moves
-  module _ (kept : row32 m ≡ false) (old : List ℕ) (long : length old ≡ tableWords) where
+  module _ (kept : row32WithRepeats m ≡ false) (old : List ℕ) (long : length old ≡ tableWords) where
     few : (a : ℕ) → a ≤ m .actions → moveCount m a (m .tree) ≤ maxEdges
     few = counts-few m lawful t rest e kept
 
@@ -217,15 +218,15 @@ module _ (m : Model) (lawful : Lawful m) (t rest : List ℕ) (e : t ≡ sheetWor
     unfolding gathered
     stored = let no : ltb maxEdges (movesIn t lay (ownOf t)) ≡ false = count-row m lawful t rest e ∙ kept in rw (no, gathered)
 
-    whole-length : length (G.takersIn t lay (ownOf t)) ≡ 16 * mergedCount m
-    unfolding G.takersIn mergedCount
+    whole-length : length (G.takersIn t lay (ownOf t)) ≡ 16 * countWithRepeats m
+    unfolding G.takersIn countWithRepeats
     whole-length =
         ap (λ a. length (G.takersOf t lay (ownOf t) 0 (a + 1))) (last-is m lawful t rest e) ∙ all-length few (m .actions + 1) 0 (omega arith) ∙
         ap (λ n. 16 * sum (map (λ b. moveCount m b (m .tree)) (countUp 0 n))) (add-one (m .actions))
 
     room : 0 + length all ≤ length old
-    unfolding row32
-    room = omega (arith, length-map (G.takersIn t lay (ownOf t)) narrow, whole-length, ltb-false maxEdges (mergedCount m) kept)
+    unfolding row32WithRepeats
+    room = omega (arith, length-map (G.takersIn t lay (ownOf t)) narrow, whole-length, ltb-false maxEdges (countWithRepeats m) kept)
 
     begins : drop 0 (gathered t lay (ownOf t) old) ≡ all ++ drop (0 + length all) old
     begins = stored ∙ put-sets all 0 old long ∙ sets-eq all old 0 room
@@ -239,11 +240,11 @@ module _ (m : Model) (lawful : Lawful m) (t rest : List ℕ) (e : t ≡ sheetWor
         (moves-upto few (gathered t lay (ownOf t) old) (drop (0 + length all) old) (m .actions + 1) 0 0 (omega arith) s)
 
     -- so for each merged edge the list has the places of its move
-    pub move-recorded : (k : ℕ) → k < mergedCount m → Recorded m t (getD (allMoves m) k (moved 0 [])) (run (gathered t (layoutOf t) (ownOf t) old) (16 * k) 16)
+    pub move-recorded : (k : ℕ) → k < countWithRepeats m → Recorded m t (getD (allMoves m) k (moved 0 [])) (run (gathered t (layoutOf t) (ownOf t) old) (16 * k) 16)
     move-recorded k h =
         let list = gathered t lay (ownOf t) old in
         let same : length list ≡ length old = ap length (stored ∙ put-sets all 0 old long) ∙ length-sets old 0 all in
-        let size : length (allMoves m) ≡ mergedCount m = moves-total m ∙ count-is m in
+        let size : length (allMoves m) ≡ countWithRepeats m = moves-total m ∙ repeats-counted m in
         let place : 0 + 16 * k ≡ 16 * k = omega arith in
         let inside : 0 + 16 * length (allMoves m) ≤ length list = omega (arith, room, length-map (G.takersIn t lay (ownOf t)) narrow, whole-length) in
         rw (← place) (recorded-at m t list (allMoves m) 0 moves-gathered inside k (omega arith))

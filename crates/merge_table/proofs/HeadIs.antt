@@ -11,7 +11,8 @@ use Rattle.model.specs.Model.{Automaton, Model}
 use Rattle.model.specs.Lawful.{Lawful}
 use Rattle.model.specs.Lines.{formatLine, actionsLine, variablesLine, variableLine, automataLine, composeLine}
 use Rattle.model.specs.Table.{biased, lineWords, sheetWords}
-use Rattle.model.specs.Linear.{pointerRange, linear}
+use Rattle.model.specs.Linear.{pointerRange}
+use Rattle.model.specs.Repeats.{linearWithRepeats}
 use Rattle.table_places.specs.Outline.{locationCount, rangeAt, firstAutomaton, edgesAt, passed, automatonAt, afterAutomaton}
 use Rattle.table_places.specs.Layout.{layoutOf, automataOf}
 use Rattle.table_places.proofs.LayoutLaws.{all-automata, set-place, edges-place}
@@ -89,8 +90,8 @@ module _ (m : Model) (lawful : Lawful m) (t rest : List ℕ) (e : t ≡ sheetWor
 
   -- the words up to the automaton's are those of the merged model's lines
   pub head-words : headWords t (layoutOf t)
-      ≡ wordsOf (formatLine (linear m .format) ∷ actionsLine (linear m .actions) ∷ variablesLine (length (linear m .variables)) ∷ (map variableLine (linear m .variables) ++ automataLine 1 ∷ []))
-  unfolding headWords linear flatMap lineWords
+      ≡ wordsOf (formatLine (linearWithRepeats m .format) ∷ actionsLine (linearWithRepeats m .actions) ∷ variablesLine (length (linearWithRepeats m .variables)) ∷ (map variableLine (linearWithRepeats m .variables) ++ automataLine 1 ∷ []))
+  unfolding headWords linearWithRepeats flatMap lineWords
   head-words =
       let lay = layoutOf t in
       let v = length (m .variables) in

@@ -8,6 +8,7 @@ pub mod EdgesAre
 pub mod DeepAre
 pub mod SyncIs
 pub mod MovesAre
+pub mod DistinctIs
 pub mod CountIs
 pub mod GatherIs
 pub mod TakersAre
@@ -16,4 +17,5 @@ pub mod SurveyIs
 pub mod SheetIs
 pub mod WordsFit
 pub mod WholeIs
+pub mod DistinctTable
 pub mod LinearizeIs

@@ -82,7 +82,7 @@ kept-few action (x ∷ es) = go (eqb (x .action) action) (kept-few action es)
     go true h = omega arith
     go false h = omega arith
 
-edges-few : (xs : List Automaton) (x : Automaton) → List·Memᴰ x xs → length (x .edges) ≤ edgeTotal xs
+pub edges-few : (xs : List Automaton) (x : Automaton) → List·Memᴰ x xs → length (x .edges) ≤ edgeTotal xs
 unfolding edgeTotal
 edges-few [] x i = absurd (List·Memᴰ·not-nil i)
 edges-few (y ∷ xs) x (List·Memᴰ·head e) = let z : length (x .edges) ≡ length (y .edges) = ap (λ (w : Automaton). length (w .edges)) e in omega arith

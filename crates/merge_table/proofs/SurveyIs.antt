@@ -16,9 +16,10 @@ use Rattle.model.specs.Model.{Edge, Model}
 use Rattle.model.specs.Rules.{Taker}
 use Rattle.model.specs.Lawful.{Lawful}
 use Rattle.model.specs.Table.{sheetWords}
-use Rattle.model.specs.Linear.{mergedInit, mergedInv, mergedEdge, mergedEdges, mergedCount, mergedPreds, row32, row33, row34}
+use Rattle.model.specs.Linear.{mergedInit, mergedInv, mergedEdge, edgesWithRepeats}
+use Rattle.model.specs.Repeats.{countWithRepeats, predsWithRepeats, row32WithRepeats, row33WithRepeats, row34WithRepeats}
 use Rattle.model.proofs.Tests.{exists-append}
-use Rattle.model.proofs.Count.{count-is}
+use Rattle.model.proofs.Count.{repeats-counted}
 use Rattle.merge_words.specs.declared.survey.Survey.{Survey}
 use Rattle.merge_predicates.specs.Functions.{functionsOf}
 use Rattle.merge_append.specs.NodeWords.{most, capped}
@@ -107,41 +108,41 @@ module _ (m : Model) (lawful : Lawful m) (t rest : List ℕ) (e : t ≡ sheetWor
       ap (surveyFrom t list (reach list at 16) (length vs)) (with-move v (run list at 16) (r .0) s) ∙
       survey-from list vs (reach list at 16) q (r .1) (capped-most (s .nodes + nodesOf (p ∷ []))) ∙ over-more s (p ∷ []) (updatesOf (map (moveEdge m) vs))
 
-  module _ (kept : row32 m ≡ false) (old : List ℕ) (long : length old ≡ tableWords) where
+  module _ (kept : row32WithRepeats m ≡ false) (old : List ℕ) (long : length old ≡ tableWords) where
     abbrev list : List ℕ
     list = gathered t (layoutOf t) (ownOf t) old
 
     -- all edges, from a survey on
-    survey-edges : (s : Survey) → s .nodes ≤ most → surveyFrom t list 0 (mergedCount m) s ≡ over s (updatesOf (mergedEdges m))
+    survey-edges : (s : Survey) → s .nodes ≤ most → surveyFrom t list 0 (countWithRepeats m) s ≡ over s (updatesOf (edgesWithRepeats m))
     survey-edges s l =
-        ap (λ n. surveyFrom t list 0 n s) (sym (moves-total m ∙ count-is m)) ∙ survey-from list (allMoves m) 0 s (moves-gathered m lawful t rest e kept old long) l ∙
+        ap (λ n. surveyFrom t list 0 n s) (sym (moves-total m ∙ repeats-counted m)) ∙ survey-from list (allMoves m) 0 s (moves-gathered m lawful t rest e kept old long) l ∙
         ap (λ (es : List Edge). over s (updatesOf es)) (moves-edges m)
 
     -- and from that of the merged init and inv on
     module _ (s : Survey) (begun : Begun m s) where
       abbrev whole : Survey
-      whole = surveyFrom t list 0 (mergedCount m) s
+      whole = surveyFrom t list 0 (countWithRepeats m) s
 
-      whole-survey : whole ≡ over s (updatesOf (mergedEdges m))
+      whole-survey : whole ≡ over s (updatesOf (edgesWithRepeats m))
       whole-survey = survey-edges s (rw (begun .nodes) (capped-most (nodeCount (mergedInit m) + nodeCount (mergedInv m))))
 
       -- row 33
-      pub survey-deep : surveyFrom t (gathered t (layoutOf t) (ownOf t) old) 0 (mergedCount m) s .deep ≡ row33 m
-      unfolding row33 mergedPreds exists
+      pub survey-deep : surveyFrom t (gathered t (layoutOf t) (ownOf t) old) 0 (countWithRepeats m) s .deep ≡ row33WithRepeats m
+      unfolding row33WithRepeats predsWithRepeats exists
       survey-deep =
-          let others = exists isTooDeep (updatesOf (mergedEdges m)) in
+          let others = exists isTooDeep (updatesOf (edgesWithRepeats m)) in
           ap (λ (y : Survey). y .deep) whole-survey ∙ ap (λ b. b || others) (begun .deep) ∙ or-assoc (isTooDeep (mergedInit m)) (isTooDeep (mergedInv m)) others
 
-      survey-nodes : whole .nodes ≡ capped (sum (map nodeCount (mergedPreds m)))
-      unfolding mergedPreds sum
+      survey-nodes : whole .nodes ≡ capped (sum (map nodeCount (predsWithRepeats m)))
+      unfolding predsWithRepeats sum
       survey-nodes =
           let a = nodeCount (mergedInit m) in
           let b = nodeCount (mergedInv m) in
-          let others = nodesOf (updatesOf (mergedEdges m)) in
+          let others = nodesOf (updatesOf (edgesWithRepeats m)) in
           let size : a + b + others ≡ a + (b + others) = omega arith in
           ap (λ (y : Survey). y .nodes) whole-survey ∙ ap (λ n. capped (n + others)) (begun .nodes) ∙ capped-add (a + b) others ∙ ap capped size
 
       -- row 34
-      pub survey-row34 : ltb maxNodes (surveyFrom t (gathered t (layoutOf t) (ownOf t) old) 0 (mergedCount m) s .nodes) ≡ row34 m
-      unfolding row34
-      survey-row34 = ap (ltb maxNodes) survey-nodes ∙ capped-test maxNodes (sum (map nodeCount (mergedPreds m))) (omega arith)
+      pub survey-row34 : ltb maxNodes (surveyFrom t (gathered t (layoutOf t) (ownOf t) old) 0 (countWithRepeats m) s .nodes) ≡ row34WithRepeats m
+      unfolding row34WithRepeats
+      survey-row34 = ap (ltb maxNodes) survey-nodes ∙ capped-test maxNodes (sum (map nodeCount (predsWithRepeats m))) (omega arith)

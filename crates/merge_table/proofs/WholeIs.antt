@@ -17,9 +17,10 @@ use Rattle.model.specs.Rules.{Taker}
 use Rattle.model.specs.Lawful.{Lawful}
 use Rattle.model.specs.Table.{sheetWords, tableOf}
 use Rattle.model.specs.Moves.{moves}
-use Rattle.model.specs.Linear.{mergedInit, mergedInv, mergedEdge, mergedEdges, linear, mergedPreds, row31, row32, row33, row34, mergeFault}
+use Rattle.model.specs.Linear.{mergedInit, mergedInv, mergedEdge, edgesWithRepeats, row31}
+use Rattle.model.specs.Repeats.{linearWithRepeats, predsWithRepeats, row32WithRepeats, row33WithRepeats, row34WithRepeats, faultWithRepeats}
 use Rattle.model.proofs.Decode.{unbroken}
-use Rattle.model.proofs.LinearLimits.{linear-lawful}
+use Rattle.model.proofs.LinearLimits.{repeats-lawful}
 use Rattle.model.proofs.Sizes.{words-fit}
 use Rattle.merge_append.specs.Append.{Appended}
 use Rattle.merge_append.specs.NodeWords.{most}
@@ -34,17 +35,17 @@ use Rattle.merge_table.proofs.WordsFit.{fits}
 -- rows 31 to 34, where none of them refuses
 pub record Kept (m : Model) : Type 0 where
   pub variables : row31 m ≡ false
-  pub edges : row32 m ≡ false
-  pub depths : row33 m ≡ false
-  pub nodes : row34 m ≡ false
+  pub edges : row32WithRepeats m ≡ false
+  pub depths : row33WithRepeats m ≡ false
+  pub nodes : row34WithRepeats m ≡ false
 
-pub rows-kept : (m : Model) → mergeFault m ≡ none → Kept m
-unfolding mergeFault
+pub rows-kept : (m : Model) → faultWithRepeats m ≡ none → Kept m
+unfolding faultWithRepeats
 rows-kept m h =
     let r31 = unbroken 31 (row31 m) _ h in
-    let r32 = unbroken 32 (row32 m) _ (r31 .1) in
-    let r33 = unbroken 33 (row33 m) _ (r32 .1) in
-    let r34 = unbroken 34 (row34 m) _ (r33 .1) in
+    let r32 = unbroken 32 (row32WithRepeats m) _ (r31 .1) in
+    let r33 = unbroken 33 (row33WithRepeats m) _ (r32 .1) in
+    let r34 = unbroken 34 (row34WithRepeats m) _ (r33 .1) in
     record { variables = r31 .0; edges = r32 .0; depths = r33 .0; nodes = r34 .0 }
 
 -- one of some predicates has no more nodes than all
@@ -70,46 +71,50 @@ module _ (m : Model) (a : ℕ) (ts : List Taker) (i : List·Memᴰ ts (moves m a
           let z : a ≡ b = omega arith in
           subst (λ c. List·Memᴰ (mergedEdge m a ts) (map (mergedEdge m c) (moves m c (m .tree)) ++ others)) z (Memᴰ·append-left others (Memᴰ·map (mergedEdge m a) i))
 
-  edge-in : a ≤ m .actions → List·Memᴰ (mergedEdge m a ts) (mergedEdges m)
-  unfolding mergedEdges
+  edge-in : a ≤ m .actions → List·Memᴰ (mergedEdge m a ts) (edgesWithRepeats m)
+  unfolding edgesWithRepeats
   edge-in l = edge-from (suc (m .actions)) 0 (omega arith) (omega arith)
 
 -- so where row 34 does not refuse, each merged predicate's count of nodes is a word
 module _ (m : Model) (rows : Kept m) where
-  few-nodes : (p : Pred) → List·Memᴰ p (mergedPreds m) → nodeCount p ≤ most
-  unfolding row34
+  few-nodes : (p : Pred) → List·Memᴰ p (predsWithRepeats m) → nodeCount p ≤ most
+  unfolding row34WithRepeats
   few-nodes p i =
-      let all = ltb-false maxNodes (sum (map nodeCount (mergedPreds m))) (rows .nodes) in
-      let one = one-of-all (mergedPreds m) p i in
+      let all = ltb-false maxNodes (sum (map nodeCount (predsWithRepeats m))) (rows .nodes) in
+      let one = one-of-all (predsWithRepeats m) p i in
       omega arith
 
   pub init-small : nodeCount (mergedInit m) ≤ most
-  unfolding mergedPreds
+  unfolding predsWithRepeats
   init-small = few-nodes (mergedInit m) (List·Memᴰ·head refl)
 
   pub inv-small : nodeCount (mergedInv m) ≤ most
-  unfolding mergedPreds
+  unfolding predsWithRepeats
   inv-small = few-nodes (mergedInv m) (List·Memᴰ·tail (List·Memᴰ·head refl))
 
   pub edge-small : (a : ℕ) → a ≤ m .actions → (ts : List Taker) → List·Memᴰ ts (moves m a (m .tree)) → nodeCount (mergedEdge m a ts .update) ≤ most
-  unfolding mergedPreds
+  unfolding predsWithRepeats
   edge-small a l ts i = few-nodes (mergedEdge m a ts .update) (List·Memᴰ·tail (List·Memᴰ·tail (Memᴰ·map (λ (d : Edge). d .update) (edge-in m a ts i l))))
 
-module _ (m : Model) (lawful : Lawful m) (t rest : List ℕ) (e : t ≡ sheetWords m ++ rest) (unrefused : mergeFault m ≡ none) where
+-- a sheet's words, appended to an empty table, are its table
+pub table-appended : (k : Model) → Lawful k → (new : List ℕ) (r : ℕ) → Appended (sheetWords k) 0 (replicate tableWords 0) new r → new ≡ tableOf k
+unfolding tableOf
+table-appended k law new r there =
+    let ws = sheetWords k in
+    let room = words-fit k law in
+    let is = appended-is ws 0 (replicate tableWords 0) new r there (fits k law) (length-replicate {A = ℕ} tableWords 0) (omega arith) in
+    is ∙ ap (λ (l : List ℕ). ws ++ l) (ap (λ n. drop n (replicate tableWords 0)) (zero-add (length ws)) ∙ drop-zeros (length ws) tableWords room)
+
+module _ (m : Model) (lawful : Lawful m) (t rest : List ℕ) (e : t ≡ sheetWords m ++ rest) (unrefused : faultWithRepeats m ≡ none) where
   -- the words
-  pub whole-words : mergedSheet t (gatheredIn t (layoutOf t)) (takersFor t (layoutOf t)) ≡ sheetWords (linear m)
+  pub whole-words : mergedSheet t (gatheredIn t (layoutOf t)) (takersFor t (layoutOf t)) ≡ sheetWords (linearWithRepeats m)
   whole-words =
       let rows = rows-kept m unrefused in
       sheet-words m lawful t rest e (rows .edges) (init-small m rows) (inv-small m rows) (edge-small m rows)
 
   -- the table
   pub whole-table : (new : List ℕ) (r : ℕ) → Appended (mergedSheet t (gatheredIn t (layoutOf t)) (takersFor t (layoutOf t))) 0 (replicate tableWords 0) new r
-      → new ≡ tableOf (linear m)
-  unfolding tableOf
+      → new ≡ tableOf (linearWithRepeats m)
   whole-table new r a =
-      let ws = sheetWords (linear m) in
-      let law = linear-lawful m lawful unrefused in
-      let room = words-fit (linear m) law in
-      let there : Appended ws 0 (replicate tableWords 0) new r = subst (λ (l : List ℕ). Appended l 0 (replicate tableWords 0) new r) whole-words a in
-      let is = appended-is ws 0 (replicate tableWords 0) new r there (fits (linear m) law) (length-replicate {A = ℕ} tableWords 0) (omega arith) in
-      is ∙ ap (λ (l : List ℕ). ws ++ l) (ap (λ n. drop n (replicate tableWords 0)) (zero-add (length ws)) ∙ drop-zeros (length ws) tableWords room)
+      table-appended (linearWithRepeats m) (repeats-lawful m lawful unrefused) new r
+      (subst (λ (l : List ℕ). Appended l 0 (replicate tableWords 0) new r) whole-words a)

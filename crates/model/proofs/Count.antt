@@ -1,4 +1,4 @@
--- The merged edges are counted without being listed (row 32).
+-- The merged edges, with repeats, are counted without being listed.
 use Prim.Native.Nat.{ℕ, suc, _*_}
 use mathlib.Core.Path.{_≡_, refl, sym, _∙_}
 use mathlib.Core.Bool.{Bool, true, false}
@@ -10,7 +10,8 @@ use Rattle.model.specs.Composition.{Tree, par, syn, leaf}
 use Rattle.model.specs.Model.{Model, automaton, inSet}
 use Rattle.model.specs.Rules.{Taker}
 use Rattle.model.specs.Moves.{pairs, sides, under, alone, moves, sidesCount, moveCount}
-use Rattle.model.specs.Linear.{mergedEdge, mergedEdges, mergedCount}
+use Rattle.model.specs.Linear.{mergedEdge, edgesWithRepeats}
+use Rattle.model.specs.Repeats.{countWithRepeats}
 
 pairs-length : (xs ys : List (List Taker)) → length (pairs xs ys) ≡ length xs * length ys
 unfolding pairs
@@ -40,7 +41,7 @@ edges-length m (a ∷ l) =
     length-append (map (mergedEdge m a) (moves m a (m .tree))) (flatMap (λ b. map (mergedEdge m b) (moves m b (m .tree))) l)
     ∙ rw (length-map (moves m a (m .tree)) (mergedEdge m a), moves-length m a (m .tree), edges-length m l)
 
--- the count of row 32 is the number of merged edges
-pub count-is : (m : Model) → length (mergedEdges m) ≡ mergedCount m
-unfolding mergedEdges mergedCount
-count-is m = edges-length m (countUp 0 (suc (m .actions)))
+-- the count is the number of merged edges with repeats
+pub repeats-counted : (m : Model) → length (edgesWithRepeats m) ≡ countWithRepeats m
+unfolding edgesWithRepeats countWithRepeats
+repeats-counted m = edges-length m (countUp 0 (suc (m .actions)))

@@ -1,13 +1,16 @@
--- Small computed examples that pin what the laws leave open: sets, the order of merged edges, intervals, sizes.
+-- Small computed examples that pin what the laws leave open: sets, the order of merged edges, intervals, sizes, equal
+-- edges.
 use Prim.Native.Nat.{ℕ}
 use mathlib.Core.Path.{_≡_, refl}
 use mathlib.Core.Bool.{Bool, true, false}
 use mathlib.Core.List.{List, [], _∷_, map}
 use lib.IntN.{ℤ, pos, negsuc}
-use Rattle.model.specs.Basic.{exists, keep, member, countUp}
+use lib.Dec.{eqb}
+use Rattle.model.specs.Basic.{eqZ, exists, keep, once, member, countUp}
 use Rattle.model.specs.Predicate.{Pred, Range, range, all, negate, eq, num, old, add, sub, mul, choose, none, words, operands, nodeCount, depth, least, greatest, hull, times, interval}
 use Rattle.model.specs.Composition.{Tree, par, syn, leaf}
 use Rattle.model.specs.Model.{Model, Edge, Automaton, inSet}
+use Rattle.model.specs.Equal.{wordKind, wordNumber, sameWord, sameWords, sameEdge}
 use Rattle.model.specs.Moves.{pairs, sides, under, moves, sidesCount, moveCount}
 
 -- an automaton whose edges under action 1 lead to these locations; `true` says nothing
@@ -100,3 +103,16 @@ sizes = refl
 pub depths : map depth examples ≡ 1 ∷ 2 ∷ 4 ∷ []
 unfolding depth
 depths = refl
+
+-- equal items stand once, at the first one's place
+pub firsts : once eqb (3 ∷ 1 ∷ 3 ∷ 2 ∷ 1 ∷ []) ≡ 3 ∷ 1 ∷ 2 ∷ []
+unfolding once keep
+firsts = refl
+
+-- an edge equals itself, and none that differs from it in FROM, ACT, TO or P alone
+abbrev edge : (from action to : ℕ) → Pred → Edge
+edge from action to p = record { from = from; action = action; to = to; update = p }
+
+pub equal-edges : map (sameEdge (edge 1 2 3 true')) (edge 1 2 3 true' ∷ edge 0 2 3 true' ∷ edge 1 0 3 true' ∷ edge 1 2 0 true' ∷ edge 1 2 3 (negate true') ∷ []) ≡ true ∷ false ∷ false ∷ false ∷ false ∷ []
+unfolding sameEdge sameWords sameWord wordKind wordNumber words operands eqZ
+equal-edges = refl

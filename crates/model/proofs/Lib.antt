@@ -1,6 +1,8 @@
 pub mod Tests
 pub mod Lists
+pub mod Once
 pub mod Parsing
+pub mod EqualLaws
 pub mod LinesLaws
 pub mod LinesBack
 pub mod LimitLines
@@ -19,6 +21,9 @@ pub mod Merged
 pub mod Alike
 pub mod Count
 pub mod LinearLimits
+pub mod OnceMoves
+pub mod OnceEdges
+pub mod Distinct
 pub mod TableJudge
 pub mod TableRuns
 pub mod Examples

@@ -9,6 +9,7 @@ use native.Mathlib.Omega.{arith}
 use borrow.Author.Tests.{leb-true, le-leb, lt-leb}
 use lib.IntN.{ℤ, pos, negsuc}
 use lib.Signed.{leZ}
+use lib.Dec.{ltb}
 use lib.ListN.{length, length-append, length-map, List·getD-append}
 use Rattle.model.specs.Basic.{between, every, exists, keep, sum, countUp}
 use Rattle.model.specs.Bounds.{maxVariables, maxLocations, maxEdges, maxOperands, maxDepth, maxNodes, lastVariable, lastLocation, leastNumber, greatestNumber, leastValue, greatestValue}
@@ -16,21 +17,26 @@ use Rattle.model.specs.Predicate as P
 use Rattle.model.specs.Predicate.{Pred, Preds, Expr, all, any, negate, imp, eq, le, more, num, old, new, add, sub, mul, choose, preds, operands, Word, words, wordsAll, wordsOf, nodeCount, Named, nothing, theOld, theNew, named, isOutside, isNew, namesOutside, namesNew, depth, Range, range, interval, stays, allStay, allStayAll, allStayIn}
 use Rattle.model.specs.Composition.{Tree, par, syn, leaf, leaves, nodes, treeSize}
 use Rattle.model.specs.Model.{Model, Location, Edge, Automaton, automaton, edgeTotal, inSet}
-use Rattle.model.specs.Limits.{inRange, isTooDeep, rises, treeRises, listsFilled, limits}
+use Rattle.model.specs.Limits.{inRange, isTooDeep, rises, treeRises, listsFilled, limits, broken}
 use Rattle.model.specs.Lawful.{locationNodes, automatonNodes, nodeTotal, LawfulRange, LawfulPred, LawfulLocation, LawfulEdge, LawfulAutomaton, Lawful}
 use Rattle.model.specs.Rules.{Taker}
 use Rattle.model.specs.Moves.{under, alone, moves}
-use Rattle.model.specs.Linear.{pointerRange, pointer, atLocations, atAutomata, mergedInit, mergedInv, pointerMoves, mergedEdge, mergedEdges, mergedCount, linear, mergedPreds, row31, row32, row33, row34, mergeFault}
+use Rattle.model.specs.Linear.{pointerRange, pointer, atLocations, atAutomata, mergedInit, mergedInv, pointerMoves, mergedEdge, edgesWithRepeats, mergedEdges, sheetWith, predsWith, linear, mergedPreds, row31, row32, row33, row34, mergeFault}
+use Rattle.model.specs.Repeats.{linearWithRepeats, predsWithRepeats, row32WithRepeats, row33WithRepeats, row34WithRepeats, faultWithRepeats}
+use Rattle.model.specs.Equal.{sameEdge}
 use Rattle.model.proofs.Tests.{and-intro, and-left, and-right, and-same, or-none, or-none-left, below-of, of-lt, le-of, exists-intro, exists-append, every-append}
 use Rattle.model.proofs.Lists.{none-left, none-right, none-narrower, all-at, keep-first, keep-skip}
+use Rattle.model.proofs.Once.{once-out}
 use Rattle.model.proofs.LimitsLaws.{Members, members, no-members, lawful-is}
 use Rattle.model.proofs.Bits.{rises-cons}
 use Rattle.model.proofs.Decode.{unbroken}
 use Rattle.model.proofs.Numbered.{size, numbered, size-is, leaves-in}
+use Rattle.model.proofs.Pointers.{pointers-length}
 use Rattle.model.proofs.Takers.{Sides, both, left-one, right-one, sides-out, of-takers}
 use Rattle.model.proofs.Merged.{automaton-at}
 use Rattle.model.proofs.Alike.{merged-size}
-use Rattle.model.proofs.Count.{count-is}
+use Rattle.model.proofs.Count.{repeats-counted}
+use Rattle.model.proofs.Distinct.{count-is}
 
 -- what holds of every item, of two lists joined and of a map
 members-append : {A : Type 0} (P : A → Type 0) (k l : List A) → Members P k → Members P l → Members P (k ++ l)
@@ -261,11 +267,6 @@ module _ (m : Model) (part : Location → Pred) where
       let ih = automata-length (suc i) xs (λ y k. h y (List·Memᴰ·tail k)) in
       omega (arith, length-append (atLocations m part i 0 (x .locations)) (atAutomata m part (suc i) xs), locations-length i 0 (x .locations))
 
-pub pointers-length : (m : Model) (x : List Taker) → length (pointerMoves m x) ≡ 2 * length x
-unfolding pointerMoves
-pointers-length m [] = refl
-pointers-length m (y ∷ x) = let ih = pointers-length m x in omega arith
-
 module _ (m : Model) (lawful : Lawful m) (few : length (m .variables) + length (m .automata) ≤ maxVariables) where
   -- the merged automaton's ranges: the model's, then the pointers'
   abbrev merged : List Range
@@ -373,44 +374,46 @@ module _ (m : Model) (lawful : Lawful m) (few : length (m .variables) + length (
       (members-map Allowed (mergedEdge m a) (moves m a (m .tree)) (edge-allowed a (h a (List·Memᴰ·head refl))))
       (edges-allowed l (λ b i. h b (List·Memᴰ·tail i)))
 
--- rows 31 to 34, where none of them refuses
-record Unrefused (m : Model) : Type 0 where
+-- what rows 31 to 34 ask of the merged sheet with these edges, where none of them refuses
+record Unrefused (m : Model) (edges : List Edge) : Type 0 where
   few-variables : length (m .variables) + length (m .automata) ≤ maxVariables
-  few-edges : mergedCount m ≤ maxEdges
-  shallow : Members (λ p. depth p ≤ maxDepth) (mergedPreds m)
-  few-nodes : sum (map nodeCount (mergedPreds m)) ≤ maxNodes
+  few-edges : length edges ≤ maxEdges
+  shallow : Members (λ p. depth p ≤ maxDepth) (predsWith m edges)
+  few-nodes : sum (map nodeCount (predsWith m edges)) ≤ maxNodes
 
-unrefused-is : (m : Model) → mergeFault m ≡ none → Unrefused m
-unfolding mergeFault row31 row32 row33 row34 isTooDeep
-unrefused-is m h =
+-- the rows, as what they ask
+rows-ask : (m : Model) (edges : List Edge)
+    → broken 31 (row31 m) (broken 32 (ltb maxEdges (length edges)) (broken 33 (exists isTooDeep (predsWith m edges)) (broken 34 (ltb maxNodes (sum (map nodeCount (predsWith m edges)))) none))) ≡ none
+    → Unrefused m edges
+unfolding row31 isTooDeep
+rows-ask m edges h =
     let r31 = unbroken 31 (row31 m) _ h in
-    let r32 = unbroken 32 (row32 m) _ (r31 .1) in
-    let r33 = unbroken 33 (row33 m) _ (r32 .1) in
-    let r34 = unbroken 34 (row34 m) _ (r33 .1) in
+    let r32 = unbroken 32 (ltb maxEdges (length edges)) _ (r31 .1) in
+    let r33 = unbroken 33 (exists isTooDeep (predsWith m edges)) _ (r32 .1) in
+    let r34 = unbroken 34 (ltb maxNodes (sum (map nodeCount (predsWith m edges)))) _ (r33 .1) in
     record {
       few-variables = le-of maxVariables _ (r31 .0);
       few-edges = le-of maxEdges _ (r32 .0);
-      shallow = λ p i. le-of maxDepth (depth p) (none-of isTooDeep (mergedPreds m) (r33 .0) p i);
+      shallow = λ p i. le-of maxDepth (depth p) (none-of isTooDeep (predsWith m edges) (r33 .0) p i);
       few-nodes = le-of maxNodes _ (r34 .0);
     }
 
--- the merged automaton is lawful
-pub linear-lawful : (m : Model) → Lawful m → mergeFault m ≡ none → Lawful (linear m)
-unfolding linear mergedInit mergedInv mergedEdges mergedPreds edgeTotal nodeTotal automatonNodes locationNodes sum treeRises listsFilled leaves countUp treeSize nodes
-linear-lawful m lawful unrefused =
-    let u = unrefused-is m unrefused in
-    let vs = linear m .variables in
+-- the merged sheet with some of the merged edges is lawful
+sheet-lawful : (m : Model) → Lawful m → (es : List Edge) → ((e : Edge) → List·Memᴰ e es → List·Memᴰ e (edgesWithRepeats m)) → Unrefused m es → Lawful (sheetWith m es)
+unfolding mergedInit mergedInv edgesWithRepeats edgeTotal nodeTotal automatonNodes locationNodes sum treeRises listsFilled leaves countUp treeSize nodes
+sheet-lawful m lawful es listed u =
+    let vs = m .variables ++ map pointerRange (m .automata) in
     let init = part-lawful m lawful (u .few-variables) (λ l. l .init) (λ l h. (h .init, h .init-old)) (u .shallow (mergedInit m) (List·Memᴰ·head refl)) in
     let inv = part-lawful m lawful (u .few-variables) (λ l. l .inv) (λ l h. (h .inv, h .inv-old)) (u .shallow (mergedInv m) (List·Memᴰ·tail (List·Memᴰ·head refl))) in
     let location : Location = record { init = mergedInit m; inv = mergedInv m } in
-    let merged-automaton : Automaton = record { sync = keep (λ a. inSet m a (m .tree)) (countUp 1 (m .actions)); locations = location ∷ []; edges = mergedEdges m } in
+    let merged-automaton : Automaton = record { sync = keep (λ a. inSet m a (m .tree)) (countUp 1 (m .actions)); locations = location ∷ []; edges = es } in
     let allowed = edges-allowed m lawful (u .few-variables) (countUp 0 (suc (m .actions))) (λ a i. let l = counted 0 (suc (m .actions)) a i in omega arith) in
     let lawful-automaton : LawfulAutomaton vs (m .actions) merged-automaton = record {
       sync = keep-rises (λ a. inSet m a (m .tree)) (m .actions) 0 1 (m .actions) (omega arith) (omega arith);
       some-location = omega arith;
       few-locations = omega arith;
       locations = members (LawfulLocation vs) location [] (record { init = init .0; init-old = init .1; inv = inv .0; inv-old = inv .1 }) (no-members (LawfulLocation vs));
-      edges = λ e i. allowed e i (u .shallow (e .update) (List·Memᴰ·tail (List·Memᴰ·tail (Memᴰ·map (λ (d : Edge). d .update) i))));
+      edges = λ e i. allowed e (listed e i) (u .shallow (e .update) (List·Memᴰ·tail (List·Memᴰ·tail (Memᴰ·map (λ (d : Edge). d .update) i))));
     } in
     record {
       format-from = lawful .format-from;
@@ -421,10 +424,20 @@ linear-lawful m lawful unrefused =
       some-automaton = omega arith;
       few-automata = omega arith;
       automata = members (LawfulAutomaton vs (m .actions)) merged-automaton [] lawful-automaton (no-members (LawfulAutomaton vs (m .actions)));
-      few-edges = omega (arith, count-is m, u .few-edges);
-      few-nodes = let e = ap sum (map-map nodeCount (λ (d : Edge). d .update) (mergedEdges m)) in omega (arith, u .few-nodes);
+      few-edges = omega (arith, u .few-edges);
+      few-nodes = let e = ap sum (map-map nodeCount (λ (d : Edge). d .update) es) in omega (arith, u .few-nodes);
       tree = record { lists = refl; filled = refl; in-order = refl; size = omega arith };
     }
+
+-- so the merged automaton is, with equal edges once
+pub linear-lawful : (m : Model) → Lawful m → mergeFault m ≡ none → Lawful (linear m)
+unfolding linear mergeFault row32 row33 row34 mergedPreds mergedEdges
+linear-lawful m lawful h = sheet-lawful m lawful (mergedEdges m) (λ e i. once-out sameEdge (edgesWithRepeats m) i) (rows-ask m (mergedEdges m) (rw (count-is m lawful) h))
+
+-- and with repeats
+pub repeats-lawful : (m : Model) → Lawful m → faultWithRepeats m ≡ none → Lawful (linearWithRepeats m)
+unfolding linearWithRepeats faultWithRepeats row32WithRepeats row33WithRepeats row34WithRepeats predsWithRepeats
+repeats-lawful m lawful h = sheet-lawful m lawful (edgesWithRepeats m) (λ e i. i) (rows-ask m (edgesWithRepeats m) (rw (repeats-counted m) h))
 
 -- so the limits that hold of a model hold of its merged automaton
 pub linear-limited : (m : Model) → limits m ≡ true → mergeFault m ≡ none → limits (linear m) ≡ true

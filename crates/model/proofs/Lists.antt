@@ -1,6 +1,6 @@
 -- Laws of the list functions of specs/Basic, and of `map` beside them.
 use mathlib.Core.Path.{_≡_, refl, sym, ap, ap₂, _∙_}
-use mathlib.Core.Bool.{Bool, true, false, _&&_, _||_, true≢false, and-false}
+use mathlib.Core.Bool.{Bool, true, false, _&&_, _||_, true≢false, and-false, and-comm}
 use mathlib.Core.List.{List, [], _∷_, _++_, map, List·Memᴰ, List·Memᴰ·head, List·Memᴰ·tail, List·Memᴰ·cases-cons, List·Memᴰ·not-nil, flatMap, append-assoc}
 use mathlib.Core.Logic.{_≢_, _⊎_, inl, inr}
 use Prim.Native.Nat.{ℕ, zero, suc, _+_, _≤_, _<_}
@@ -113,20 +113,86 @@ every-map f g [] = refl
 every-map f g (x ∷ l) = rw (every-map f g l)
 
 -- what is kept, by the first item's test
-pub keep-first : (f : ℕ → Bool) (x : ℕ) (xs : List ℕ) → f x ≡ true → keep f (x ∷ xs) ≡ x ∷ keep f xs
-unfolding keep
-keep-first f x xs e = rw (e, keep)
+module _ {A : Type 0} where
+  pub keep-first : (f : A → Bool) (x : A) (xs : List A) → f x ≡ true → keep f (x ∷ xs) ≡ x ∷ keep f xs
+  unfolding keep
+  keep-first f x xs e = rw (e, keep)
 
-pub keep-skip : (f : ℕ → Bool) (x : ℕ) (xs : List ℕ) → f x ≡ false → keep f (x ∷ xs) ≡ keep f xs
-unfolding keep
-keep-skip f x xs e = rw (e, keep)
+  pub keep-skip : (f : A → Bool) (x : A) (xs : List A) → f x ≡ false → keep f (x ∷ xs) ≡ keep f xs
+  unfolding keep
+  keep-skip f x xs e = rw (e, keep)
 
-pub keep-same : (f g : ℕ → Bool) (x : ℕ) (xs : List ℕ) → f x ≡ g x → keep f xs ≡ keep g xs → keep f (x ∷ xs) ≡ keep g (x ∷ xs)
-keep-same f g x xs e r = go (g x) refl
+  pub keep-same : (f g : A → Bool) (x : A) (xs : List A) → f x ≡ g x → keep f xs ≡ keep g xs → keep f (x ∷ xs) ≡ keep g (x ∷ xs)
+  keep-same f g x xs e r = go (g x) refl
+    where
+      go : (b : Bool) → g x ≡ b → keep f (x ∷ xs) ≡ keep g (x ∷ xs)
+      go true h = keep-first f x xs (e ∙ h) ∙ ap (λ l. x ∷ l) r ∙ sym (keep-first g x xs h)
+      go false h = keep-skip f x xs (e ∙ h) ∙ r ∙ sym (keep-skip g x xs h)
+
+  -- two tests that agree on a list keep the same of it
+  pub keep-ext : (f g : A → Bool) (l : List A) → ((x : A) → List·Memᴰ x l → f x ≡ g x) → keep f l ≡ keep g l
+  keep-ext f g [] h = unfold keep in refl
+  keep-ext f g (x ∷ l) h = keep-same f g x l (h x (List·Memᴰ·head refl)) (keep-ext f g l (λ y i. h y (List·Memᴰ·tail i)))
+
+  -- f holds of every item, so all of the list is kept
+  pub keep-whole : (f : A → Bool) (l : List A) → ((x : A) → List·Memᴰ x l → f x ≡ true) → keep f l ≡ l
+  keep-whole f [] h = unfold keep in refl
+  keep-whole f (x ∷ l) h = keep-first f x l (h x (List·Memᴰ·head refl)) ∙ ap (λ (r : List A). x ∷ r) (keep-whole f l (λ y i. h y (List·Memᴰ·tail i)))
+
+  -- it holds of none, so nothing is kept
+  pub keep-empty : (f : A → Bool) (l : List A) → ((x : A) → List·Memᴰ x l → f x ≡ false) → keep f l ≡ []
+  keep-empty f [] h = unfold keep in refl
+  keep-empty f (x ∷ l) h = keep-skip f x l (h x (List·Memᴰ·head refl)) ∙ keep-empty f l (λ y i. h y (List·Memᴰ·tail i))
+
+  -- what two tests keep, one after the other, both keep
+  pub keep-keep : (f g : A → Bool) (l : List A) → keep g (keep f l) ≡ keep (λ x. f x && g x) l
+  keep-keep f g [] = unfold keep in refl
+  keep-keep f g (x ∷ l) = go (f x) refl (g x) refl (keep-keep f g l)
+    where
+      go : (b : Bool) → f x ≡ b → (c : Bool) → g x ≡ c → keep g (keep f l) ≡ keep (λ y. f y && g y) l → keep g (keep f (x ∷ l)) ≡ keep (λ y. f y && g y) (x ∷ l)
+      go true p true q ih = rw (keep-first f x l p, keep-first g x (keep f l) q, keep-first (λ (y : A). f y && g y) x l (rw (p, q)), ih)
+      go true p false q ih = rw (keep-first f x l p, keep-skip g x (keep f l) q, keep-skip (λ (y : A). f y && g y) x l (rw (p, q)), ih)
+      go false p c q ih = rw (keep-skip f x l p, keep-skip (λ (y : A). f y && g y) x l (rw p), ih)
+
+  -- so their order plays no part
+  pub keep-swap : (f g : A → Bool) (l : List A) → keep g (keep f l) ≡ keep f (keep g l)
+  keep-swap f g l = keep-keep f g l ∙ keep-ext _ _ l (λ x i. and-comm (f x) (g x)) ∙ sym (keep-keep g f l)
+
+  -- what is kept of a list is no more than the list, and all of it if it is as long
+  pub keep-length : (f : A → Bool) (l : List A) → length (keep f l) ≤ length l
+  keep-length f [] = unfold keep in omega arith
+  keep-length f (x ∷ l) = go (f x) refl (keep-length f l)
+    where
+      go : (b : Bool) → f x ≡ b → length (keep f l) ≤ length l → length (keep f (x ∷ l)) ≤ suc (length l)
+      go true p ih = rw (keep-first f x l p) (omega arith)
+      go false p ih = rw (keep-skip f x l p) (omega arith)
+
+  pub keep-long : (f : A → Bool) (l : List A) → length (keep f l) ≡ length l → keep f l ≡ l
+  keep-long f [] h = unfold keep in refl
+  keep-long f (x ∷ l) h = go (f x) refl (λ e. keep-long f l e)
+    where
+      go : (b : Bool) → f x ≡ b → (length (keep f l) ≡ length l → keep f l ≡ l) → keep f (x ∷ l) ≡ x ∷ l
+      go true p ih = keep-first f x l p ∙ ap (λ (k : List A). x ∷ k) (ih (omega (arith, ap (length {A = A}) (keep-first f x l p))))
+      go false p ih = absurd (omega (arith, keep-length f l, ap (length {A = A}) (keep-skip f x l p)))
+
+  -- nor is it more in sum
+  pub keep-sum : (f : A → Bool) (g : A → ℕ) (l : List A) → sum (map g (keep f l)) ≤ sum (map g l)
+  unfolding sum
+  keep-sum f g [] = unfold keep in omega arith
+  keep-sum f g (x ∷ l) = go (f x) refl (keep-sum f g l)
+    where
+      go : (b : Bool) → f x ≡ b → sum (map g (keep f l)) ≤ sum (map g l) → sum (map g (keep f (x ∷ l))) ≤ g x + sum (map g l)
+      go true p ih = rw (keep-first f x l p) (omega arith)
+      go false p ih = rw (keep-skip f x l p) (omega arith)
+
+-- what is kept of a map is the map of what is kept
+pub keep-map : {A B : Type 0} (f : B → Bool) (g : A → B) (l : List A) → keep f (map g l) ≡ map g (keep (λ x. f (g x)) l)
+keep-map f g [] = unfold keep in refl
+keep-map {A} {B} f g (x ∷ l) = go (f (g x)) refl (keep-map f g l)
   where
-    go : (b : Bool) → g x ≡ b → keep f (x ∷ xs) ≡ keep g (x ∷ xs)
-    go true h = keep-first f x xs (e ∙ h) ∙ ap (λ l. x ∷ l) r ∙ sym (keep-first g x xs h)
-    go false h = keep-skip f x xs (e ∙ h) ∙ r ∙ sym (keep-skip g x xs h)
+    go : (b : Bool) → f (g x) ≡ b → keep f (map g l) ≡ map g (keep (λ y. f (g y)) l) → keep f (g x ∷ map g l) ≡ map g (keep (λ y. f (g y)) (x ∷ l))
+    go true p ih = rw (keep-first f (g x) (map g l) p, keep-first (λ (y : A). f (g y)) x l p, ih)
+    go false p ih = rw (keep-skip f (g x) (map g l) p, keep-skip (λ (y : A). f (g y)) x l p, ih)
 
 -- `same` is equality
 same-cons : (a b : ℕ) (s t : List ℕ) (c : Bool) → eqb a b ≡ c → same (a ∷ s) (b ∷ t) ≡ (c && same s t)

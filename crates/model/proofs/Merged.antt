@@ -9,7 +9,7 @@ use native.Mathlib.Nat.{zero-add}
 use lib.IntN.{ℤ, pos}
 use lib.ListN.{length, getD, length-append, length-map, List·getD-append}
 use lib.Dec.{eqb, leb, ltb}
-use Rattle.model.specs.Basic.{eqZ, each, every, exists, keep, member, countUp}
+use Rattle.model.specs.Basic.{eqZ, each, every, exists, keep, once, member, countUp}
 use Rattle.model.specs.Predicate.{Pred, all, preds, holds, words, named, isOutside, namesOutside, mentions}
 use Rattle.model.specs.Composition.{Tree, par, syn, leaf, leaves}
 use Rattle.model.specs.Model.{Model, Location, Edge, Automaton, automaton, location, nobody, nowhere, inSet}
@@ -17,11 +17,14 @@ use Rattle.model.specs.Limits.{rises, treeRises}
 use Rattle.model.specs.Lawful.{Lawful, LawfulAutomaton}
 use Rattle.model.specs.Rules.{State, at, val, holdsIn, Taker, mentioned, Step, Environment, changed}
 use Rattle.model.specs.Moves.{under, alone, moves}
-use Rattle.model.specs.Linear.{pointer, pointerRange, atAutomata, pointerMoves, mergedInit, mergedInv, mergedEdge, mergedEdges, linear}
+use Rattle.model.specs.Linear.{pointer, pointerRange, atAutomata, pointerMoves, mergedInit, mergedInv, mergedEdge, edgesWithRepeats, mergedEdges, linear}
+use Rattle.model.specs.Equal.{sameEdge}
 use Rattle.model.specs.Judge.{hasValues, row21, row22, inits, invs, settled, isTaker, updated, led, kept, framed, fits, stepHolds}
 use Rattle.model.specs.Runs.{beside}
 use Rattle.model.proofs.Tests.{not-false, each-elim, and-left, and-right, and-same, or-none, eq-of, of-eq, not-eq, eq-self, lt-of, each-ext, each-add, exists-append, exists-map, exists-ext, every-append, every-ext}
 use Rattle.model.proofs.Lists.{keep-append, keep-all, keep-none, all-at, every-map, member-keep, member-count}
+use Rattle.model.proofs.Once.{exists-once, keep-once}
+use Rattle.model.proofs.EqualLaws.{same-edge-is}
 use Rattle.model.proofs.Numbered.{leaves-all}
 use Rattle.model.proofs.Takers.{of-takers}
 use Rattle.model.proofs.ByRules.{holds-step, step-holds, settled-environment, environment-settled}
@@ -179,10 +182,15 @@ module _ (m : Model) where
     unfolding fits
     fits-same = rw (merged-updated, merged-led, merged-kept, merged-framed) (shuffle (every (updated s t) x) (every (led s t) x) (framed m s t x) (kept m s t x))
 
-  -- the moves of the merged automaton are its merged edges, one by one
-  moves-same : (a : ℕ) → a ≤ m .actions → moves (linear m) a (linear m .tree) ≡ map (alone 0) (map (mergedEdge m a) (moves m a (m .tree)))
-  unfolding linear moves mergedEdges
-  moves-same a l = ap (map (alone 0)) (under-merged m a 0 (suc (m .actions)) (omega arith) (omega arith))
+  -- the merged edges under an action, with repeats, are those of its moves, one by one
+  moves-same : (a : ℕ) → a ≤ m .actions → under a (edgesWithRepeats m) ≡ map (mergedEdge m a) (moves m a (m .tree))
+  unfolding edgesWithRepeats
+  moves-same a l = under-merged m a 0 (suc (m .actions)) (omega arith) (omega arith)
+
+  -- the moves of the merged automaton are the same, each once
+  moves-once : (a : ℕ) → a ≤ m .actions → moves (linear m) a (linear m .tree) ≡ map (alone 0) (once sameEdge (map (mergedEdge m a) (moves m a (m .tree))))
+  unfolding linear moves mergedEdges under
+  moves-once a l = ap (map (alone 0)) (keep-once sameEdge same-edge-is (λ e. eqb (e .action) a) (edgesWithRepeats m) ∙ ap (once sameEdge) (moves-same a l))
 
 module _ (m : Model) (lawful : Lawful m) where
   -- what a lawful automaton meets, and one that says nothing, every automaton meets
@@ -223,8 +231,9 @@ module _ (m : Model) (lawful : Lawful m) where
   unfolding stepHolds
   step-same s t g h a l =
       and-same (settled-same s t g h) (
-      ap (exists (fits (linear m) (beside s) (beside t))) (moves-same m a l)
+      ap (exists (fits (linear m) (beside s) (beside t))) (moves-once m a l)
       ∙ exists-map _ (alone 0) _
+      ∙ exists-once sameEdge same-edge-is _ _
       ∙ exists-map _ (mergedEdge m a) _
       ∙ exists-ext _ (fits m s t) _ (λ x e. fits-same m s t g h a x (of-takers m a (λ y. Named m (y .edge .update)) (m .tree) (leaves-all updates-named (m .tree)) e)))
 

@@ -2,7 +2,7 @@
 use mathlib.Core.Path.{_≡_, refl, sym, ap, _∙_}
 use mathlib.Core.Bool.{Bool, true, false, not, true≢false, or-false, and-true, and-assoc}
 use mathlib.Core.List.{List, [], _∷_, _++_, map, List·Memᴰ, List·Memᴰ·head, List·Memᴰ·tail}
-use Prim.Native.Nat.{ℕ, zero, suc, _+_, _≤_, _<_}
+use Prim.Native.Nat.{ℕ, zero, suc, _+_, _*_, _≤_, _<_}
 use native.Mathlib.Omega.{arith}
 use native.Mathlib.Nat.{zero-add, add-zero, add-suc, suc-add}
 use lib.IntN.{ℤ, pos}
@@ -159,3 +159,9 @@ pub pointer-value : (m : Model) (values : List ℤ) (locations : List ℕ) → l
     → getD (values ++ map pos locations) (pointer m k) (pos 0) ≡ pos (getD locations k 0)
 unfolding pointer
 pointer-value m values locations l k = rw (← l) (getD-append-add values (map pos locations) k (pos 0) ∙ List·getD-map pos locations k 0)
+
+-- two predicates for each taker
+pub pointers-length : (m : Model) (x : List Taker) → length (pointerMoves m x) ≡ 2 * length x
+unfolding pointerMoves
+pointers-length m [] = refl
+pointers-length m (y ∷ x) = let ih = pointers-length m x in omega arith

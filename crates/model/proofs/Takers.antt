@@ -4,6 +4,8 @@ use mathlib.Core.Bool.{Bool, true, false}
 use mathlib.Core.List.{List, [], _∷_, _++_, map, List·Memᴰ, List·Memᴰ·head, List·Memᴰ·tail, List·Memᴰ·not-nil, List·Memᴰ·eq-of-singleton, List·Memᴰ·append-cases, Memᴰ·append-left, Memᴰ·append-right, Memᴰ·cast, Memᴰ·map, Memᴰ·of-map}
 use mathlib.Core.Logic.{_⊎_, inl, inr}
 use Prim.Native.Nat.{ℕ, _+_, _≤_, _<_}
+use native.Mathlib.Omega.{arith}
+use lib.ListN.{length, length-append}
 use lib.Dec.{eqb}
 use Rattle.model.specs.Composition.{Tree, par, syn, leaf}
 use Rattle.model.specs.Model.{Model, Edge, automaton, inSet}
@@ -12,7 +14,7 @@ use Rattle.model.specs.Moves.{under, pairs, sides, alone, moves}
 use Rattle.model.specs.Judge.{isTaker}
 use Rattle.model.proofs.Tests.{eq-of, of-eq, exists-elim}
 use Rattle.model.proofs.Lists.{keep-in, keep-out}
-use Rattle.model.proofs.Numbered.{size, Numbered, Leaves, leaves-in}
+use Rattle.model.proofs.Numbered.{size, Numbered, Leaves, leaves-map, leaves-in}
 
 -- the edges under an action
 pub under-in : (a : ℕ) {e : Edge} {es : List Edge} → List·Memᴰ e es → e .action ≡ a → List·Memᴰ e (under a es)
@@ -78,11 +80,11 @@ sides-right true xs h = h
 sides-right false xs h = Memᴰ·append-right xs h
 
 -- what holds of every edge under the action of a composition's automata holds of the takers of its moves
-pub of-takers : (m : Model) (a : ℕ) (P : Taker → Type 0) (c : Tree) → Leaves (λ k. (e : Edge) → List·Memᴰ e (automaton m k .edges) → P (record { automaton = k; edge = e })) c
+pub takers-under : (m : Model) (a : ℕ) (P : Taker → Type 0) (c : Tree) → Leaves (λ k. (e : Edge) → List·Memᴰ e (automaton m k .edges) → e .action ≡ a → P (record { automaton = k; edge = e })) c
     → {x : List Taker} → List·Memᴰ x (moves m a c) → (y : Taker) → List·Memᴰ y x → P y
 unfolding Leaves moves
-of-takers m a P (par c d) h {x} g y p =
-    go (λ z q. of-takers m a P c (h .0) {x = z} q y) (λ z q. of-takers m a P d (h .1) {x = z} q y) (sides-out (inSet m a c) (inSet m a d) (moves m a c) (moves m a d) g)
+takers-under m a P (par c d) h {x} g y p =
+    go (λ z q. takers-under m a P c (h .0) {x = z} q y) (λ z q. takers-under m a P d (h .1) {x = z} q y) (sides-out (inSet m a c) (inSet m a d) (moves m a c) (moves m a d) g)
   where
     go :
         ((z : List Taker) → List·Memᴰ z (moves m a c) → List·Memᴰ y z → P y)
@@ -96,11 +98,30 @@ of-takers m a P (par c d) h {x} g y p =
         pick (inr q) = f' (r .right) (r .in-right) q
     go f f' (left-one e r) = f x r p
     go f f' (right-one b r) = f' x r p
-of-takers m a P (syn list c) h g y p = of-takers m a P c h g y p
-of-takers m a P (leaf k) h g y p =
+takers-under m a P (syn list c) h g y p = takers-under m a P c h g y p
+takers-under m a P (leaf k) h g y p =
     let r = Memᴰ·of-map (alone k) (under a (automaton m k .edges)) g in
     let e : y ≡ record { automaton = k; edge = r .0 } = List·Memᴰ·eq-of-singleton (subst (λ (z : List Taker). List·Memᴰ y z) (sym (r .2)) p) in
-    subst P (sym e) (h (r .0) (under-out a (automaton m k .edges) (r .1) .0))
+    let u = under-out a (automaton m k .edges) (r .1) in
+    subst P (sym e) (h (r .0) (u .0) (u .1))
+
+-- the same of what holds of every edge, under whatever action
+pub of-takers : (m : Model) (a : ℕ) (P : Taker → Type 0) (c : Tree) → Leaves (λ k. (e : Edge) → List·Memᴰ e (automaton m k .edges) → P (record { automaton = k; edge = e })) c
+    → {x : List Taker} → List·Memᴰ x (moves m a c) → (y : Taker) → List·Memᴰ y x → P y
+of-takers m a P c h = takers-under m a P c (leaves-map (λ k f e i q. f e i) c h)
+
+-- a move has a taker
+pub some-taker : (m : Model) (a : ℕ) (c : Tree) (x : List Taker) → List·Memᴰ x (moves m a c) → 1 ≤ length x
+unfolding moves
+some-taker m a (par c d) x h = go (λ y i. some-taker m a c y i) (λ y i. some-taker m a d y i) (sides-out (inSet m a c) (inSet m a d) (moves m a c) (moves m a d) h)
+  where
+    go : ((y : List Taker) → List·Memᴰ y (moves m a c) → 1 ≤ length y) → ((y : List Taker) → List·Memᴰ y (moves m a d) → 1 ≤ length y)
+        → Sides (inSet m a c) (inSet m a d) (moves m a c) (moves m a d) x → 1 ≤ length x
+    go f g (both b e r) = let p = f (r .left) (r .in-left) in omega (arith, ap (length {A = Taker}) (r .whole), length-append (r .left) (r .right))
+    go f g (left-one e r) = f x r
+    go f g (right-one b r) = g x r
+some-taker m a (syn list c) x h = some-taker m a c x h
+some-taker m a (leaf k) x h = let r = Memᴰ·of-map (alone k) (under a (automaton m k .edges)) h in omega (arith, ap (length {A = Taker}) (r .2))
 
 -- k is one of `count` numbers from i on
 pub record Within (i count k : ℕ) : Type 0 where
@@ -108,9 +129,11 @@ pub record Within (i count k : ℕ) : Type 0 where
   pub high : k < i + count
 
 -- takers are leaves
+pub takers-within : (m : Model) (a : ℕ) (c : Tree) (i : ℕ) → Numbered i c → {x : List Taker} → List·Memᴰ x (moves m a c) → (y : Taker) → List·Memᴰ y x → Within i (size c) (y .automaton)
+takers-within m a c i w h = of-takers m a (λ y. Within i (size c) (y .automaton)) c (leaves-in c i w (λ j l u e q. record { low = l; high = u })) h
+
 pub within : (m : Model) (a : ℕ) (c : Tree) (i : ℕ) → Numbered i c → {x : List Taker} → List·Memᴰ x (moves m a c) → (k : ℕ) → isTaker k x ≡ true → Within i (size c) k
 unfolding isTaker
 within m a c i w {x} h k p =
     let r = exists-elim (λ (y : Taker). eqb k (y .automaton)) x p in
-    subst (Within i (size c)) (sym (eq-of _ _ (r .2)))
-    (of-takers m a (λ y. Within i (size c) (y .automaton)) c (leaves-in c i w (λ j l u e q. record { low = l; high = u })) h (r .0) (r .1))
+    subst (Within i (size c)) (sym (eq-of _ _ (r .2))) (takers-within m a c i w h (r .0) (r .1))

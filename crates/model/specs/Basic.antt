@@ -1,6 +1,6 @@
 -- Tests and list functions that the definitions share. Nothing here is about sheets.
 use Prim.Native.Nat.{ℕ, zero, suc, _+_}
-use mathlib.Core.Bool.{Bool, true, false, _&&_, _||_}
+use mathlib.Core.Bool.{Bool, true, false, not, _&&_, _||_}
 use mathlib.Core.List.{List, [], _∷_, _++_}
 use mathlib.Core.Option.{Option, none, some}
 use lib.IntN.{ℤ, pos, negsuc}
@@ -37,6 +37,11 @@ module _ {A : Type 0} where
   unfoldable pub keep : (A → Bool) → List A → List A
   keep f [] = []
   keep f (x ∷ xs) = elim (f x) [ true ↦ x ∷ keep f xs | false ↦ keep f xs ]
+
+  -- each item once, at the first one's place; `equal` says of two items whether they are
+  unfoldable pub once : (equal : A → A → Bool) → List A → List A
+  once equal [] = []
+  once equal (x ∷ xs) = x ∷ keep (λ y. not (equal x y)) (once equal xs)
 
 unfoldable pub member : ℕ → List ℕ → Bool
 member a list = exists (eqb a) list

@@ -9,7 +9,9 @@ pub mod Limits
 pub mod Lawful
 pub mod Table
 pub mod Rules
+pub mod Equal
 pub mod Moves
 pub mod Judge
 pub mod Linear
+pub mod Repeats
 pub mod Runs

@@ -1,6 +1,5 @@
--- "The merged text": Definition 4 of source document 003, the linearization. The format departs from it twice: the
--- pointers' ranges say what its second conjunct of `init` says, and the edges are a list, in which an edge may stand
--- again.
+-- "The merged text": Definition 4 of source document 003, the linearization. The format departs from it once: the
+-- pointers' ranges say what its second conjunct of `init` says.
 use Prim.Native.Nat.{ℕ, suc, pred, _+_}
 use mathlib.Core.Bool.{Bool}
 use mathlib.Core.List.{List, [], _∷_, _++_, map, flatMap}
@@ -8,14 +7,15 @@ use mathlib.Core.Option.{Option, none}
 use lib.IntN.{ℤ, pos}
 use lib.ListN.{length}
 use lib.Dec.{ltb}
-use Rattle.model.specs.Basic.{exists, keep, sum, countUp}
+use Rattle.model.specs.Basic.{exists, keep, once, sum, countUp}
 use Rattle.model.specs.Bounds.{maxVariables, maxEdges, maxNodes}
 use Rattle.model.specs.Predicate.{Pred, all, imp, eq, num, old, new, preds, Range, range, nodeCount}
 use Rattle.model.specs.Composition.{leaf}
 use Rattle.model.specs.Model.{Model, Location, Edge, Automaton, inSet}
 use Rattle.model.specs.Limits.{isTooDeep, broken}
 use Rattle.model.specs.Rules.{Taker}
-use Rattle.model.specs.Moves.{moves, moveCount}
+use Rattle.model.specs.Equal.{sameEdge}
+use Rattle.model.specs.Moves.{moves, distinctCount}
 
 -- a pointer's values are its automaton's locations
 unfoldable pub pointerRange : Automaton → Range
@@ -58,15 +58,22 @@ module _ (m : Model) where
         update = all (preds (map (λ x. x .edge .update) takers ++ pointerMoves takers));
       }
 
-  -- the silent action's edges first, those of action A last
+  -- an edge for each choice of takers, the silent action's first, those of action A last; where an automaton has an
+  -- edge twice, they come twice
+  unfoldable pub edgesWithRepeats : List Edge
+  edgesWithRepeats = flatMap (λ a. map (mergedEdge a) (moves m a (m .tree))) (countUp 0 (suc (m .actions)))
+
+  -- E is a set: equal edges stand once, at the first one's place
   unfoldable pub mergedEdges : List Edge
-  mergedEdges = flatMap (λ a. map (mergedEdge a) (moves m a (m .tree))) (countUp 0 (suc (m .actions)))
+  mergedEdges = once sameEdge edgesWithRepeats
 
+  -- how many they are, without listing them: the law count-is
   unfoldable pub mergedCount : ℕ
-  mergedCount = sum (map (λ a. moveCount m a (m .tree)) (countUp 0 (suc (m .actions))))
+  mergedCount = sum (map (λ a. distinctCount m a (m .tree)) (countUp 0 (suc (m .actions))))
 
-  unfoldable pub linear : Model
-  linear =
+  -- the merged sheet, and its predicates, with these edges
+  abbrev pub sheetWith : List Edge → Model
+  sheetWith edges =
       record {
         format = m .format;
         actions = m .actions;
@@ -74,14 +81,20 @@ module _ (m : Model) where
         automata = record {
           sync = keep (λ a. inSet m a (m .tree)) (countUp 1 (m .actions));
           locations = record { init = mergedInit; inv = mergedInv } ∷ [];
-          edges = mergedEdges;
+          edges = edges;
         } ∷ [];
         tree = leaf 0;
       }
 
+  abbrev pub predsWith : List Edge → List Pred
+  predsWith edges = mergedInit ∷ mergedInv ∷ map (λ e. e .update) edges
+
+  unfoldable pub linear : Model
+  linear = sheetWith mergedEdges
+
   -- Rows 31 to 34: when there is no merged text.
   unfoldable pub mergedPreds : List Pred
-  mergedPreds = mergedInit ∷ mergedInv ∷ map (λ e. e .update) mergedEdges
+  mergedPreds = predsWith mergedEdges
 
   -- too many variables
   unfoldable pub row31 : Bool

@@ -5,9 +5,10 @@ use mathlib.Core.Bool.{Bool, true, false}
 use mathlib.Core.List.{List, [], _∷_, _++_, map}
 use lib.ListN.{length}
 use lib.Dec.{eqb}
-use Rattle.model.specs.Basic.{keep}
+use Rattle.model.specs.Basic.{keep, once}
 use Rattle.model.specs.Composition.{Tree, par, syn, leaf}
 use Rattle.model.specs.Model.{Model, Edge, automaton, inSet}
+use Rattle.model.specs.Equal.{sameEdge}
 use Rattle.model.specs.Rules.{Taker}
 
 -- the first of the left with each of the right, then the second of the left with each of the right, and so on
@@ -46,3 +47,9 @@ unfoldable pub moveCount : Model → ℕ → Tree → ℕ
 moveCount m a (par c d) = sidesCount (inSet m a c) (inSet m a d) (moveCount m a c) (moveCount m a d)
 moveCount m a (syn list c) = moveCount m a c
 moveCount m a (leaf k) = length (under a (automaton m k .edges))
+
+-- how many different ones: two are equal exactly if the same automata take equal edges
+unfoldable pub distinctCount : Model → ℕ → Tree → ℕ
+distinctCount m a (par c d) = sidesCount (inSet m a c) (inSet m a d) (distinctCount m a c) (distinctCount m a d)
+distinctCount m a (syn list c) = distinctCount m a c
+distinctCount m a (leaf k) = length (once sameEdge (under a (automaton m k .edges)))

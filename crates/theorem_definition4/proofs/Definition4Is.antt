@@ -1,7 +1,7 @@
 -- Definition 4: the merged automaton of a lawful model is its linearization, and the merger gives its text or the first row that
 -- refuses.
 use mathlib.Core.Path.{_≡_, refl, sym, ap, ap₂, _∙_, subst}
-use mathlib.Core.Bool.{Bool, true, false, _&&_, true≢false}
+use mathlib.Core.Bool.{Bool, true, false, not, _&&_, true≢false}
 use mathlib.Core.List.{List, [], _∷_, _++_, map, flatMap, List·Memᴰ, List·Memᴰ·head, List·Memᴰ·tail, List·Memᴰ·not-nil, List·Memᴰ·append-cases, Memᴰ·append-left, Memᴰ·append-right, Memᴰ·cast, Memᴰ·map, Memᴰ·of-map}
 use mathlib.Core.Option.{Option, none, some}
 use mathlib.Core.Logic.{_↔_, _⊎_, inl, inr, _≢_}
@@ -11,7 +11,7 @@ use borrow.Author.Tests.{leb-true, ltb-false, le-ltb}
 use lib.IntN.{pos}
 use lib.ListN.{length, length-map}
 use lib.Dec.{eqb, leb, ltb}
-use Rattle.model.specs.Basic.{keep, member, exists, lacks, countUp}
+use Rattle.model.specs.Basic.{keep, once, member, exists, lacks, countUp}
 use Rattle.model.specs.Bounds.{tableWords}
 use Rattle.model.specs.Predicate.{Pred, all, imp, eq, num, old, preds, range}
 use Rattle.model.specs.Composition.{Tree, par, syn, leaf}
@@ -20,7 +20,7 @@ use Rattle.model.specs.Limits.{rises, treeRises, broken, limits}
 use Rattle.model.specs.Lawful.{Lawful}
 use Rattle.model.specs.Table.{modelOf, row18, row19, unopened, opened, openTable}
 use Rattle.model.specs.Moves.{moves}
-use Rattle.model.specs.Linear.{pointerRange, pointer, atLocations, atAutomata, mergedInit, mergedInv, mergedEdge, mergedEdges, mergedCount, linear, row31, row32, row33, row34, mergeFault}
+use Rattle.model.specs.Linear.{pointerRange, pointer, atLocations, atAutomata, mergedInit, mergedInv, mergedEdge, edgesWithRepeats, mergedEdges, mergedCount, linear, row31, row32, row33, row34, mergeFault}
 use Rattle.model.proofs.Tests.{and-left, and-right, or-cases, lt-of, eq-of, eq-self, of-eq, exists-intro, exists-elim}
 use Rattle.model.proofs.Lists.{keep-in, keep-out}
 use Rattle.model.proofs.Bits.{rises-cons}
@@ -29,7 +29,10 @@ use Rattle.model.proofs.TableLaws.{model-given, opened-model}
 use Rattle.model.proofs.LimitsLaws.{lawful-is}
 use Rattle.model.proofs.Numbered.{Numbered, numbered, size-is}
 use Rattle.model.proofs.Merged.{automaton-at}
-use Rattle.model.proofs.Count.{count-is}
+use Rattle.model.specs.Equal.{sameEdge}
+use Rattle.model.proofs.Once.{once-out, once-in, once-first}
+use Rattle.model.proofs.EqualLaws.{same-edge-is}
+use Rattle.model.proofs.Distinct.{count-is}
 use Rattle.model.proofs.LinearLimits.{linear-limited, keep-rises}
 use Rattle.format.specs.Bytes.{Bytes}
 use Rattle.format.specs.Spelling.{textOf}
@@ -39,7 +42,7 @@ use Rattle.format.specs.Merger.{unmerged, merged, mergeModel, mergeAnswer}
 use Rattle.format.proofs.Given.{reader-exact}
 use Rattle.format.proofs.TextRuns.{no-merge}
 use Rattle.theorem_definition4.specs.Table3.{Position, Transition, rule-17, rule-18-left, rule-18-right, rule-19, rule-21}
-use Rattle.theorem_definition4.specs.Definition4.{pointerTo, choices, clauses, edgeFor, Fresh, IsLinearization, breaks, firstRow}
+use Rattle.theorem_definition4.specs.Definition4.{pointerTo, choices, clauses, edgeFor, Fresh, NoneTwice, none-twice, not-again, IsLinearization, breaks, firstRow}
 use Rattle.theorem_definition4.proofs.Positions.{positions, positions-length, edge-is}
 use Rattle.theorem_definition4.proofs.Table3Is.{wilds-to, setOf, syncs-to, syncs-are, labels-own, transitions-are, valuesOf, leads-are}
 
@@ -112,16 +115,19 @@ transition-bounded m lawful a (rule-21 t) = transition-bounded m lawful a t
 -- E: the merged edges are those of the transitions
 edges-are : (m : Model) → Lawful m → (e : Edge) → List·Memᴰ e (mergedEdges m)
     ↔ ((a : ℕ) × (vs : List Position) × (r : List Pred) × (vs' : List Position) × Transition m a (m .tree) vs r vs' × (e ≡ edgeFor (length (m .variables)) a vs r vs'))
-unfolding mergedEdges
-edges-are m lawful e = (there, back)
+unfolding mergedEdges edgesWithRepeats
+edges-are m lawful e = (λ h. there (once-out sameEdge all h), λ x. once-in sameEdge same-edge-is all (back x))
   where
     edgesOf : ℕ → List Edge
     edgesOf a = map (mergedEdge m a) (moves m a (m .tree))
 
+    all : List Edge
+    all = flatMap edgesOf (countUp 0 (suc (m .actions)))
+
     in-order : Numbered 0 (m .tree)
     in-order = numbered (m .tree) (length (m .automata)) (lawful .tree .in-order)
 
-    there : List·Memᴰ e (flatMap edgesOf (countUp 0 (suc (m .actions))))
+    there : List·Memᴰ e all
         → (a : ℕ) × (vs : List Position) × (r : List Pred) × (vs' : List Position) × Transition m a (m .tree) vs r vs' × (e ≡ edgeFor (length (m .variables)) a vs r vs')
     there h =
         let (a, i) = joined-out edgesOf (countUp 0 (suc (m .actions))) h in
@@ -130,12 +136,27 @@ edges-are m lawful e = (there, back)
         (a, _, _, _, transitions-are m a (m .tree) 0 in-order _ _ _ .1 (record { takers = takers; listed = listed; labels = labels }), sym (edge-is m a (m .tree) in-order listed labels ∙ same))
 
     back : (a : ℕ) × (vs : List Position) × (r : List Pred) × (vs' : List Position) × Transition m a (m .tree) vs r vs' × (e ≡ edgeFor (length (m .variables)) a vs r vs')
-        → List·Memᴰ e (flatMap edgesOf (countUp 0 (suc (m .actions))))
+        → List·Memᴰ e all
     back (a, vs, r, vs', t, q) =
         let l = transition-bounded m lawful a t in
         let x = transitions-are m a (m .tree) 0 in-order vs r vs' .0 t in
         joined-in edgesOf (counted-in a 0 (suc (m .actions)) (omega arith) (omega arith))
         (Memᴰ·cast (q ∙ edge-is m a (m .tree) in-order (x .listed) (x .labels)) (Memᴰ·map (mergedEdge m a) (x .listed)))
+
+-- and none of them stands twice
+kept-once : (f : Edge → Bool) (es : List Edge) → NoneTwice es → NoneTwice (keep f es)
+unfolding keep
+kept-once f [] h = none-twice
+kept-once f (e ∷ es) (not-again n h) = go (f e) (kept-once f es h)
+  where
+    go : (b : Bool) → NoneTwice (keep f es) → NoneTwice (elim b as (λ c. List Edge) [ true ↦ e ∷ keep f es | false ↦ keep f es ])
+    go true k = not-again (λ i. n (keep-out f es i .0)) k
+    go false k = k
+
+once-set : (es : List Edge) → NoneTwice (once sameEdge es)
+unfolding once
+once-set [] = none-twice
+once-set (e ∷ es) = not-again (once-first sameEdge same-edge-is e (once sameEdge es)) (kept-once (λ f. not (sameEdge e f)) (once sameEdge es) (once-set es))
 
 -- row 5: what a rising list holds
 pub rises-in : (A last : ℕ) (ks : List ℕ) → rises A last ks ≡ true → (a : ℕ) → member a ks ≡ true → (last < a) × (a ≤ A)
@@ -222,6 +243,7 @@ linear-is m lawful = record {
   init = ap (λ ps. all (preds ps)) (sym (clauses-are m (λ l. l .init) 0 (m .automata)));
   inv = ap (λ ps. all (preds ps)) (sym (clauses-are m (λ l. l .inv) 0 (m .automata)));
   edges = edges-are m lawful;
+  edges-once = unfold mergedEdges in once-set (edgesWithRepeats m);
   sync = sync-is m lawful;
   rising = keep-rises (λ a. inSet m a (m .tree)) (m .actions) 0 1 (m .actions) (omega arith) (omega arith);
 }
@@ -322,11 +344,11 @@ merge-is-definition-4 t b text edges = (λ h. there h (ends t b), back)
         let q : merged (textOf (linear m)) (mergedCount m) ≡ merged text edges = sym (answer-merged t b m o u g) ∙ h in
         let same-text : text ≡ textOf (linear m) = cc in
         let same-count : edges ≡ mergedCount m = cc in
-        (m, o, u, ltb-false b (length (textOf (linear m))) g, same-text, same-count ∙ sym (count-is m))
+        (m, o, u, ltb-false b (length (textOf (linear m))) g, same-text, same-count ∙ sym (count-is m (lawful-is m .0 (opened-limited t m o))))
 
     back : (m : Model) × (openTable t ≡ opened m) × (mergeFault m ≡ none) × (length (textOf (linear m)) ≤ b) × (text ≡ textOf (linear m)) × (edges ≡ length (mergedEdges m))
         → mergeAnswer t b ≡ merged text edges
-    back (m, o, u, l, q, c) = answer-merged t b m o u (le-ltb b (length (textOf (linear m))) l) ∙ ap₂ merged (sym q) (sym (c ∙ count-is m))
+    back (m, o, u, l, q, c) = answer-merged t b m o u (le-ltb b (length (textOf (linear m))) l) ∙ ap₂ merged (sym q) (sym (c ∙ count-is m (lawful-is m .0 (opened-limited t m o))))
 
 -- the text that the merger gives is read back as Definition 4's automaton of the table's model
 pub merged-reads : (t : List ℕ) (b : ℕ) (text : Bytes) (edges : ℕ) → mergeAnswer t b ≡ merged text edges

@@ -58,6 +58,11 @@ pub record Fresh (m : Model) : Type 0 where
   pub updates : (x : Automaton) → List·Memᴰ x (m .automata) → (e : Edge) → List·Memᴰ e (x .edges)
       → Unnamed m (e .update)
 
+-- a list in which no edge stands twice
+pub data NoneTwice : List Edge → Type 0 where
+  none-twice : NoneTwice []
+  not-again : {e : Edge} {es : List Edge} → (List·Memᴰ e es → ⊥) → NoneTwice es → NoneTwice (e ∷ es)
+
 -- L(p) = (({x}, init, inv, E, act_S), ls), where p is the composition of m: l is this automaton, as a sheet.
 pub record IsLinearization (m l : Model) : Type 0 where
   -- p leads to xs (#), to fs (ipred), to gs (inv) and to A (sync); n is the length of xs, and so of fs
@@ -86,12 +91,13 @@ pub record IsLinearization (m l : Model) : Type 0 where
   pub init : x .init ≡ all (preds (clauses (length (m .variables)) 0 fs))
   -- inv(x)
   pub inv : x .inv ≡ all (preds (clauses (length (m .variables)) 0 gs))
-  -- E: an edge from x to x for each transition. Where the format departs: E is a list, in which an edge may stand
-  -- again.
+  -- E: an edge from x to x for each transition
   pub edges : (e : Edge)
       → List·Memᴰ e (automaton .edges)
       ↔ ((a : ℕ) × (vs : List Position) × (r : List Pred) × (vs' : List Position)
       × Transition m a (m .tree) vs r vs' × (e ≡ edgeFor (length (m .variables)) a vs r vs'))
+  -- and E is a set: transitions that give equal edges give one
+  pub edges-once : NoneTwice (automaton .edges)
   -- act_S is A; a sheet's list of it rises, from 1 or more up to the highest action
   pub sync : (a : ℕ) → List·Memᴰ a (automaton .sync) ↔ List·Memᴰ a A
   pub rising : rises (m .actions) 0 (automaton .sync) ≡ true

@@ -7,13 +7,14 @@ use native.Mathlib.Omega.{arith}
 use native.Mathlib.Nat.{mul-zero, mod-lt, div-add-mod', div-lt-iff-lt-mul, suc-mul, mul-le-mul-right}
 use lib.ListN.{length, getD, length-map}
 use lib.Seq.{ext-getD}
-use Rattle.model.specs.Basic.{countUp}
+use Rattle.model.specs.Basic.{once, countUp}
 use Rattle.model.specs.Composition.{Tree, par, syn, leaf}
 use Rattle.model.specs.Model.{Model, Edge, automaton, inSet}
 use Rattle.model.specs.Lawful.{Lawful}
 use Rattle.model.specs.Rules.{Taker}
 use Rattle.model.specs.Moves.{pairs, sides, under, alone, moves, moveCount, sidesCount}
-use Rattle.model.specs.Linear.{mergedEdge, mergedEdges}
+use Rattle.model.specs.Equal.{sameEdge}
+use Rattle.model.specs.Linear.{mergedEdge, edgesWithRepeats, mergedEdges}
 use Rattle.model.proofs.Tests.{and-intro}
 use Rattle.model.proofs.Lists.{all-at}
 use Rattle.model.proofs.Numbered.{size, Numbered, numbered}
@@ -203,11 +204,11 @@ module _ (m : Model) (a : ℕ) where
 
 -- so the merged edges are in order
 pub merged-in-order : (m : Model) → Lawful m → EdgesInOrder m (mergedEdges m)
-unfolding mergedEdges
+unfolding mergedEdges edgesWithRepeats
 merged-in-order m lawful = record {
   transitions = λ a. map (labelsOf (m .tree)) (moves m a (m .tree));
   in-order = λ a. moves-in-order m a (m .tree) 0 in-order;
-  by-action = ap (λ (f : ℕ → List Edge). flatMap f (countUp 0 (suc (m .actions)))) (fun-ext its-edges);
+  by-action = ap (λ (f : ℕ → List Edge). once sameEdge (flatMap f (countUp 0 (suc (m .actions))))) (fun-ext its-edges);
 }
   where
     in-order : Numbered 0 (m .tree)
@@ -226,5 +227,5 @@ pub edges-in-order : (m : Model) (edges edges' : List Edge) → EdgesInOrder m e
 edges-in-order m edges edges' o o' =
     let e : o .transitions ≡ o' .transitions = fun-ext λ a. in-order-one m a (o .in-order a) (o' .in-order a) in
     o .by-action
-    ∙ ap (λ (f : ℕ → List Labels). flatMap (λ a. map (λ x. edgeFor (length (m .variables)) a (x .vs) (x .r) (x .vs')) (f a)) (countUp 0 (suc (m .actions)))) e
+    ∙ ap (λ (f : ℕ → List Labels). once sameEdge (flatMap (λ a. map (λ x. edgeFor (length (m .variables)) a (x .vs) (x .r) (x .vs')) (f a)) (countUp 0 (suc (m .actions))))) e
     ∙ sym (o' .by-action)

@@ -12,9 +12,12 @@ use Rattle.model.specs.Basic.{lacks}
 use Rattle.model.specs.Bounds.{maxEdges}
 use Rattle.model.specs.Model.{Model}
 use Rattle.model.specs.Limits.{broken}
+use Rattle.model.specs.Lawful.{Lawful}
 use Rattle.model.specs.Table.{modelOf, row19, unopened, opened, openTable}
 use Rattle.model.specs.Linear as L
-use Rattle.model.proofs.Count.{count-is}
+use Rattle.model.proofs.LimitsLaws.{lawful-is}
+use Rattle.model.proofs.TableLaws.{model-given}
+use Rattle.model.proofs.Distinct.{count-is}
 use Rattle.format.specs.Bytes.{Bytes}
 use Rattle.format.specs.Spelling.{textOf}
 use Rattle.format.specs.Writer.{WriteAnswer, unwritten, written, row35, writeAnswer, withText, bufferAfter}
@@ -104,9 +107,9 @@ pub merge-tells : Tells unmerged HasMerged
 merge-tells = record { row-told = λ row other e. cc; apart = λ row g. no-merge row (g .1) (g .0) (g .2) }
 
 -- row 32 counts the merged edges
-counts : (m : Model) → row32 m ≡ L.row32 m
+counts : (m : Model) → Lawful m → row32 m ≡ L.row32 m
 unfolding row32 L.row32
-counts m = ap (ltb maxEdges) (count-is m)
+counts m lawful = ap (ltb maxEdges) (count-is m lawful)
 
 module _ (t : List ℕ) (b : ℕ) where
   -- the merger's rows in their order are Definition 4's `firstRow`
@@ -116,7 +119,7 @@ module _ (t : List ℕ) (b : ℕ) where
     where
       go : (o : Option Model) → modelOf t ≡ o → firstOf (tableRows (mergerRows b) t) ≡ firstRow t b
       go none p = rw (p, breaks)
-      go (some m) p = rw (p, breaks, counts m)
+      go (some m) p = rw (p, breaks, counts m (lawful-is m .0 (model-given t m p .0)))
 
   pub merge-decided : Decided unmerged HasMerged (tableRows (mergerRows b) t) (mergeAnswer t b)
   merge-decided = go (mergeAnswer t b) refl (firstRow t b) refl

@@ -35,7 +35,7 @@ pub record IsMergedText (m : Model) (text : Bytes) (edges : ℕ) : Type 0 where
   -- with its one automaton
   pub automaton : Automaton
   pub one : sheet .automata ≡ automaton ∷ []
-  -- whose edges stand in the paper's order, equal ones as often as they come about
+  -- whose edges stand in the paper's order, equal ones once
   pub in-order : EdgesInOrder m (automaton .edges)
   -- and are so many
   pub counted : edges ≡ length (automaton .edges)

@@ -5,10 +5,11 @@ use mathlib.Core.Bool.{Bool, true, false, _&&_}
 use mathlib.Core.List.{List, [], _∷_, _++_, map, flatMap}
 use lib.ListN.{length, getD}
 use lib.Dec.{eqb}
-use Rattle.model.specs.Basic.{keep, countUp}
+use Rattle.model.specs.Basic.{keep, once, countUp}
 use Rattle.model.specs.Predicate.{Pred}
 use Rattle.model.specs.Composition.{Tree, par, syn, leaf}
 use Rattle.model.specs.Model.{Model, Edge, automaton, inSet}
+use Rattle.model.specs.Equal.{sameEdge}
 use Rattle.theorem_definition4.specs.Table3.{Position, at, WildCards}
 use Rattle.theorem_definition4.specs.Definition4.{edgeFor}
 
@@ -64,13 +65,14 @@ module _ (m : Model) (a : ℕ) where
     -- of a `syn` those of what stands under it
     in-syn : {list : List ℕ} {c : Tree} {xs : List Labels} → InOrder c xs → InOrder (syn list c) xs
 
--- the merged edges, equal ones as often as they come about
+-- the merged edges, equal ones once
 pub record EdgesInOrder (m : Model) (edges : List Edge) : Type 0 where
   -- for each action its transitions
   pub transitions : (action : ℕ) → List Labels
   -- in order
   pub in-order : (action : ℕ) → InOrder m action (m .tree) (transitions action)
-  -- an edge for each of them, by action from 0 up to A
+  -- an edge for each of them, by action from 0 up to A; of equal ones the first
   pub by-action : edges
-      ≡ flatMap (λ a. map (λ x. edgeFor (length (m .variables)) a (x .vs) (x .r) (x .vs')) (transitions a))
-      (countUp 0 (suc (m .actions)))
+      ≡ once sameEdge
+      (flatMap (λ a. map (λ x. edgeFor (length (m .variables)) a (x .vs) (x .r) (x .vs')) (transitions a))
+      (countUp 0 (suc (m .actions))))

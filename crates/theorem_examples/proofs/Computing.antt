@@ -11,6 +11,7 @@ use Rattle.model.specs.Limits as Limits
 use Rattle.model.specs.Lawful as Lawful
 use Rattle.model.specs.Table as Table
 use Rattle.model.specs.Rules as Rules
+use Rattle.model.specs.Equal as Equal
 use Rattle.model.specs.Moves as Moves
 use Rattle.model.specs.Judge as Judge
 use Rattle.model.specs.Linear as Linear
@@ -28,8 +29,8 @@ use Rattle.format.specs.Program as Program
 unfoldable pub computing : ℕ
 unfolding
     List.flatMap
-    Basic.eqZ Basic.between Basic.each Basic.every Basic.exists Basic.keep Basic.member Basic.same Basic.sum
-    Basic.countUp Basic.lacks Basic.orElse Basic.onSome
+    Basic.eqZ Basic.between Basic.each Basic.every Basic.exists Basic.keep Basic.once Basic.member Basic.same
+    Basic.sum Basic.countUp Basic.lacks Basic.orElse Basic.onSome
     Predicate.preds Predicate.operands Predicate.holds Predicate.words Predicate.nodeCount Predicate.named
     Predicate.isOutside Predicate.isNew Predicate.isNewOf Predicate.namesOutside Predicate.namesNew Predicate.mentions
     Predicate.depth Predicate.range Predicate.least Predicate.greatest Predicate.hull Predicate.times Predicate.interval
@@ -52,13 +53,14 @@ unfolding
     Table.splitNumber Table.splitPair Table.splitPred Table.edgeTo Table.splitEdge Table.andNode Table.splitNodes
     Table.splitTree Table.splitEntry Table.decode Table.isTableOf Table.modelOf Table.row18 Table.row19 Table.openTable
     Rules.mentioned
-    Moves.pairs Moves.sides Moves.under Moves.moves Moves.sidesCount Moves.moveCount
+    Moves.pairs Moves.sides Moves.under Moves.moves Moves.sidesCount Moves.moveCount Moves.distinctCount
     Judge.phaseOf Judge.hasValues Judge.row21 Judge.row22 Judge.rangeOf Judge.row23 Judge.row24 Judge.inits Judge.invs
     Judge.initial Judge.settled Judge.isTaker Judge.updated Judge.led Judge.kept Judge.framed Judge.fits Judge.stepHolds
     Judge.judgeTo Judge.judgeEnvironment Judge.judgeAt Judge.stepAnswer Judge.environmentAnswer Judge.answerTo
+    Equal.wordKind Equal.wordNumber Equal.sameWord Equal.sameWords Equal.sameEdge
     Linear.pointerRange Linear.pointer Linear.atLocations Linear.atAutomata Linear.mergedInit Linear.mergedInv
-    Linear.pointerMoves Linear.mergedEdge Linear.mergedEdges Linear.mergedCount Linear.linear Linear.mergedPreds
-    Linear.row31 Linear.row32 Linear.row33 Linear.row34 Linear.mergeFault
+    Linear.pointerMoves Linear.mergedEdge Linear.edgesWithRepeats Linear.mergedEdges Linear.mergedCount Linear.linear
+    Linear.mergedPreds Linear.row31 Linear.row32 Linear.row33 Linear.row34 Linear.mergeFault
     Runs.proposed Runs.modelJudge Runs.phaseNumber Runs.callOf Runs.tableJudge Runs.goes Runs.andThen Runs.run
     Runs.beside Runs.translate Runs.translates Runs.mergedRun
     Bytes.begins Bytes.onto Bytes.parts Bytes.ledBy Bytes.joined

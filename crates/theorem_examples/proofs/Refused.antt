@@ -8,6 +8,7 @@ use lib.ListN.{replicate, drop, take}
 use Rattle.model.specs.Judge as Judge
 use Rattle.model.specs.Judge.{marked, yes, no, Call, step, environment}
 use Rattle.format.specs.Bytes.{Bytes, bytes}
+use Rattle.format.specs.Number.{decimal}
 use Rattle.theorem_examples.proofs.Computing.{computing}
 use Rattle.theorem_examples.proofs.Cases.{sheet, times, Case, accepts, refuses, refusesTable, answers, answersTable, prints, writes, merges, refusesWrite, refusesMerge, sameBool, sameAnswer, tableOfText, refusedWith, passes, failing}
 use Rattle.theorem_examples.proofs.Oven.{oven, ovenMerged, small, true', quiet, heavy}
@@ -39,18 +40,35 @@ paired c =
     one : List Bytes
     one = bytes "sync=" ∷ bytes "locations=1" ∷ bytes "init=all 0" ∷ bytes "inv=all 0" ∷ bytes "edges=0" ∷ []
 
--- two automata in parallel that share action 1 and have so many edges for it
+-- so many edges: with updates that differ, or all the same
 abbrev edgesOf : ℕ → List Bytes
 edgesOf zero = []
-edgesOf (suc n) = bytes "edge=0,1,0,all 0" ∷ edgesOf n
+edgesOf (suc n) = (bytes "edge=0,1,0,eq 0 " ++ decimal n) ∷ edgesOf n
 
-abbrev sharer : Bytes → ℕ → List Bytes
-sharer naturalOf n = bytes "sync=1" ∷ bytes "locations=1" ∷ bytes "init=all 0" ∷ bytes "inv=all 0" ∷ (bytes "edges=" ++ naturalOf) ∷ edgesOf n
+abbrev pastedEdges : (edge : Bytes) → ℕ → List Bytes
+pastedEdges edge zero = []
+pastedEdges edge (suc n) = edge ∷ pastedEdges edge n
 
-abbrev sharing : (naturalOf : Bytes) (n : ℕ) (count' : Bytes) (n' : ℕ) → Bytes
-sharing naturalOf n count' n' =
+-- two automata in parallel that share action 1 and have these edges
+abbrev sharer : Bytes → List Bytes → List Bytes
+sharer naturalOf edges = bytes "sync=1" ∷ bytes "locations=1" ∷ bytes "init=all 0" ∷ bytes "inv=all 0" ∷ (bytes "edges=" ++ naturalOf) ∷ edges
+
+abbrev sharing : (naturalOf : Bytes) → List Bytes → (count' : Bytes) → List Bytes → Bytes
+sharing naturalOf edges count' edges' =
     sheet (bytes "format=1" ∷ bytes "actions=1" ∷ bytes "variables=0" ∷ bytes "automata=2" ∷
-    (sharer naturalOf n ++ (sharer count' n' ++ bytes "compose=par a0 a1" ∷ [])))
+    (sharer naturalOf edges ++ (sharer count' edges' ++ bytes "compose=par a0 a1" ∷ [])))
+
+-- what the two have left if all their edges are equal
+abbrev sharedOnce : Bytes
+sharedOnce =
+    sheet (
+    bytes "format=1" ∷ bytes "actions=1" ∷ bytes "variables=2" ∷ bytes "variable=0,0" ∷ bytes "variable=0,0" ∷
+    bytes "automata=1" ∷ bytes "sync=1" ∷ bytes "locations=1" ∷
+    bytes "init=all 2 imp eq v0 0 all 0 imp eq v1 0 all 0" ∷
+    bytes "inv=all 2 imp eq v0 0 all 0 imp eq v1 0 all 0" ∷
+    bytes "edges=1" ∷
+    bytes "edge=0,1,0,all 6 all 0 all 0 eq v0 0 eq n0 0 eq v1 0 eq n1 0" ∷
+    bytes "compose=a0" ∷ [])
 
 -- V variables and nine automata
 abbrev manyVariables : ℕ → List Bytes
@@ -69,13 +87,26 @@ wide naturalOf n =
     sheet (bytes "format=1" ∷ bytes "actions=0" ∷ (bytes "variables=" ++ naturalOf) ∷ (manyVariables n ++
     (bytes "automata=9" ∷ (nine ++ bytes "compose=par a0 par a1 par a2 par a3 par a4 par a5 par a6 par a7 a8" ∷ []))))
 
--- 512 edges whose updates have two nodes, so that each merged edge has nine; or one node, so that it has eight
-abbrev heavyEdges : ℕ → Bytes → List Bytes
-heavyEdges zero p = []
-heavyEdges (suc n) p = (bytes "edge=0,0,0," ++ p) ∷ heavyEdges n p
+-- so many edges whose updates have 64 nodes each and differ
+abbrev heavyEdges : ℕ → List Bytes
+heavyEdges zero = []
+heavyEdges (suc n) = (bytes "edge=0,0,0,all 61 eq 0 " ++ (decimal n ++ times 60 (bytes " all 0"))) ∷ heavyEdges n
 
-abbrev manyNodes : Bytes → ℕ → Bytes → Bytes
-manyNodes naturalOf n p = moving ((bytes "edges=" ++ naturalOf) ∷ heavyEdges n p)
+-- so many edges of one automaton: a merged edge has seven nodes, and those of the update
+abbrev having : Bytes → List Bytes → Bytes
+having naturalOf edges = moving ((bytes "edges=" ++ naturalOf) ∷ edges)
+
+-- what is left if all are equal
+abbrev oneLeft : (update : Bytes) → Bytes
+oneLeft p =
+    sheet (
+    bytes "format=1" ∷ bytes "actions=1" ∷ bytes "variables=2" ∷ bytes "variable=0,1" ∷ bytes "variable=0,0" ∷
+    bytes "automata=1" ∷ bytes "sync=" ∷ bytes "locations=1" ∷
+    bytes "init=all 1 imp eq v1 0 all 0" ∷
+    bytes "inv=all 1 imp eq v1 0 all 0" ∷
+    bytes "edges=1" ∷
+    (bytes "edge=0,0,0,all 3 " ++ (p ++ bytes " eq v1 0 eq n1 0")) ∷
+    bytes "compose=a0" ∷ [])
 
 -- a call on the oven
 abbrev call : (phase : ℕ) (locations : List ℕ) (v0 action : ℕ) → Call
@@ -104,7 +135,7 @@ refusedCases =
     refuses (composed (bytes "par a0")) 13 11 ∷
     refuses (paired (bytes "par a1 a0")) 14 15 ∷
     accepts (paired (bytes "par a0 a1")) ∷
-    refuses (sharing (bytes "300") 300 (bytes "213") 0) 15 314 ∷
+    refuses (sharing (bytes "300") (pastedEdges (bytes "edge=0,1,0,all 0") 300) (bytes "213") []) 15 314 ∷
     refuses (composed (times 64 (bytes "syn 1 ") ++ bytes "a0")) 16 11 ∷
     accepts (composed (times 63 (bytes "syn 1 ") ++ bytes "a0")) ∷
     refusesTable oven 8191 18 0 ∷
@@ -124,9 +155,11 @@ refusedCases =
     answers oven (environment 0 (0 ∷ 0 ∷ []) (pos 0 ∷ []) (pos 2 ∷ [])) (Judge.refused 23) ∷
     answers oven (call 0 (0 ∷ 0 ∷ []) 0 3) (Judge.refused 24) ∷
     prints (wide (bytes "40") 40) (bytes "refused=31,0\n") ∷
-    prints (sharing (bytes "23") 23 (bytes "23") 23) (bytes "refused=32,0\n") ∷
+    prints (sharing (bytes "23") (edgesOf 23) (bytes "23") (edgesOf 23)) (bytes "refused=32,0\n") ∷
+    prints (sharing (bytes "23") (pastedEdges (bytes "edge=0,1,0,all 0") 23) (bytes "23") (pastedEdges (bytes "edge=0,1,0,all 0") 23)) sharedOnce ∷
     prints (small (times 22 (bytes "not ") ++ true') true' quiet (bytes "a0")) (bytes "refused=33,0\n") ∷
-    prints (manyNodes (bytes "512") 512 (bytes "not all 0")) (bytes "refused=34,0\n") ∷
+    prints (having (bytes "60") (heavyEdges 60)) (bytes "refused=34,0\n") ∷
+    prints (having (bytes "512") (pastedEdges (bytes "edge=0,0,0,not all 0") 512)) (oneLeft (bytes "not all 0")) ∷
     refusesWrite ovenTable 0 35 ∷
     refusesWrite ovenTable 246 35 ∷
     writes ovenTable 247 oven ∷

@@ -17,8 +17,9 @@ use Rattle.model.specs.Lawful.{Lawful}
 use Rattle.model.specs.Lines.{composeLine, automatonLines}
 use Rattle.model.specs.Table.{code, predWords, lineWords, lowBits, highBits, setWords, setOf, sheetWords}
 use Rattle.model.specs.Moves.{moves}
-use Rattle.model.specs.Linear.{linear, mergedCount, row32}
-use Rattle.model.proofs.Count.{count-is}
+use Rattle.model.specs.Linear.{linear}
+use Rattle.model.specs.Repeats.{countWithRepeats, row32WithRepeats}
+use Rattle.model.proofs.Count.{repeats-counted}
 use Rattle.model.proofs.Numbered.{numbered, size-is}
 use Rattle.model.proofs.LinearLimits.{keep-rises}
 use Rattle.table_tree.proofs.Inside.{list-back}
@@ -132,15 +133,15 @@ module _ (m : Model) (lawful : Lawful m) (t rest : List ℕ) (e : t ≡ sheetWor
   set-holds : (a : ℕ) → List·Memᴰ a (setOf (setsOf t (layoutOf t) .low) (setsOf t (layoutOf t) .high)) ↔ List·Memᴰ a (linear-is m lawful .A)
   set-holds a = rw (set-is ∙ sym its-set) (linear-is m lawful .sync a)
 
-  module _ (fits : row32 m ≡ false) where
+  module _ (fits : row32WithRepeats m ≡ false) where
     abbrev takers : List ℕ
     takers = takersFor t (layoutOf t)
 
-    recorded : (k : ℕ) → k < mergedCount m → Recorded m t (getD (allMoves m) k (moved 0 [])) (run takers (16 * k) 16)
+    recorded : (k : ℕ) → k < countWithRepeats m → Recorded m t (getD (allMoves m) k (moved 0 [])) (run takers (16 * k) 16)
     unfolding takersFor
     recorded k h = move-recorded m lawful t rest e fits (replicate tableWords 0) (length-replicate {A = ℕ} tableWords 0) k h
 
-    count : gatheredIn t (layoutOf t) .edges ≡ mergedCount m
+    count : gatheredIn t (layoutOf t) .edges ≡ countWithRepeats m
     unfolding gatheredIn
     count = count-exact m lawful t rest e fits
 
@@ -149,10 +150,10 @@ module _ (m : Model) (lawful : Lawful m) (t rest : List ℕ) (e : t ≡ sheetWor
     Told v k = Labelled t (run takers (16 * k) 16) (length cards) (v .action) (positions (λ d. d .from) (m .tree) (v .takers)) (map (λ y. y .edge .update) (v .takers))
         (positions (λ d. d .to) (m .tree) (v .takers))
 
-    told : (k : ℕ) → k < mergedCount m → Told (getD (allMoves m) k (moved 0 [])) k
+    told : (k : ℕ) → k < countWithRepeats m → Told (getD (allMoves m) k (moved 0 [])) k
     told k h = rw as-many (labelled m lawful t rest e (getD (allMoves m) k (moved 0 [])) (run takers (16 * k) 16) (recorded k h))
 
-    transition-told : (k : ℕ) → k < mergedCount m
+    transition-told : (k : ℕ) → k < countWithRepeats m
         → (a : ℕ) × (vs : List Position) × (r : List Pred) × (vs' : List Position)
         × Labelled t (run takers (16 * k) 16) (length cards) a vs r vs' × Transition m a (m .tree) vs r vs'
     transition-told k h =
@@ -166,18 +167,18 @@ module _ (m : Model) (lawful : Lawful m) (t rest : List ℕ) (e : t ≡ sheetWor
     move-listed a ts l i = joined-in (λ b. map (moved b) (moves m b (m .tree))) (counted-in a 0 (suc (m .actions)) (omega arith) (omega arith)) (Memᴰ·map (moved a) i)
 
     each-told : (a : ℕ) (vs : List Position) (r : List Pred) (vs' : List Position) → Transition m a (m .tree) vs r vs'
-        → (k : ℕ) × (k < mergedCount m) × Labelled t (run takers (16 * k) 16) (length cards) a vs r vs'
+        → (k : ℕ) × (k < countWithRepeats m) × Labelled t (run takers (16 * k) 16) (length cards) a vs r vs'
     each-told a vs r vs' s =
         let by = transitions-are m a (m .tree) 0 (numbered (m .tree) N (lawful .tree .in-order)) vs r vs' .0 s in
         let at = index-of (moved 0 []) (move-listed a (by .takers) (transition-bounded m lawful a s) (by .listed)) in
         let k = at .0 in
-        let few : k < mergedCount m = subst (λ n. k < n) (moves-total m ∙ count-is m) (at .1) in
+        let few : k < countWithRepeats m = subst (λ n. k < n) (moves-total m ∙ repeats-counted m) (at .1) in
         let labels = by .labels in
         let here : Told (moved a (by .takers)) k = subst (λ (v : Move). Told v k) (at .2) (told k few) in
         (k, few, told-as t (labels .before) (labels .conjuncts) (labels .after) here)
 
   -- so many edges as a sheet can have: row 32 does not refuse
-  few : gatheredIn t (layoutOf t) .edges ≤ maxEdges → row32 m ≡ false
+  few : gatheredIn t (layoutOf t) .edges ≤ maxEdges → row32WithRepeats m ≡ false
   unfolding gatheredIn
   few h = sym (count-row m lawful t rest e) ∙ le-ltb maxEdges _ h
 

@@ -1,2 +1,3 @@
 pub mod Labels
 pub mod GathersAll
+pub mod Handed

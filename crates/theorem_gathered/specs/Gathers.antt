@@ -9,15 +9,19 @@ use lib.ListN.{length, getD, take, drop}
 use lib.Dec.{eqb}
 use Rattle.model.specs.Bounds.{maxEdges}
 use Rattle.model.specs.Predicate.{Pred, all, none, preds, wordsAll}
-use Rattle.model.specs.Model.{Model, automaton}
+use Rattle.model.specs.Model.{Model, Location, automaton}
 use Rattle.model.specs.Lines.{automatonLines}
-use Rattle.model.specs.Table.{code, predWords, lineWords, setOf}
+use Rattle.model.specs.Table.{code, predWords, lineWords, setOf, sheetWords}
+use Rattle.model.specs.Repeats.{distinct}
+use Rattle.table_places.specs.Layout.{layoutOf}
 use Rattle.table_places.specs.Outline.{edgeFrom, edgeTo}
 use Rattle.merge_append.specs.Runs.{run}
 use Rattle.merge_predicates.specs.declared.functions.Functions.{Functions}
 use Rattle.merge_edges.specs.Edge.{updatesAt}
 use Rattle.merge_edges.specs.Edges.{actionAt}
 use Rattle.merge_words.specs.declared.gathering.Gathered.{Gathered}
+use Rattle.merge_words.specs.Linearize.{gatheredIn, takersFor}
+use Rattle.merge_table.specs.Linearization.{distinctTable}
 use Rattle.theorem_definition4.specs.Table3.{Position, wild, at, WildCards, Leads, Syncs, Transition}
 
 -- the values of functions, one function's after the other's
@@ -73,3 +77,16 @@ pub record Gathers (m : Model) (t : List ℕ) (g : Gathered) (takers : List ℕ)
   pub each-transition : g .edges ≤ maxEdges → (a : ℕ) (vs : List Position) (r : List Pred) (vs' : List Position)
       → Transition m a (m .tree) vs r vs'
       → (k : ℕ) × (k < g .edges) × Labelled t (run takers (16 * k) 16) (length xs) a vs r vs'
+
+-- The merger is handed the sheet in which each automaton has equal edges once (`distinct`), and gathers that. It has
+-- this sheet's functions, sets and transitions, so what is gathered of it is what Definition 4 needs of this sheet.
+pub record GathersOnce (m : Model) (t : List ℕ) : Type 0 where
+  pub rest : List ℕ
+  pub handed : distinctTable t ≡ sheetWords (distinct m) ++ rest
+  pub gathered : let d = distinctTable t in
+      Gathers (distinct m) d (gatheredIn d (layoutOf d)) (takersFor d (layoutOf d))
+  pub same-functions : (part : Location → Pred) (fs : List (List Pred))
+      → Leads (distinct m) part (m .tree) fs ↔ Leads m part (m .tree) fs
+  pub same-sets : (A : List ℕ) → Syncs (distinct m) (m .tree) A ↔ Syncs m (m .tree) A
+  pub same-transitions : (a : ℕ) (vs : List Position) (r : List Pred) (vs' : List Position)
+      → Transition (distinct m) a (m .tree) vs r vs' ↔ Transition m a (m .tree) vs r vs'

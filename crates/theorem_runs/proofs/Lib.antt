@@ -4,3 +4,4 @@ pub mod Beside
 pub mod Moves
 pub mod Tables
 pub mod Demand3
+pub mod AsBefore

@@ -15,7 +15,9 @@ use Rattle.model.specs.Model.{Model, Edge, automaton}
 use Rattle.model.specs.Lawful.{Lawful}
 use Rattle.model.specs.Rules.{State, changed, Taker, Moves, rule-1, rule-3, rule-4-left, rule-4-right, rule-6, Step, Environment}
 use Rattle.model.specs.Moves.{moves}
-use Rattle.model.specs.Linear.{linear, mergedEdge, mergedEdges}
+use Rattle.model.specs.Equal.{sameEdge}
+use Rattle.model.specs.Linear.{linear, mergedEdge, edgesWithRepeats, mergedEdges}
+use Rattle.model.proofs.Once.{once-out}
 use Rattle.model.specs.Judge.{hasValues, row21, row22}
 use Rattle.model.specs.Runs.{IsState, beside}
 use Rattle.model.proofs.Alike.{right-21}
@@ -59,8 +61,8 @@ module _ (m : Model) where
       go ih (inr k) = let l = ih k in omega arith
 
   linear-bounded : Bounded (linear m) (m .actions)
-  unfolding linear mergedEdges
-  linear-bounded zero e h = let l = edges-bounded 0 (suc (m .actions)) e h in omega arith
+  unfolding linear mergedEdges edgesWithRepeats
+  linear-bounded zero e h = let l = edges-bounded 0 (suc (m .actions)) e (once-out sameEdge _ h) in omega arith
   linear-bounded (suc k) e h = absurd (List·Memᴰ·not-nil h)
 
 -- the pointers beside a state name its locations

@@ -152,6 +152,7 @@ pub fn all() -> Vec<Case> {
     cases.extend(ends());
     cases.extend(reader_limits());
     cases.extend(merger_limits());
+    cases.extend(repeats());
     cases
 }
 
@@ -221,8 +222,18 @@ fn side_by_side(automata: usize) -> String {
     (0..last).map(|k| format!("par a{k} ")).collect::<String>() + &format!("a{last}")
 }
 
-/// So many edges by this action.
+/// So many edges by this action, no two of them equal.
 fn edges(count: usize, action: u32) -> Vec<String> {
+    (0..count).map(|i| format!("0,{action},0,eq 0 {i}")).collect()
+}
+
+/// So many edges by action 1 whose updates have 95 nodes, so that a merged one has 102. No two of them are equal.
+fn heavy(count: usize) -> Vec<String> {
+    (0..count).map(|i| format!("0,1,0,all 92 eq 0 {i}{}", " all 0".repeat(91))).collect()
+}
+
+/// So many edges by this action, all equal.
+fn pasted(count: usize, action: u32) -> Vec<String> {
     vec![format!("0,{action},0,all 0"); count]
 }
 
@@ -248,9 +259,9 @@ fn reader_limits() -> Vec<Case> {
         case("nodes_4096", lost(edge(nodes(4_092)), vec![]), None),
         case("nodes_4097", lost(edge(nodes(4_093)), vec![]), Some((11, 15))),
         case("nodes_4097_by_its_line", lost(edge(nodes(4_095)), vec![]), Some((11, 11))),
-        case("edges_512", lost(edges(512, 1), vec![]), None),
-        case("edges_300_and_212", lost(edges(300, 1), edges(212, 2)), None),
-        case("edges_300_and_213", lost(edges(300, 1), edges(213, 2)), Some((15, 315))),
+        case("edges_512", lost(pasted(512, 1), vec![]), None),
+        case("edges_300_and_212", lost(pasted(300, 1), pasted(212, 2)), None),
+        case("edges_300_and_213", lost(pasted(300, 1), pasted(213, 2)), Some((15, 315))),
         case("tree_64", syn(63), None),
         case("tree_65", syn(64), Some((16, 12))),
         case("leaves_swapped", plain(1, "", &[edges(1, 1), edges(1, 2)], "par a1 a0"), Some((14, 18))),
@@ -260,7 +271,7 @@ fn reader_limits() -> Vec<Case> {
 /// Both sides of what the merger counts, and who takes part.
 fn merger_limits() -> Vec<Case> {
     let shared = |left: usize, right: usize| plain(0, "1", &[edges(left, 1), edges(right, 1)], "par a0 a1");
-    let alone = |count: usize| plain(1, "", &[edges(count, 1)], "a0");
+    let alone = |count: usize| plain(1, "", &[heavy(count)], "a0");
     let variables = |count: usize, automata: usize| plain(count, "", &vec![vec![]; automata], &side_by_side(automata));
     let of_depth = |line: usize, key: &str, n: usize| small(&[(line, &format!("{key}{}", depth(n)))]);
     let init = |count: usize| plain(0, "", &[vec![]], "a0").replacen("init=all 0", &format!("init={}", nodes(count)), 1);
@@ -270,9 +281,8 @@ fn merger_limits() -> Vec<Case> {
         case("variables_48_automata_1", variables(48, 1), Some((31, 0))),
         case("variables_39_automata_9", variables(39, 9), None),
         case("variables_40_automata_9", variables(40, 9), Some((31, 0))),
-        case("merged_edges_510", alone(510), None),
-        case("merged_edges_511", alone(511), Some((34, 0))),
-        case("merged_edges_512", shared(16, 32), Some((34, 0))),
+        case("merged_edges_40", alone(40), None),
+        case("merged_edges_41", alone(41), Some((34, 0))),
         case("merged_edges_513", shared(19, 27), Some((32, 0))),
         case("merged_edges_529", shared(23, 23), Some((32, 0))),
         case("merged_edges_64", shared(8, 8), None),
@@ -289,6 +299,35 @@ fn merger_limits() -> Vec<Case> {
         case("syn_around_first", plain(0, "", &three, "par syn 1 a0 par a1 a2"), None),
         case("syn_around_both_sides", plain(0, "", &three, "par syn 1 a0 syn 1 par a1 a2"), None),
         case("syn_around_each", plain(0, "", &three, "par syn 1 a0 par syn 1 a1 syn 1 a2"), None),
+    ]
+}
+
+/// Equal edges stand once in the merged sheet, at the first one's place, and are counted once.
+fn repeats() -> Vec<Case> {
+    let shared = |left: usize, right: usize| plain(0, "1", &[pasted(left, 1), pasted(right, 1)], "par a0 a1");
+    let of_7_nodes = |k: usize| format!("0,1,0,all 2 eq 0 {k} eq 0 0");
+    let own = |lines: &[&str]| lines.iter().map(|line| line.to_string()).collect::<Vec<_>>();
+    let two_places = |edges: &[&str]| {
+        let one = plain(1, "", &[own(edges)], "a0");
+        one.replace("locations=1\ninit=all 0\ninv=all 0\n", "locations=2\ninit=all 0\ninv=all 0\ninit=all 0\ninv=all 0\n")
+    };
+    let four = own(&["0,1,0,eq n0 1", "0,1,0,eq n0 0", "0,1,0,eq n0 1", "0,1,0,eq n0 0"]);
+    vec![
+        // Refused by 32 and by 34 as long as repeats counted.
+        case("pasted_529", shared(23, 23), None),
+        case("pasted_511", plain(1, "", &[pasted(511, 1)], "a0"), None),
+        case("pasted_and_40", plain(1, "", &[[heavy(2), heavy(40)].concat()], "a0"), None),
+        // Refused all the same for what is left.
+        case("pasted_and_529", plain(0, "1", &[[edges(23, 1), edges(23, 1)].concat(), edges(23, 1)], "par a0 a1"), Some((32, 0))),
+        // The first place; what differs in one part stays two, and so does what two automata have.
+        case("first_place", plain(1, "", &[own(&["0,1,0,eq n0 1", "0,1,0,eq n0 0", "0,1,0,eq n0 1", "0,2,0,all 0"])], "a0"), None),
+        case("differ_in_from", two_places(&["0,1,0,all 0", "1,1,0,all 0", "0,1,0,all 0"]), None),
+        case("differ_in_action", two_places(&["0,1,0,all 0", "0,2,0,all 0", "0,1,0,all 0"]), None),
+        case("differ_in_to", two_places(&["0,1,0,all 0", "0,1,1,all 0", "0,1,0,all 0"]), None),
+        case("differ_in_update", two_places(&["0,1,0,all 0", "0,1,0,any 0", "0,1,0,all 0"]), None),
+        case("differ_at_the_end", plain(0, "", &[vec![of_7_nodes(0), of_7_nodes(1), of_7_nodes(0)]], "a0"), None),
+        case("equal_in_two_automata", plain(0, "", &[pasted(2, 1), pasted(2, 1)], "par a0 a1"), None),
+        case("pasted_product", plain(1, "1", &[four.clone(), four], "par a0 a1"), None),
     ]
 }
 
@@ -331,6 +370,8 @@ pub const JUDGED: &[(&str, &[&str])] = &[
     ),
     ("syn_around_all", &["step 0|0,0,0||1|0,0,0||yes True", "step 0|0,0,0||0|0,0,0||no", "step 0|0,0,0||2|0,0,0||no"]),
     ("one_of_three", &["step 0|0,0,0||1|0,0,0||yes False"]),
+    ("first_place", &["step 0|0|0|1|0|1|yes False", "step 1|0|1|1|0|0|yes False", "step 1|0|1|2|0|0|no"]),
+    ("pasted_product", &["step 0|0,0|0|1|0,0|1|yes True", "step 0|0,0|0|1|0,0|0|yes True", "step 0|0,0|0|0|0,0|0|no"]),
     ("variable_0", &["step 0|0|1|1|0|1|no", "step 0|0|0|1|0|1|yes False", "step 1|0|1|1|0|1|yes False", "step 1|0|0|2|0|1|no"]),
     ("edge_to_0", &["step 1|0|0|0|0|0|yes False", "step 1|0|0|0|0|1|no", "env 1|0|0|1|yes"]),
 ];

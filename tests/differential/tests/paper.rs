@@ -3,7 +3,7 @@ use differential::calls::{self, Lent, Reference, Sheets};
 use differential::compare::Comparison;
 use differential::generate::{self, Random};
 use differential::reference::judge::{step_of, Proposal, REFUSED};
-use differential::reference::merge::{count_all, moves, Takers};
+use differential::reference::merge::{count_all, definition_4, distinct, moves, once, Takers};
 use differential::reference::model::{Model, EDGES, TABLE_WORDS, TEXT_BYTES};
 use differential::reference::run::{List, ENVIRONMENT};
 use differential::reference::{self, table};
@@ -126,6 +126,24 @@ fn the_search_finds_what_there_is() {
         }
     }
     assert!(tried > 2_000, "{tried}");
+}
+
+/// To drop an automaton's equal edges before merging is to drop the equal merged edges from the list of all.
+#[test]
+fn equal_edges_are_dropped_before_or_after() {
+    let (mut tried, mut shorter) = (0, 0);
+    for seed in 0..2_000 {
+        let model = generate::sheet(&mut Random::new(seed));
+        if reference::open(&table(&model)).is_err() || count_all(&model) > 4 * EDGES as u128 {
+            continue;
+        }
+        let all = definition_4(&model);
+        let left = once(&all.automata[0].edges);
+        assert_eq!(definition_4(&distinct(&model)).automata[0].edges, left, "seed {seed}");
+        tried += 1;
+        shorter += (left.len() < all.edges()) as usize;
+    }
+    assert!(tried > 1_000 && shorter > 100, "{tried} {shorter}");
 }
 
 /// How a `Sheets` can be wrong, in an answer or beside it.

@@ -10,8 +10,8 @@ check-requires c κs = search needs
 enum-told : tie.Need-enum-told
 enum-told c = search needs
 
-linearize-requires : tie.Need-linearize-requires
-linearize-requires c κs = search needs
+linearize-once-requires : tie.Need-linearize-once-requires
+linearize-once-requires c κs = search needs
 
 enum-known-checked : tie.Need-enum-known-checked
 enum-known-checked c = search needs
@@ -31,7 +31,7 @@ linearize-spec =
     (tie.spec
     check-requires
     enum-told
-    linearize-requires
+    linearize-once-requires
     enum-known-checked
     refused-requires
     returns

@@ -281,9 +281,40 @@ fn automata() -> Vec<Subject> {
     [1, 2, 4, 8, 16].map(|count| Subject::new(&format!("automata: {count}"), chain(count, 4, 12, 6, 2))).into()
 }
 
+/// One automaton with 512 edges of seven nodes; the two numbers of each are given.
+fn edges_of(name: &str, numbers: fn(i32) -> (i32, i32)) -> Subject {
+    let mut text =
+        "format=1\nactions=1\nvariables=0\nautomata=1\nsync=\nlocations=1\ninit=all 0\ninv=all 0\nedges=512\n".to_string();
+    for (a, b) in (0..512).map(numbers) {
+        writeln!(text, "edge=0,1,0,all 2 eq 0 0 eq {a} {b}").unwrap();
+    }
+    Subject::new(name, text + "compose=a0\n")
+}
+
+/// Sheets by what looking for equal edges costs. The library's hash of an edge is a sum in which a word counts 31 times as
+/// much as the one after it.
+fn equal_edges() -> Vec<Subject> {
+    vec![
+        edges_of("512 equal edges", |_| (0, 0)),
+        edges_of("256 edges twice", |i| (i % 256, 0)),
+        edges_of("512 different edges", |i| (i, 0)),
+        edges_of("512 different edges of one hash", |i| (i, -31 * i)),
+    ]
+}
+
+fn merging(title: &str, subjects: &[Subject]) {
+    println!("\n## {title}\n");
+    println!("| sheet | what | library, ns | reference, ns | ratio |");
+    println!("|---|---|---:|---:|---:|");
+    for (subject, [library, reference]) in subjects.iter().zip(best(subjects, Subject::merge)) {
+        println!("| {} | {} | {library:.0} | {reference:.0} | {:.2} |", subject.name, subject.answers()[2], library / reference);
+    }
+}
+
 fn main() {
     println!("## Calls\n");
     calls_table(&subjects());
     growth("Growth with the text", &sizes());
     growth("Growth with the automata", &automata());
+    merging("Merging equal edges of seven nodes", &equal_edges());
 }

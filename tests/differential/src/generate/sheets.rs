@@ -22,13 +22,38 @@ struct Shape {
 
 /// A sheet, mostly one that is accepted.
 pub fn sheet(random: &mut Random) -> Model {
-    match random.below(20) {
+    let mut drawn = match random.below(20) {
         0..=7 => small(random),
         8..=10 => middle(random),
         11..=13 => covering(random),
         14..=16 => merging_limit(random),
         17 => random_of(random, &[equal_edges, wide]),
         _ => limit(random),
+    };
+    if random.percent(30) {
+        paste(random, &mut drawn);
+    }
+    drawn
+}
+
+/// Edges that stand a second time, or nearly: in one part they may be another's.
+fn paste(random: &mut Random, model: &mut Model) {
+    let free = EDGES - model.edges().min(EDGES);
+    for _ in 0..free.min(1 + random.below(6)) {
+        let k = random.below(model.automata.len());
+        let edges = &mut model.automata[k].edges;
+        if edges.is_empty() {
+            continue;
+        }
+        let (mut again, other) = (random.pick(edges), random.pick(edges));
+        match random.below(8) {
+            0 => again.from = other.from,
+            1 => again.action = other.action,
+            2 => again.to = other.to,
+            3 => again.update = other.update,
+            _ => {}
+        }
+        edges.insert(random.below(edges.len() + 1), again);
     }
 }
 
@@ -333,10 +358,11 @@ fn share_to_512(random: &mut Random, model: &mut Model, past: bool) {
         (_, true) => vec![2, 2, 2, 2, 3, 2, 2, 2, 2],
         (_, false) => vec![2; 9],
     };
+    let numbered = |i: usize| Predicate::Eq(Expression::Number(0), Expression::Number(i as i32));
     let plain = |count: usize| Automaton {
         sync: ActionSet::from([1]),
         locations: vec![Location { init: always(), invariant: always() }],
-        edges: vec![Edge { from: 0, action: 1, to: 0, update: always() }; count],
+        edges: (0..count).map(|i| Edge { from: 0, action: 1, to: 0, update: numbered(i) }).collect(),
     };
     model.automata = counts.iter().map(|count| plain(*count)).collect();
     model.composition = tree(random, 0, counts.len());

@@ -13,6 +13,7 @@ pub fn merge(model: &Model) -> Result<(Vec<u8>, usize), u32> {
 
 /// The merged model, or the row that refuses it.
 pub fn merged(model: &Model) -> Result<Model, u32> {
+    let model = &distinct(model);
     if model.ranges.len() + model.automata.len() > VARIABLES as usize {
         return Err(31);
     }
@@ -29,7 +30,24 @@ pub fn merged(model: &Model) -> Result<Model, u32> {
     Ok(merged)
 }
 
-fn definition_4(model: &Model) -> Model {
+/// The same automata, of equal edges the first alone. Merged edges are equal exactly where the same automata take equal
+/// edges, so no merged edge comes about twice then; to drop them from the list is too late where it has 32^16 of one.
+pub fn distinct(model: &Model) -> Model {
+    let mut distinct = model.clone();
+    for automaton in &mut distinct.automata {
+        automaton.edges = once(&automaton.edges);
+    }
+    distinct
+}
+
+/// Of equal edges the first.
+pub fn once(edges: &[Edge]) -> Vec<Edge> {
+    let is_first = |i: usize| !edges[..i].contains(&edges[i]);
+    (0..edges.len()).filter(|i| is_first(*i)).map(|i| edges[i].clone()).collect()
+}
+
+/// The merged model with an edge for each choice of takers, in the paper's order.
+pub fn definition_4(model: &Model) -> Model {
     let pointers = model.automata.iter().map(|automaton| (0, automaton.locations.len() as i32 - 1));
     let automaton = Automaton {
         sync: model.composition.sync(&model.automata),
