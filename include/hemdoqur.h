@@ -160,8 +160,8 @@ uint64_t sheet_size(const uint32_t *table, size_t table_length);
 uint64_t sheet_write(const uint32_t *table, size_t table_length, uint8_t *out, size_t out_length);
 
 /* Writes the text of one automaton that does exactly what all automata of the table do together, equal edges once:
- * edges * 2^17 + length. Else row * 2^32: 18 or 19 for the table, 31 to 34 for a limit that the merged sheet breaks, 35 for a short
- * buffer. The bytes behind the text stay as they were. */
+ * edges * 2^17 + length. Else row * 2^32: 18 or 19 for the table, 31 to 34 for a limit that the merged sheet breaks,
+ * 35 for a short buffer. The bytes behind the text stay as they were. */
 uint64_t sheet_merge(const uint32_t *table, size_t table_length, uint8_t *out, size_t out_length);
 
 /* May the composition take the action, from a phase (0 start, 1 running), locations and values to new locations and
