@@ -17,9 +17,10 @@
  * whole table first, which is most of a short call's time; sheet_run checks it once for a list. The environment judge
  * then looks once at each automaton. The step judge searches for edges that can be taken together, and the search is
  * exact. On a sheet that somebody wrote for an oven it takes microseconds; on the hard sheets of docs/BENCHMARKS.md, up
- * to 16 automata with 512 edges over 48 variables, mostly under a second. No bound is known that would be of use: the
- * question is NP-hard, and a sheet can be made on purpose on which a call takes longer than anybody waits. A host that
- * takes sheets from strangers tries them first, or calls the step judge where it can be given up. */
+ * to 16 automata with 512 edges over 48 variables, under a second. No bound is known that would be of use: the
+ * question is NP-hard, and a sheet can be made on purpose on which a call takes longer than anybody waits; two families
+ * of such sheets are named there. A host that takes sheets from strangers tries them first, or calls the step judge
+ * where it can be given up. */
 #ifndef HEMDOQUR_H
 #define HEMDOQUR_H
 

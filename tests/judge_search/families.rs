@@ -67,13 +67,59 @@ pub fn nested(k: usize, edges: usize, size: usize) -> Sheet {
     Sheet::flat(k * size, (0..k).map(one).collect())
 }
 
-/// k automata with edges that mention two variables of one of two groups, whose sizes are odd: no cover, but only counting says so.
-pub fn odd(k: usize, edges: usize, first: usize, seed: u64) -> Sheet {
-    let (mut r, v) = (Random::new(seed), 2 * k);
-    let pair = |r: &mut Random| {
-        if r.below(v) < first { r.some(2, first) } else { r.some(2, v - first).iter().map(|x| x + first).collect() }
+/// k automata with edges that mention `count` variables of one of some parts, each part as often as it is large.
+pub fn parts(k: usize, edges: usize, count: usize, sizes: &[usize], seed: u64) -> Sheet {
+    let (mut r, v) = (Random::new(seed), sizes.iter().sum());
+    let one = |r: &mut Random| {
+        let (mut x, mut first, mut part) = (r.below(v), 0, 0);
+        while x >= sizes[part] {
+            x -= sizes[part];
+            first += sizes[part];
+            part += 1;
+        }
+        r.some(count, sizes[part]).iter().map(|x| x + first).collect()
     };
-    Sheet::flat(v, (0..k).map(|_| loops((0..edges).map(|_| pair(&mut r)).collect())).collect())
+    Sheet::flat(v, (0..k).map(|_| loops((0..edges).map(|_| one(&mut r)).collect())).collect())
+}
+
+/// Two variables of one of two parts, whose sizes are odd: no cover, but only counting says so.
+pub fn odd(k: usize, edges: usize, first: usize, seed: u64) -> Sheet {
+    parts(k, edges, 2, &[first, 2 * k - first], seed)
+}
+
+/// k automata with edges that mention some variables of the first `first` ones and some of the `second` ones after them.
+pub fn uneven(k: usize, edges: usize, some: (usize, usize), first: usize, second: usize, seed: u64) -> Sheet {
+    let mut r = Random::new(seed);
+    let one = |r: &mut Random| {
+        let mut edge = r.some(some.0, first);
+        edge.extend(r.some(some.1, second).iter().map(|x| x + first));
+        edge
+    };
+    Sheet::flat(first + second, (0..k).map(|_| loops((0..edges).map(|_| one(&mut r)).collect())).collect())
+}
+
+/// k automata with edges of three variables, two of the first ones or none; there is an odd number of those, so no cover.
+pub fn even(k: usize, edges: usize, first: usize, seed: u64) -> Sheet {
+    let mut r = Random::new(seed);
+    let one = |r: &mut Random| {
+        let count = 2 * r.below(2);
+        let mut edge = r.some(count, first);
+        edge.extend(r.some(3 - count, 3 * k - first).iter().map(|x| x + first));
+        edge
+    };
+    Sheet::flat(3 * k, (0..k).map(|_| loops((0..edges).map(|_| one(&mut r)).collect())).collect())
+}
+
+/// Pairs in four parts of odd size; the first automaton's edges alone join two of them, which leaves two odd ones: no cover.
+pub fn crossing(k: usize, edges: usize, seed: u64) -> Sheet {
+    let side = (k / 2 - 1) | 1;
+    let sizes = [side, side, side, 2 * k - 3 * side];
+    let mut sheet = parts(k, edges, 2, &sizes, seed);
+    let mut r = Random::new(seed + 99);
+    for edge in &mut sheet.automata[0].edges {
+        edge.mentions = vec![r.below(side), side + r.below(2 * k - side)];
+    }
+    sheet
 }
 
 /// A small sheet of any shape, and a step of it.

@@ -2,7 +2,7 @@
 mod families;
 mod sheets;
 
-use families::{dead, equal, nested, odd, random, small, split, Random};
+use families::{crossing, dead, equal, even, nested, odd, parts, random, small, split, uneven, Random};
 use sheets::{brute_force, judge, Sheet, Step};
 use std::time::Instant;
 
@@ -60,7 +60,28 @@ fn check_families(tally: &mut Tally) {
                 tally.compare(&format!("split, {name}"), &sheet, &Step::all(&sheet), true);
                 let sheet = odd(k + 1, edges.min(4), (k + 1) | 1, seed);
                 tally.compare(&format!("odd, {name}"), &sheet, &Step::all(&sheet), true);
+                let sheet = uneven(k, edges, (1, 1), k + 1, k - 1, seed);
+                tally.compare(&format!("uneven, {name}"), &sheet, &Step::all(&sheet), true);
+                tally.compare(&format!("uneven, {name}, 2 kept"), &sheet, &but_last(&sheet, 2), true);
             }
+        }
+    }
+}
+
+/// Six or seven automata with 48 edges and more, so that the bounds are asked before the search; still few enough to try every
+/// move. With one variable less than there is room for, or with as many as there is room for, both answers come up.
+fn check_bounds(tally: &mut Tally) {
+    for seed in 1..=6 {
+        for few in 0..4 {
+            let mut compare = |name: &str, sheet: &Sheet| {
+                tally.compare(&format!("{name}, seed {seed}, {few} kept"), sheet, &but_last(sheet, few), true);
+            };
+            compare("six, pairs", &random(6, 8, 2, 12, seed));
+            compare("six, threes", &random(6, 8, 3, 15, seed));
+            compare("six, two odd parts", &odd(6, 8, 7, seed));
+            compare("six, three parts", &parts(6, 8, 2, &[3, 3, 5], seed));
+            compare("six, uneven", &uneven(6, 8, (1, 1), 7, 5, seed));
+            compare("seven, uneven", &uneven(7, 7, (1, 2), 8, 9, seed));
         }
     }
 }
@@ -79,6 +100,10 @@ fn check_large(tally: &mut Tally) {
     let sheet = nested(16, 32, 3);
     tally.expect("nested edges", judge(&sheet.read(false), &Step::all(&sheet)), 2);
     for k in [7, 13, 16] {
+        let sheet = odd(k, 32, k | 1, 7);
+        tally.expect(&format!("odd, {k} automata"), judge(&sheet.read(false), &Step::all(&sheet)), 0);
+        let sheet = uneven(k, 32, (1, 2), k + 1, 2 * k - 1, 7);
+        tally.expect(&format!("uneven, {k} automata"), judge(&sheet.read(false), &Step::all(&sheet)), 0);
         let sheet = split(k, 32, 7);
         tally.expect(&format!("split, {k} automata"), judge(&sheet.read(false), &Step::all(&sheet)), 0);
     }
@@ -88,6 +113,7 @@ fn check() -> bool {
     let mut tally = Tally { passed: 0, failed: 0, yes: 0, no: 0 };
     check_small(&mut tally);
     check_families(&mut tally);
+    check_bounds(&mut tally);
     check_large(&mut tally);
     // both answers were given often, so that neither of them alone would pass
     println!("{} yes, {} no", tally.yes, tally.no);
@@ -134,9 +160,30 @@ fn bench() {
     row("equal: 16 automata, 32 edges of 1", 1, |_| equal(16, 32, 1));
     row("equal, one variable more", 1, |_| equal(16, 32, 2));
     row("nested: 16 automata, 32 edges of up to 3", 1, |_| nested(16, 32, 3));
-    for k in [4, 6, 8, 9, 10] {
-        row(&format!("odd: {k} automata, 32 edges of 2 in {}, in two odd parts", 2 * k), 4, |s| odd(k, 32, k | 1, s));
+    for k in [4, 8, 10, 13, 16] {
+        row(&format!("odd: {k} automata, 32 edges of 2 in {}, in two odd parts", 2 * k), 8, |s| odd(k, 32, k | 1, s));
     }
+    row("16 automata, 32 edges of 2 in 31, in three odd parts", 8, |s| parts(16, 32, 2, &[11, 11, 9], s));
+    row("16 automata, 32 edges of 3 in 48, in parts of 25 and 23", 8, |s| parts(16, 32, 3, &[25, 23], s));
+    for k in [8, 10, 13, 16] {
+        row(&format!("uneven: {k} automata, 32 edges of 1 in {} and 1 in {}", k + 1, k - 1), 8, |s| {
+            uneven(k, 32, (1, 1), k + 1, k - 1, s)
+        });
+    }
+    row("uneven: 16 automata, 32 edges of 1 in 17 and 2 in 31", 8, |s| uneven(16, 32, (1, 2), 17, 31, s));
+    row("uneven: 16 automata, 32 edges of 2 in 33 and 1 in 15", 8, |s| uneven(16, 32, (2, 1), 33, 15, s));
+    for k in [8, 9, 10] {
+        row(&format!("even: {k} automata, 32 edges of 2 or none in {} and the rest of 3 in {}", odd_half(k), 3 * k - odd_half(k)), 4, |s| {
+            even(k, 32, odd_half(k), s)
+        });
+    }
+    for k in [7, 8] {
+        row(&format!("crossing: {k} automata, 32 edges of 2 in {}, four odd parts, joined by the first", 2 * k), 4, |s| crossing(k, 32, s));
+    }
+}
+
+fn odd_half(k: usize) -> usize {
+    (3 * k / 2) | 1
 }
 
 fn main() {

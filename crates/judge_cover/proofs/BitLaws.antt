@@ -80,7 +80,7 @@ unfolding bit
 bit-top x n h = ap (λ z. eqb (z % 2) 1) (ap (λ z. (z + x) / 2 ^ n) (sym (one-mul (2 ^ n))) ∙ high 1 n h)
 
 -- `&` of three numbers
-halves : (a b : ℕ) → (bitAnd a b / 2 ≡ bitAnd (a / 2) (b / 2)) × (bitAnd a b % 2 ≡ min (a % 2) (b % 2))
+pub halves : (a b : ℕ) → (bitAnd a b / 2 ≡ bitAnd (a / 2) (b / 2)) × (bitAnd a b % 2 ≡ min (a % 2) (b % 2))
 halves a b = (omega (arith, and-step a b), omega (arith, and-step a b))
 
 joined : (n a b c : ℕ) → a ≤ n → bitAnd (bitAnd a b) c ≡ bitAnd a (bitAnd b c)

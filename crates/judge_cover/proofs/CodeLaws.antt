@@ -220,13 +220,13 @@ module _ (starts ends : List ℕ) where
 pub ruleset filled-laws = (all-first, all-end, all-not, all-more)
 
 -- the edges of a group, by their places
-record Placed (masks : List ℕ) (a n r : ℕ) : Type 0 where
-  at : ℕ
-  low : a ≤ at
-  high : at < a + n
-  is : r ≡ getD masks at 0
+pub record Placed (masks : List ℕ) (a n r : ℕ) : Type 0 where
+  pub at : ℕ
+  pub low : a ≤ at
+  pub high : at < a + n
+  pub is : r ≡ getD masks at 0
 
-placed : (masks : List ℕ) (n a r : ℕ) → List·Memᴰ r (map (λ i. getD masks i 0) (countUp a n)) → Placed masks a n r
+pub placed : (masks : List ℕ) (n a r : ℕ) → List·Memᴰ r (map (λ i. getD masks i 0) (countUp a n)) → Placed masks a n r
 unfolding countUp
 placed masks zero a r h = absurd (List·Memᴰ·not-nil h)
 placed masks (suc n) a r h = go (λ i. placed masks n (suc a) r i) (List·Memᴰ·cases-cons h)

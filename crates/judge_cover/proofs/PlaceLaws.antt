@@ -1,5 +1,5 @@
 -- Where groups stand: one after the other, without one of them, and with one of them cut short; and each way out of
--- `places::laid`.
+-- `places::laid` and `places::short`.
 use mathlib.Core.Path.{_≡_, refl, sym, ap, ap₂, _∙_}
 use mathlib.Core.Bool.{Bool, true, false}
 use mathlib.Core.List.{List, _∷_, _++_, map, map-append}
@@ -103,6 +103,13 @@ module _ (starts ends : List ℕ) (n size : ℕ) (s : Laid starts ends n size) w
   -- the end of a group
   pub end-inside : (k : ℕ) → k < n → (b : ℕ) → b ≡ getD ends k 0 → b ≤ size
   end-inside k l b e = omega (arith, s .inside k l)
+
+  -- `short`
+  pub short-low : (end : ℕ) (r : Bool) → Last ends n end → end ≤ 128 → r ≡ true → Spans starts ends n 128
+  short-low end r e h t = record { near = λ k l. omega (arith, laid-last k l, e .some (omega arith)) }
+
+  pub short-near : (end a : ℕ) → Last ends n end → 128 < end → a ≡ getD starts 0 0 → leb (end - 128) a ≡ true → Spans starts ends n 128
+  short-near end a e g ea t = record { near = λ k l. omega (arith, laid-last k l, e .some (omega arith), leb-true (end - 128) a t) }
 
 pub spans-all : (starts ends : List ℕ) (n : ℕ) → Laid starts ends n 512 → Spans starts ends n 512
 spans-all starts ends n s = record { near = λ k l. omega (arith, s .inside k l) }

@@ -8,14 +8,14 @@ ghost use Rattle.judge_cover.specs.Cover.{within, leftBy, dominated, ski
 ghost use Rattle.judge_cover.specs.Steps.{Laid, NextNamed, SiftedTo};
 
 // How many variables there are in a set.
-pub(crate) fn size(u: u64) -> usize
+pub fn size(u: u64) -> usize
     ensures { λ r. ⌜ r ≡ ones u ⌝ }
 {
     u64::count_ones(u) as usize
 }
 
 // Is every variable of w in u?
-fn inside(w: u64, u: u64) -> bool
+pub fn inside(w: u64, u: u64) -> bool
     ensures { λ r. ⌜ r ≡ within w u ⌝ }
 {
     (w & u) == w

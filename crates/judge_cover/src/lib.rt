@@ -9,6 +9,10 @@ mod places;
 mod plain;
 mod seek;
 
+pub use edges::inside;
+pub use edges::size;
+pub use places::mask_at;
+pub use places::place;
 ghost use mathlib.Core.Path.{_≡_};
 ghost use Rattle.judge_cover.specs.Cover.{coverable, groupsOf};
 

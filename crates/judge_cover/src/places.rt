@@ -5,15 +5,15 @@ ghost use mathlib.Core.List.{List};
 ghost use Prim.Native.Nat.{ℕ, _≤_};
 ghost use lib.ListN.{length, getD};
 ghost use Rattle.judge_cover.specs.Cover.{past, groups, groupsOf, allFilled};
-ghost use Rattle.judge_cover.specs.Steps.{advanced, Without, InRow, Last};
+ghost use Rattle.judge_cover.specs.Steps.{advanced, Without, InRow, Laid, Spans, Last};
 
-pub(crate) fn mask_at(masks: &[u64], i: usize) -> u64
+pub fn mask_at(masks: &[u64], i: usize) -> u64
     ensures { λ r. ⌜ r ≡ getD (now (masks .entry)) i 0 ⌝ }
 {
     if i < masks.len() { masks[i] } else { 0 }
 }
 
-pub(crate) fn place(places: &[usize], k: usize) -> usize
+pub fn place(places: &[usize], k: usize) -> usize
     ensures { λ r. ⌜ r ≡ getD (now (places .entry)) k 0 ⌝ }
 {
     if k < places.len() { places[k] } else { 0 }
@@ -94,6 +94,19 @@ pub(crate) fn last(ends: &[usize], n: usize) -> usize
         return 0;
     }
     place(ends, n - 1)
+}
+
+// Would all edges of the groups have room in a list of length 128?
+pub(crate) fn short(starts: &[usize], ends: &[usize], n: usize) -> bool
+    requires { ⌜ n ≤ 16 ⌝ }
+    requires { ⌜ Laid (now starts) (now ends) n 512 ⌝ }
+    ensures { λ r. ⌜ (r ≡ true → Spans (now (starts .entry)) (now (ends .entry)) n 128) ⌝ }
+{
+    let end = last(ends, n);
+    if end <= 128 {
+        return true;
+    }
+    end - 128 <= place(starts, 0)
 }
 
 // The places of the takers' groups, one after the other, and how many there are.

@@ -34,6 +34,11 @@ pub(crate) fn seek(
     if total < edges::size(u) {
         return false;
     }
+    // to clear a list takes time, so most calls have a short one
+    if places::short(starts, ends, n) {
+        let mut few = [0u64; 128];
+        return narrowed(masks, starts, ends, gains, n, u, total, &mut few);
+    }
     let mut kept = [0u64; 512];
     narrowed(masks, starts, ends, gains, n, u, total, &mut kept)
 }

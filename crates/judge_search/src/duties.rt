@@ -50,7 +50,7 @@ pub fn seek(
         (now (first .entry)) (step .still) (step .changed) left at duties takers ⌝ }
 {
     if duties <= 1 {
-        return judge_cover::covered(masks, first, takers, step.changed);
+        return judge_bounds::covered(masks, first, takers, step.changed);
     }
     if left == 0 {
         return false;

@@ -33,6 +33,7 @@ use Rattle.judge_cover.proofs.edges.worth.Reads as worth-reads
 use Rattle.judge_cover.proofs.narrow.narrow.Reads as narrow-reads
 use Rattle.judge_cover.proofs.places.last.Reads as last-reads
 use Rattle.judge_cover.proofs.places.place.Reads as place-reads
+use Rattle.judge_cover.proofs.places.short.Reads as short-reads
 use Rattle.judge_cover.proofs.places.without.Reads as without-reads
 use Rattle.judge_cover.proofs.seek.+branch+narrowed+seek+tried.{statement}
 use Rattle.judge_cover.proofs.seek.+branch+narrowed+seek+tried.Tie.{close}
@@ -87,7 +88,7 @@ abbrev narrowed-calls : ℕ → narrowed-lts.Claims
 narrowed-calls t = (narrow-reads.Asked, narrow-reads.Learnt, size-reads.Asked, size-reads.Learnt, branch-below t, branch.Post)
 
 abbrev seek-calls : ℕ → seek-lts.Claims
-seek-calls t = (size-reads.Asked, size-reads.Learnt, narrowed-below t, narrowed.Post)
+seek-calls t = (size-reads.Asked, size-reads.Learnt, short-reads.Asked, short-reads.Learnt, narrowed-below t, narrowed.Post)
 
 abbrev tried-calls : ℕ → tried-lts.Claims
 tried-calls t = (without-reads.Asked, without-reads.Learnt, place-reads.Asked, place-reads.Learnt, worth-reads.Asked, worth-reads.Learnt, left-by-reads.Asked, left-by-reads.Learnt, seek-below t, seek.Post)
@@ -269,12 +270,37 @@ seek-size-requires t c κs = search needs
 seek-returns-2 : (t : ℕ) → seek-lts.Need-returns-2 (seek-calls t) (seek-at t) seek.Post
 seek-returns-2 t c = search (needs, seek-laws)
 
+seek-short-requires : (t : ℕ) → seek-lts.Need-short-requires (seek-calls t) (seek-at t) seek.Post
+seek-short-requires t c κs = search needs
+
 seek-slice-aggregate-narrowed : (t : ℕ) → seek-lts.Need-slice-aggregate-narrowed (seek-calls t) (seek-at t) seek.Post
 seek-slice-aggregate-narrowed t c = search needs
 
 seek-narrowed-requires : (t : ℕ) → seek-lts.Need-narrowed-requires (seek-calls t) (seek-at t) seek.Post
 seek-narrowed-requires t c κs =
-    let asked = c .before .before .before .before .before .before .before .before .pre .1 in (
+    let asked = c .before .before .before .before .before .before .before .before .before .before .pre .1 in (
+      search needs,
+      (
+        (asked .0, search needs),
+        (
+          asked .1 .0,
+          (
+            asked .1 .1 .0,
+            ((spans-size _ _ _ (replicate 128 0) 128 (search needs) (c .before .before .short .ensures (c .before .if3 .taken)), search needs), asked .1 .1 .1),
+          ),
+        ),
+      ),
+    )
+
+seek-returns-3 : (t : ℕ) → seek-lts.Need-returns-3 (seek-calls t) (seek-at t) seek.Post
+seek-returns-3 t c = search (needs, seek-laws)
+
+seek-slice-aggregate-narrowed-2 : (t : ℕ) → seek-lts.Need-slice-aggregate-narrowed-2 (seek-calls t) (seek-at t) seek.Post
+seek-slice-aggregate-narrowed-2 t c = search needs
+
+seek-narrowed-requires-2 : (t : ℕ) → seek-lts.Need-narrowed-requires-2 (seek-calls t) (seek-at t) seek.Post
+seek-narrowed-requires-2 t c κs =
+    let asked = c .before .before .before .before .before .before .before .before .before .before .pre .1 in (
       search needs,
       (
         (asked .0, search needs),
@@ -288,8 +314,8 @@ seek-narrowed-requires t c κs =
       ),
     )
 
-seek-returns-3 : (t : ℕ) → seek-lts.Need-returns-3 (seek-calls t) (seek-at t) seek.Post
-seek-returns-3 t c = search (needs, seek-laws)
+seek-returns-4 : (t : ℕ) → seek-lts.Need-returns-4 (seek-calls t) (seek-at t) seek.Post
+seek-returns-4 t c = search (needs, seek-laws)
 
 abbrev tried-Inv-loop : tried-lts.InvT-loop
 tried-Inv-loop masks starts ends gains n u total k v from to less rest a b i₀ i =
@@ -399,7 +425,7 @@ pub +branch+narrowed+seek+tried-spec : {M : Type 1} → statement M
     (λ t. narrowed-lts.spec (narrowed-calls t) (narrowed-at t)
     narrowed.Post (narrowed-narrow-requires t) (narrowed-size-requires t) (narrowed-same-length t) (narrowed-returns t) (narrowed-slice-aggregate-branch t) (narrowed-slice-aggregate-branch-2 t) (narrowed-branch-requires t) (narrowed-same-length-2 t) (narrowed-returns-2 t))
     (λ t. seek-lts.spec (seek-calls t) (seek-at t)
-    seek.Post (seek-returns t) (seek-size-requires t) (seek-returns-2 t) (seek-slice-aggregate-narrowed t) (seek-narrowed-requires t) (seek-returns-3 t))
+    seek.Post (seek-returns t) (seek-size-requires t) (seek-returns-2 t) (seek-short-requires t) (seek-slice-aggregate-narrowed t) (seek-narrowed-requires t) (seek-returns-3 t) (seek-slice-aggregate-narrowed-2 t) (seek-narrowed-requires-2 t) (seek-returns-4 t))
     λ t. tried-lts.spec (tried-calls t) (tried-at t)
     tried.Post
     tried-Inv-loop

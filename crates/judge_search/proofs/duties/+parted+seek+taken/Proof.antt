@@ -14,7 +14,7 @@ use Rattle.judge_search.proofs.duties.+parted+seek+taken.Lts-seek as se
 use Rattle.judge_search.proofs.duties.taken.Reads as taken
 use Rattle.judge_search.proofs.duties.taken.Kinds as taken-kinds
 use Rattle.judge_search.proofs.duties.+parted+seek+taken.Lts-taken as taken-lts
-use Rattle.judge_cover.proofs.covered.Reads as covered-reads
+use Rattle.judge_bounds.proofs.covered.Reads as covered-reads
 use Rattle.judge_search.proofs.duties.is_still.Reads as is-still-reads
 use Rattle.judge_search.proofs.duties.power.Reads as power-reads
 use Rattle.table_tree.proofs.in_set.Reads as in-set-reads

@@ -1,0 +1,4 @@
+pub mod BoundLaws
+pub mod WeightLaws
+pub mod RoundLaws
+pub mod PartLaws
