@@ -1,5 +1,6 @@
 // The takers' edges: those of automaton k stand from `first[k]` up to `first[k + 1]`.
 use judge_cover::place;
+use judge_cover::size;
 ghost use mathlib.Core.Path.{_≡_};
 ghost use Prim.Native.Nat.{_+_, _≤_};
 ghost use lib.ListN.{length};
@@ -58,8 +59,11 @@ fn choices(first: &[usize], takers: u64, k: usize) -> usize
     if 512 < to - from { 512 } else { to - from }
 }
 
-// Have many takers many edges, and none of them none?
+// Have many takers many edges, and none of them none? Few takers, as on most sheets, are told at once.
 pub(crate) fn many(first: &[usize], takers: u64) -> bool {
+    if size(takers) < TAKERS {
+        return false;
+    }
     let mut filled = 0;
     let mut all = 0;
     let mut k = 0;
@@ -69,5 +73,5 @@ pub(crate) fn many(first: &[usize], takers: u64) -> bool {
         all += some;
         k += 1;
     }
-    (TAKERS <= filled) & (EDGES <= all) & (filled == count(takers))
+    (EDGES <= all) & (filled == count(takers))
 }
