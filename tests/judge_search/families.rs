@@ -122,6 +122,18 @@ pub fn crossing(k: usize, edges: usize, seed: u64) -> Sheet {
     sheet
 }
 
+/// Automata in groups, one of which takes the action for its group: each choice of them is a set of takers of its own.
+pub fn choices(groups: usize, each: usize, edges: usize, size: usize, variables: usize, seed: u64) -> Sheet {
+    let mut sheet = random(groups * each, edges, size, variables, seed);
+    for a in &mut sheet.automata {
+        a.shares = false;
+    }
+    let beside = |c, d| Tree::Par(Box::new(c), Box::new(d));
+    let group = |g: usize| Tree::Syn(Box::new((1..each).fold(Tree::Leaf(g * each), |c, k| beside(c, Tree::Leaf(g * each + k)))));
+    sheet.tree = (1..groups).fold(group(0), |c, g| beside(c, group(g)));
+    sheet
+}
+
 /// A small sheet of any shape, and a step of it.
 pub fn small(r: &mut Random) -> (Sheet, Step) {
     let n = 1 + r.below(4);

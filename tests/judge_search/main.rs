@@ -2,7 +2,7 @@
 mod families;
 mod sheets;
 
-use families::{crossing, dead, equal, even, nested, odd, parts, random, small, split, uneven, Random};
+use families::{choices, crossing, dead, equal, even, nested, odd, parts, random, small, split, uneven, Random};
 use sheets::{brute_force, judge, Sheet, Step};
 use std::time::Instant;
 
@@ -177,6 +177,7 @@ fn bench() {
             even(k, 32, odd_half(k), s)
         });
     }
+    row("choices: 8 times one of 2 automata, 16 edges of 4 in 32", 4, |s| choices(8, 2, 16, 4, 32, s));
     for k in [7, 8] {
         row(&format!("crossing: {k} automata, 32 edges of 2 in {}, four odd parts, joined by the first", 2 * k), 4, |s| crossing(k, 32, s));
     }

@@ -1,15 +1,15 @@
 -- Why a bound says no: let W be a number of each set of uncovered variables, which no edge of a group lowers by more than
 -- the group's bound, whatever else is covered already. Then a cover takes off no more than the bounds together.
 use mathlib.Core.Path.{_≡_, refl, sym, ap, _∙_, subst}
-use mathlib.Core.Bool.{Bool, true, false}
-use mathlib.Core.List.{List, [], _∷_, _++_, map, map-append, append-assoc, append-nil, List·Memᴰ, List·Memᴰ·head, List·Memᴰ·tail, List·Memᴰ·not-nil}
-use Prim.Native.Nat.{ℕ, zero, suc, _+_, _-_, _≤_, _<_}
+use mathlib.Core.Bool.{true, false}
+use mathlib.Core.List.{List, [], _∷_, _++_, map, map-append, append-assoc, append-nil, List·Memᴰ, List·Memᴰ·head, List·Memᴰ·tail}
+use Prim.Native.Nat.{ℕ, suc, _+_, _-_, _≤_, _<_}
 use native.Mathlib.Omega.{arith}
 use native.Mathlib.Numerals.{add-one}
 use lib.ListN.{length, getD, length-map}
 use lib.Bits.{bitAnd}
 use borrow.Author.Tests.{eqb-true}
-use Rattle.model.specs.Basic.{exists, keep, countUp}
+use Rattle.model.specs.Basic.{keep, countUp}
 use Rattle.model.specs.Table.{bit}
 use Rattle.model.proofs.Tests.{exists-elim}
 use Rattle.model.proofs.Lists.{keep-append, keep-first, keep-skip}
@@ -34,16 +34,31 @@ pub record Lowered (W : ℕ → ℕ) (gs : List (List ℕ)) (total : ℕ) : Type
 pub lowered-none : (W : ℕ → ℕ) → Lowered W [] 0
 lowered-none W = record { each = λ hs s h. record { at = s; covers = h; less = omega arith } }
 
-pub lowered-more : (W : ℕ → ℕ) (gs : List (List ℕ)) (total : ℕ) (g : List ℕ) (b : ℕ) → Lowered W gs total → Lowers W g b
-    → Lowered W (gs ++ g ∷ []) (total + b)
+pub lowered-one : (W : ℕ → ℕ) (g : List ℕ) (b : ℕ) → Lowers W g b → Lowered W (g ∷ []) b
 unfolding coverable
-lowered-more W gs total g b l o = record { each = more }
+lowered-one W g b o = record { each = one }
   where
-    more : (hs : List (List ℕ)) (s : ℕ) → coverable ((gs ++ g ∷ []) ++ hs) s ≡ true → Left W hs s (total + b)
-    more hs s h =
-        let a = l .each (g ∷ hs) s (sym (ap (λ x. coverable x s) (append-assoc gs (g ∷ []) hs)) ∙ h) in
-        let e = exists-elim (λ r. coverable hs (bitAnd (a .at) r)) g (a .covers) in
-        record { at = bitAnd (a .at) (e .0); covers = e .2; less = omega (arith, a .less, o (e .0) (e .1) (a .at)) }
+    one : (hs : List (List ℕ)) (s : ℕ) → coverable (g ∷ hs) s ≡ true → Left W hs s b
+    one hs s h =
+        let e = exists-elim (λ r. coverable hs (bitAnd s r)) g h in
+        record { at = bitAnd s (e .0); covers = e .2; less = o (e .0) (e .1) s }
+
+pub lowered-append : (W : ℕ → ℕ) (fs gs : List (List ℕ)) (a b : ℕ) → Lowered W fs a → Lowered W gs b → Lowered W (fs ++ gs) (a + b)
+lowered-append W fs gs a b x y = record { each = both }
+  where
+    both : (hs : List (List ℕ)) (s : ℕ) → coverable ((fs ++ gs) ++ hs) s ≡ true → Left W hs s (a + b)
+    both hs s h =
+        let c = x .each (gs ++ hs) s (sym (ap (λ l. coverable l s) (append-assoc fs gs hs)) ∙ h) in
+        let d = y .each hs (c .at) (c .covers) in
+        record { at = d .at; covers = d .covers; less = omega (arith, c .less, d .less) }
+
+-- by one for each group
+pub lowered-all : (W : ℕ → ℕ) (gs : List (List ℕ)) → ((g : List ℕ) → List·Memᴰ g gs → Lowers W g 1) → Lowered W gs (length gs)
+lowered-all W [] f = lowered-none W
+lowered-all W (g ∷ gs) f =
+    let e : 1 + length gs ≡ length (g ∷ gs) = omega arith in
+    subst (Lowered W (g ∷ gs)) e
+    (lowered-append W (g ∷ []) gs 1 (length gs) (lowered-one W g 1 (f g (List·Memᴰ·head refl))) (lowered-all W gs (λ h i. f h (List·Memᴰ·tail i))))
 
 pub lowered-done : (W : ℕ → ℕ) (gs : List (List ℕ)) (total : ℕ) → Lowered W gs total → W 0 ≡ 0 → (s : ℕ) → coverable gs s ≡ true → W s ≤ total
 unfolding coverable

@@ -1,25 +1,24 @@
--- How many edges parts need: an edge lowers the number by no more than one. And each way out of src/parts.rt.
+-- How many edges parts need: an edge lowers the number by no more than one, so BoundLaws says how many a cover has. And each way out of src/parts.rt.
 use mathlib.Core.Path.{_≡_, refl, sym, ap, _∙_, subst}
-use mathlib.Core.Bool.{Bool, true, false, true≢false, _&&_, not}
+use mathlib.Core.Bool.{Bool, true, false, true≢false, _&&_}
 use mathlib.Core.List.{List, [], _∷_, _++_, List·Memᴰ, List·Memᴰ·head, List·Memᴰ·tail, List·Memᴰ·cases-cons, List·Memᴰ·not-nil}
 use mathlib.Core.Logic.{_⊎_, inl, inr}
-use Prim.Native.Nat.{ℕ, zero, suc, _+_, _-_, _*_, _/_, _^_, _≤_, _<_}
+use Prim.Native.Nat.{ℕ, suc, _+_, _-_, _*_, _/_, _^_, _≤_, _<_}
 use native.Mathlib.Omega.{arith}
 use native.Mathlib.Nat.{div-eq-of-lt, div-le-self, div-lt-iff-lt-mul, lt-mul-div-succ, mul-add, mul-one, mul-comm, add-mul}
 use lib.ListN.{length, getD}
 use lib.Bits.{bitAnd, and-self, and-zero-r}
 use lib.Count.{ones, onesIn, ones-le}
 use lib.Dec.{ltb}
-use borrow.Author.Tests.{eqb-true, ltb-true}
-use Rattle.model.specs.Basic.{keep, countUp}
+use borrow.Author.Tests.{ltb-true}
 use Rattle.model.specs.Table.{bit}
-use Rattle.model.proofs.Tests.{and-left, and-right, exists-elim}
+use Rattle.model.proofs.Tests.{and-left, and-right}
 use Rattle.judge_cover.specs.Cover.{coverable, group, groupsOf, within}
 use Rattle.judge_cover.proofs.BitLaws.{and-assoc, and-swap, parts-cover-less}
 use Rattle.judge_cover.proofs.CodeLaws.{other}
 use Rattle.judge_cover.proofs.CoverLaws.{within-is}
 use Rattle.judge_bounds.specs.Bounds.{takersTo, groupsTo, Fits, AllFit, Fitted, EdgeFitted, GroupFitted, TakerFitted, TakersFit, AtLeast, Sound, pieces}
-use Rattle.judge_bounds.proofs.BoundLaws.{groups-more, groups-same, groups-none, groups-all, groups-length, each-edge}
+use Rattle.judge_bounds.proofs.BoundLaws.{Lowers, lowered-all, lowered-done, groups-more, groups-same, groups-none, groups-all, groups-length, each-edge}
 
 -- `fit`, `fit_all`, `fit_of`, `most`
 pub fits-more : (part out m n r : ℕ) → m ≤ n → Fits part out m r → Fits part out n r
@@ -188,7 +187,7 @@ inner part rest r e h = ap (λ x. bitAnd x r) (sym e) ∙ and-assoc part rest r 
 -- mentions nothing of the rest.
 pub record Counted (gs : List (List ℕ)) (u rest need : ℕ) : Type 0 where
   pub W : ℕ → ℕ
-  pub one : (g : List ℕ) → List·Memᴰ g gs → (r : ℕ) → List·Memᴰ r g → (s : ℕ) → W s ≤ suc (W (bitAnd s r))
+  pub one : (g : List ℕ) → List·Memᴰ g gs → Lowers W g 1
   pub apart : (g : List ℕ) → List·Memᴰ g gs → (r : ℕ) → List·Memᴰ r g → ((s : ℕ) → W (bitAnd s r) ≡ W s) ⊎ (bitAnd rest r ≡ rest)
   pub none : W 0 ≡ 0
   pub all : need ≡ W u
@@ -210,10 +209,10 @@ module _ (gs : List (List ℕ)) (u rest need : ℕ) (c : Counted gs u rest need)
   abbrev more : ℕ → ℕ
   more s = c .W s + pieces m (bitAnd part s)
 
-  one-more : (g : List ℕ) → List·Memᴰ g gs → (r : ℕ) → List·Memᴰ r g → (s : ℕ) → more s ≤ suc (more (bitAnd s r))
+  one-more : (g : List ℕ) → List·Memᴰ g gs → Lowers more g 1
   one-more g i r j s = go (c .apart g i r j) (fit g i r j)
     where
-      go : ((s : ℕ) → c .W (bitAnd s r) ≡ c .W s) ⊎ (bitAnd rest r ≡ rest) → Fits part out m r → more s ≤ suc (more (bitAnd s r))
+      go : ((s : ℕ) → c .W (bitAnd s r) ≡ c .W s) ⊎ (bitAnd rest r ≡ rest) → Fits part out m r → more s ≤ 1 + more (bitAnd s r)
       go (inl same) (inl e) = omega (arith, same s, ap (pieces m) (left-alone part r s e))
       go (inl same) (inr (e, l)) = omega (arith, same s, pieces-fewer part m r s p l)
       go (inr e) f = omega (arith, c .one g i r j s, ap (pieces m) (left-alone part r s (inner part rest r part-in e)))
@@ -235,15 +234,6 @@ module _ (gs : List (List ℕ)) (u rest need : ℕ) (c : Counted gs u rest need)
     all = omega (arith, c .all, ap (pieces m) (inner part rest u part-in (c .inside)));
     inside = inner out rest u out-in (c .inside);
   }
-
--- So a cover has as many edges.
-enough : (W : ℕ → ℕ) (gs : List (List ℕ)) → ((g : List ℕ) → List·Memᴰ g gs → (r : ℕ) → List·Memᴰ r g → (s : ℕ) → W s ≤ suc (W (bitAnd s r)))
-    → (s : ℕ) → coverable gs s ≡ true → W s ≤ length gs + W 0
-unfolding coverable
-enough W [] f s h = omega (arith, ap W (eqb-true s 0 h))
-enough W (g ∷ gs) f s h =
-    let e = exists-elim (λ r. coverable gs (bitAnd s r)) g h in
-    omega (arith, f g (List·Memᴰ·head refl) (e .0) (e .1) s, enough W gs (λ k i. f k (List·Memᴰ·tail i)) (bitAnd s (e .0)) (e .2))
 
 -- `sound`
 pub sound-is : (rest part out m : ℕ) (a b c : Bool) → a ≡ within part rest → a ≡ true → b ≡ within out rest → b ≡ true → c ≡ true
@@ -274,11 +264,13 @@ module _ (masks first : List ℕ) (takers u : ℕ) where
       counted = rw e (counted-more (groupsOf masks first takers) u rest need (s .counted) part out m (x .some) (within-is part rest (x .inside)) (within-is out rest (x .outside)) (f (x .some) .each));
     }
 
+    -- a cover has as many edges
     pub needing-done : AtLeast masks first takers u need
     needing-done = record {
       enough = λ h.
           let c = s .counted in
-          omega (arith, enough (c .W) (groupsOf masks first takers) (c .one) u h, c .all, c .none);
+          let gs = groupsOf masks first takers in
+          omega (arith, lowered-done (c .W) gs (length gs) (lowered-all (c .W) gs (c .one)) (c .none) u h, c .all);
     }
 
 pub ruleset needing-laws = (needing-first, needing-more, needing-done)

@@ -1,19 +1,19 @@
 -- Each way out of src/edges.rt and src/rounds.rt.
 use mathlib.Core.Path.{_≡_, refl, sym, ap, _∙_}
 use mathlib.Core.Bool.{Bool, true, false, true≢false}
-use mathlib.Core.List.{List, [], _∷_, List·Memᴰ}
-use mathlib.Core.Logic.{_⊎_, inl, inr}
-use Prim.Native.Nat.{ℕ, zero, suc, _+_, _-_, _*_, _≤_, _<_, max}
+use mathlib.Core.List.{List, [], _∷_}
+use mathlib.Core.Logic.{inl, inr}
+use Prim.Native.Nat.{ℕ, _+_, _*_, _≤_, _<_, max}
 use native.Mathlib.Omega.{arith}
 use lib.ListN.{length, getD, length-append}
-use lib.Bits.{bitAnd, and-self, and-zero-r, and-le-l}
+use lib.Bits.{bitAnd, and-self, and-zero-r}
 use Rattle.model.specs.Basic.{keep, countUp}
 use Rattle.model.specs.Table.{bit}
 use Rattle.judge_cover.specs.Cover.{coverable, group, groupsOf}
 use Rattle.judge_cover.specs.Steps.{advanced}
 use Rattle.judge_cover.proofs.CodeLaws.{other}
 use Rattle.judge_bounds.specs.Bounds.{takersTo, groupsTo, weight, covers, TakesAtMost, TakerTakes}
-use Rattle.judge_bounds.proofs.BoundLaws.{Lowered, lowered-none, lowered-more, lowered-done, takers-more, takers-same, groups-more, groups-same, groups-none, groups-all, each-edge}
+use Rattle.judge_bounds.proofs.BoundLaws.{Lowered, lowered-none, lowered-one, lowered-append, lowered-done, takers-more, takers-same, groups-more, groups-same, groups-none, groups-all, each-edge}
 use Rattle.judge_bounds.proofs.WeightLaws.{weight-zero, weight-lowers}
 
 -- `count`
@@ -77,9 +77,6 @@ module _ (masks : List ℕ) (from : ℕ) (ws : List ℕ) (u : ℕ) where
 
 pub ruleset choosing-laws = (choosing-first, choosing-more, choosing-done)
 
-pub taken-fits : (u r : ℕ) → bitAnd u r ≤ u
-taken-fits u r = and-le-l u r
-
 -- `best_of`
 pub takes-taker : (masks first : List ℕ) (takers k : ℕ) (ws : List ℕ) (u took a b : ℕ) → a ≡ getD first k 0 → b ≡ getD first (k + 1) 0
     → TakesAtMost ws u (group masks a b) took → TakerTakes masks first takers k ws u took
@@ -115,8 +112,8 @@ module _ (masks first : List ℕ) (takers : ℕ) (ws : List ℕ) (u : ℕ) where
       where
         go : (b : Bool) → bit takers k ≡ b → Lowered (λ s. weight ws (bitAnd u s)) (groupsTo masks first takers (k + 1)) (total + took)
         go true x = rw (groups-more masks first takers k x)
-            (lowered-more (λ s. weight ws (bitAnd u s)) (groupsTo masks first takers k) total _ took (s .lowered)
-            (weight-lowers ws u _ took (t .each x)))
+            (lowered-append (λ s. weight ws (bitAnd u s)) (groupsTo masks first takers k) _ total took (s .lowered)
+            (lowered-one (λ s. weight ws (bitAnd u s)) _ took (weight-lowers ws u _ took (t .each x))))
         go false x = rw (groups-same masks first takers k x) (record {
           each = λ hs v c.
               let a = s .lowered .each hs v c in
@@ -140,11 +137,3 @@ module _ (masks first : List ℕ) (takers : ℕ) (ws : List ℕ) (u : ℕ) where
             absurd (omega (arith, w, ap (weight ws) (and-self u)))
 
 pub ruleset summing-laws = (summing-first, summing-more, summing-done)
-
--- `short`
-pub round-short : (masks first : List ℕ) (takers u total all : ℕ) → (total < all → coverable (groupsOf masks first takers) u ≡ false) → total < all
-    → (r : Bool) → r ≡ true → coverable (groupsOf masks first takers) u ≡ false
-round-short masks first takers u total all h l r e = h l
-
-pub round-long : (masks first : List ℕ) (takers u : ℕ) (r : Bool) → r ≡ false → r ≡ true → coverable (groupsOf masks first takers) u ≡ false
-round-long masks first takers u r e h = absurd (true≢false (sym h ∙ e))

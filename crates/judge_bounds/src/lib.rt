@@ -1,7 +1,6 @@
 // Can the automata that take an action each choose one of their edges so that every changed variable is mentioned?
 // Where many edges could be chosen, counting is tried before the search (judge_cover): by parts of the variables that
-// no edge joins, and by weights of the variables. Why a count that falls short says no: proofs/BoundLaws.antt for the
-// weights, proofs/PartLaws.antt for the parts.
+// no edge joins, and by weights of the variables. Why a count that falls short says no: proofs/BoundLaws.antt.
 mod balance;
 mod edges;
 mod parts;

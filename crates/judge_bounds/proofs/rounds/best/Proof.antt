@@ -1,4 +1,5 @@
-use Rattle.judge_bounds.proofs.RoundLaws.{Choosing, choosing-laws, taken-fits}
+use Rattle.judge_bounds.proofs.RoundLaws.{Choosing, choosing-laws}
+use lib.Bits.{and-le-l}
 use Prim.Native.Nat.{_-_, _≤_, _<_}
 use borrow.Author.Needs.{needs}
 use Rattle.judge_bounds.proofs.rounds.best.Statement.{statement}
@@ -25,7 +26,7 @@ mask-at-requires c κs = search needs
 
 -- src/rounds.rt:50:44
 sub-weigh : tie.Need-sub-weigh Inv-loop μ-loop
-sub-weigh c = search (needs, taken-fits)
+sub-weigh c = search (needs, and-le-l)
 
 -- src/rounds.rt:50:13
 weigh-requires : tie.Need-weigh-requires Inv-loop μ-loop

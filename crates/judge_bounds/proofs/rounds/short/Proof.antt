@@ -1,5 +1,4 @@
-use Rattle.judge_bounds.proofs.RoundLaws.{round-short, round-long}
-use mathlib.Core.Bool.{true}
+use Rattle.model.proofs.Tests.{never}
 use Prim.Native.Nat.{_-_, _≤_, _<_}
 use lib.ListN.{length}
 use mathlib.Core.Path.{_≡_}
@@ -32,11 +31,11 @@ round-requires c κs = search needs
 
 -- src/rounds.rt:111:13
 returns : tie.Need-returns Inv-loop μ-loop
-returns c = round-short _ _ _ _ _ _ (c .before .before .round .ensures .1) (c .if1 .taken) true
+returns c = λ e. c .before .before .round .ensures .1 (c .if1 .taken)
 
 -- src/rounds.rt:114:13
 returns-2 : tie.Need-returns-2 Inv-loop μ-loop
-returns-2 c = search (needs, round-long)
+returns-2 c = search (needs, never)
 
 -- src/rounds.rt:117:9
 sub-left : tie.Need-sub-left Inv-loop μ-loop
@@ -56,7 +55,7 @@ loop-again c = search needs
 
 -- src/rounds.rt:101:1
 returns-3 : tie.Need-returns-3 Inv-loop μ-loop
-returns-3 c = search (needs, round-long)
+returns-3 c = search (needs, never)
 
 pub short-spec : {M : Type 1} → statement M
 short-spec =
