@@ -15,12 +15,12 @@
  *
  * Time. Reading, writing and merging take time that the limits of a sheet bound. Each call of a judge checks the
  * whole table first, which is most of a short call's time; sheet_run checks it once for a list. The environment judge
- * then looks once at each automaton. The step judge searches for edges that can be taken together, and the search is
- * exact. On a sheet that somebody wrote for an oven it takes microseconds; on the hard sheets of docs/BENCHMARKS.md, up
- * to 16 automata with 512 edges over 48 variables, under a second. No bound is known that would be of use: the
- * question is NP-hard, and a sheet can be made on purpose on which a call takes longer than anybody waits; two families
- * of such sheets are named there. A host that takes sheets from strangers tries them first, or calls the step judge
- * where it can be given up. */
+ * then looks once at each automaton and at each start condition. The step judge searches for edges that can be taken
+ * together, and the search is exact. On a sheet that somebody wrote for an oven it takes microseconds; on the hard
+ * sheets of docs/BENCHMARKS.md, up to 16 automata with 512 edges over 48 variables, under a second. No bound is known
+ * that would be of use: the question is NP-hard, and a sheet can be made on purpose on which a call takes longer than
+ * anybody waits; two families of such sheets are named there. A host that takes sheets from strangers tries them first,
+ * or calls the step judge where it can be given up. */
 #ifndef HEMDOQUR_H
 #define HEMDOQUR_H
 
@@ -115,7 +115,7 @@ static inline const char *sheet_sentence(uint32_t number)
     case 5: return "a list of actions does not rise, or has 0 or an action above the highest";
     case 6: return "this is no predicate";
     case 7: return "the sheet has no such variable";
-    case 8: return "an init or inv cannot have a new value";
+    case 8: return "an init, an inv or a start condition cannot have a new value";
     case 9: return "the predicate is deeper than 24";
     case 10: return "an expression can leave the 32-bit numbers";
     case 11: return "with this line the predicates have more than 4,096 nodes";

@@ -4,7 +4,7 @@ use mathlib.Core.Path.{_≡_, refl, sym, _∙_, ap}
 use mathlib.Core.Bool.{Bool, true, false}
 use mathlib.Core.List.{List, [], _∷_, _++_, append-assoc, append-nil, flatMap}
 use native.Mathlib.Omega.{arith}
-use borrow.Author.Tests.{eqb-true, eq-eqb, ne-eqb}
+use borrow.Author.Tests.{eqb-true, eqb-false, eq-eqb, ne-eqb}
 use lib.Dec.{eqb}
 use Rattle.model.specs.Basic.{same}
 use Rattle.format.specs.Bytes.{Bytes, joined, ledBy, onto, parts}
@@ -18,6 +18,10 @@ module _ {A : Type 0} where
   pub each-append : (P : A → Type 0) (s t : List A) → Each P s → Each P t → Each P (s ++ t)
   each-append P [] t h k = k
   each-append P (x ∷ s) t h k = (h .0, each-append P s t (h .1) k)
+
+  pub each-left : (P : A → Type 0) (s t : List A) → Each P (s ++ t) → Each P s
+  each-left P [] t h = tt
+  each-left P (x ∷ s) t h = (h .0, each-left P s t (h .1))
 
   pub each-map : (P Q : A → Type 0) → ((x : A) → P x → Q x) → (s : List A) → Each P s → Each Q s
   each-map P Q f [] h = tt
@@ -49,11 +53,30 @@ unfolding onto
 parts-seam c [] t h = parts-at c c t refl
 parts-seam c (b ∷ s) t h = parts-on c b (s ++ c ∷ t) (h .0) ∙ ap (onto b) (parts-seam c s t (h .1))
 
+-- no part has the byte that parts them
+pub parts-each : (c : ℕ) (s : Bytes) → Each (Free c) (parts c s)
+unfolding parts onto
+parts-each c [] = (tt, tt)
+parts-each c (b ∷ s) = go (eqb b c) refl (parts-each c s)
+  where
+    first : (ss : List Bytes) → (b ≡ c → ⊥) → Each (Free c) ss → Each (Free c) (onto b ss)
+    first [] n h = ((n, tt), tt)
+    first (t ∷ ts) n h = ((n, h .0), h .1)
+
+    go : (v : Bool) → eqb b c ≡ v → Each (Free c) (parts c s) → Each (Free c) (elim v as (λ x. List Bytes) [ true ↦ [] ∷ parts c s | false ↦ onto b (parts c s) ])
+    go true e h = (tt, h)
+    go false e h = first (parts c s) (eqb-false b c e) h
+
 -- what is joined comes apart
 pub parts-joined : (c : ℕ) (s : Bytes) (ss : List Bytes) → Free c s → Each (Free c) ss → parts c (joined c (s ∷ ss)) ≡ s ∷ ss
 unfolding joined ledBy
 parts-joined c s [] h k = rw append-nil (parts-free c s h)
 parts-joined c s (u ∷ us) h k = parts-seam c s (u ++ ledBy c us) h ∙ ap (λ l. s ∷ l) (parts-joined c u us (k .0) (k .1))
+
+pub led-append : (c : ℕ) (xs ys : List Bytes) → ledBy c (xs ++ ys) ≡ ledBy c xs ++ ledBy c ys
+unfolding ledBy
+led-append c [] ys = refl
+led-append c (x ∷ xs) ys = ap (λ (l : Bytes). c ∷ l) (ap (λ (l : Bytes). x ++ l) (led-append c xs ys) ∙ sym (append-assoc x (ledBy c xs) (ledBy c ys)))
 
 led-each : (P : ℕ → Type 0) (c : ℕ) (ts : List Bytes) → P c → Each (Each P) ts → Each P (ledBy c ts)
 unfolding ledBy

@@ -10,7 +10,7 @@ use lib.Dec.{eqb}
 use lib.ListN.{length, getD, drop}
 use Rattle.model.specs.Basic.{orElse}
 use Rattle.model.specs.Composition.{Tree, leaf}
-use Rattle.model.specs.Limits.{listsFilled}
+use Rattle.model.specs.Limits.{listsFilled, treeInRange}
 use Rattle.model.specs.Lines.{Entry, Key, actions, actionsLine, automata, automataLine, compose, composeLine, edge, edgeLine, edges, edgesLine, format, formatLine, init, initLine, inv, invLine, keyOf, locations, locationsLine, sync, syncLine, variable, variableLine, variables, variablesLine}
 use Rattle.model.specs.Parse.{readPred, readTree}
 use Rattle.model.specs.Predicate as P
@@ -18,9 +18,9 @@ use Rattle.model.specs.Predicate.{Pred, all, range}
 use Rattle.format.specs.Bytes.{Bytes, LF, comma, joined, ledBy, parts}
 use Rattle.format.specs.Number.{naturalOf, decimal, integerOf, signed}
 use Rattle.format.specs.Reader.{linesOf, ontoLine}
-use Rattle.format.specs.Rows.{Line, entry, field, fields, is, listItems, place, predOf, predTokens, wordsIn, syncList, thePred, theRange, theTree, treeTokens, nodesIn, treeOf, valueOf}
+use Rattle.format.specs.Rows.{Line, entry, field, fields, is, listItems, place, predOf, predTokens, wordsIn, syncList, thePred, theRange, theTree, treeTokens, startsOf, theStarts, nodesIn, treeOf, valueOf}
 use Rattle.format.specs.Spelling.{lineText, spelling, textOfList, textOfPred, textOfTree, valueText}
-use Rattle.format.specs.Tokens.{readNodes, readWords, tokens}
+use Rattle.format.specs.Tokens.{readWords, tokens}
 use Rattle.format.proofs.BytesLaws.{Each, Free, parts-free, parts-joined}
 use Rattle.format.proofs.LineLaws.{lineOf}
 use Rattle.format.proofs.NumberLaws.{leading}
@@ -28,6 +28,7 @@ use Rattle.format.proofs.PredText.{text-read}
 use Rattle.format.proofs.Spans.{Span, decimal-free, line-span, pred-free, signed-free}
 use Rattle.format.proofs.TokenLaws.{count-decimal, integer-signed}
 use Rattle.format.proofs.TreeRead.{counts-back, list-parts, tree-read}
+use Rattle.format.proofs.TreeText.{readComposed}
 
 -- a text comes apart into its lines
 lines-at : (t : Bytes) → linesOf (LF ∷ t) ≡ record { bytes = []; ended = true } ∷ linesOf t
@@ -122,7 +123,7 @@ the-tree : (c : Tree) → composeLine (orElse (leaf 0) (some c)) ≡ composeLine
 unfolding orElse
 the-tree c = refl
 
--- no list in the entry's tree is empty
+-- no list in the entry's tree is empty, and its numbers are in range
 abbrev pub ListedEntry : Entry → Type 0
 ListedEntry (formatLine n) = Unit
 ListedEntry (actionsLine n) = Unit
@@ -135,11 +136,11 @@ ListedEntry (initLine p) = Unit
 ListedEntry (invLine p) = Unit
 ListedEntry (edgesLine n) = Unit
 ListedEntry (edgeLine e) = Unit
-ListedEntry (composeLine c) = listsFilled c ≡ true
+ListedEntry (composeLine c) = (listsFilled c ≡ true) × (treeInRange c ≡ true)
 
 -- what an entry's line says is the entry
 pub entry-line : (e : Entry) → ListedEntry e → entry (keyOf e) (lineOf e) ≡ e
-unfolding entry keyOf valueText fields field is place valueOf thePred predOf wordsIn predTokens theTree treeOf treeTokens nodesIn syncList theRange range
+unfolding entry keyOf valueText fields field is place valueOf thePred predOf wordsIn predTokens theTree treeOf treeTokens nodesIn startsOf theStarts syncList theRange range
 entry-line (formatLine n) h = ap (λ s. formatLine (naturalOf s)) (sole-field format (decimal n) (decimal-free n)) ∙ ap formatLine (count-decimal n)
 entry-line (actionsLine n) h = ap (λ s. actionsLine (naturalOf s)) (sole-field actions (decimal n) (decimal-free n)) ∙ ap actionsLine (count-decimal n)
 entry-line (variablesLine n) h = ap (λ s. variablesLine (naturalOf s)) (sole-field variables (decimal n) (decimal-free n)) ∙ ap variablesLine (count-decimal n)
@@ -156,4 +157,4 @@ entry-line (edgeLine e) h =
     ap (λ l. edgeLine (record { from = naturalOf (getD l 0 []); action = naturalOf (getD l 1 []); to = naturalOf (getD l 2 []); update = orElse (all P.none) (readPred (readWords (tokens (getD l 3 [])))) }))
     (more-fields edge (decimal (e .from)) (decimal (e .action) ∷ decimal (e .to) ∷ textOfPred (e .update) ∷ []) (decimal-free (e .from)) (decimal-free (e .action), (decimal-free (e .to), (pred-free (e .update), tt)))) ∙
     rw (count-decimal (e .from), count-decimal (e .action), count-decimal (e .to), pred-back (textOfPred (e .update)) (e .update) refl)
-entry-line (composeLine c) h = ap (λ s. composeLine (orElse (leaf 0) (readTree (readNodes (tokens s))))) (dropped (spelling compose) (textOfTree c)) ∙ ap (λ o. composeLine (orElse (leaf 0) o)) (tree-read c h) ∙ the-tree c
+entry-line (composeLine c) h = ap (λ s. composeLine (orElse (leaf 0) (readTree (readComposed [] (tokens s))))) (dropped (spelling compose) (textOfTree c)) ∙ ap (λ o. composeLine (orElse (leaf 0) o)) (tree-read c (h .1) (h .0)) ∙ the-tree c

@@ -5,19 +5,19 @@ use mathlib.Core.Bool.{Bool, true, false, not}
 use mathlib.Core.List.{List, [], _∷_, _++_, map, flatMap}
 use mathlib.Core.Option.{Option, none, some}
 use native.Mathlib.Omega.{arith}
-use borrow.Author.Tests.{ltb-false, le-ltb, not-false}
+use borrow.Author.Tests.{ltb-false, le-ltb}
 use lib.Dec.{ltb}
 use lib.ListN.{length}
 use Rattle.model.specs.Basic.{lacks}
 use Rattle.model.specs.Bounds.{maxBytes, tableWords}
 use Rattle.model.specs.Table.{row18}
-use Rattle.model.specs.Limits.{faultOf, limits, listsFilled, numbersInRange, contentFault, treeRises, withinLimits}
+use Rattle.model.specs.Limits.{faultOf, limits, numbersInRange, withinLimits}
 use Rattle.model.specs.Lines.{Entry, Key, Reading, actionsLine, atFirst, automataLine, composeLine, dueAtFirst, edgeLine, edgesLine, formatLine, initLine, invLine, keyOf, lines, locationsLine, syncLine, noted, thenDue, variableLine, variablesLine}
 use Rattle.model.specs.Model.{Model}
 use Rattle.model.proofs.LinesBack.{lines-follow}
 use Rattle.model.proofs.LinesLaws.{Follows, follow-lines}
 use Rattle.model.proofs.Tests.{and-intro, and-left, and-right}
-use Rattle.model.proofs.Decode.{none-lacks, unbroken}
+use Rattle.model.proofs.Decode.{in-range, lists-filled, none-lacks}
 use Rattle.format.specs.Bytes.{Bytes}
 use Rattle.format.specs.Reader.{ReadAnswer, accepted, linesOf, read, readAnswer, refused, row1}
 use Rattle.format.specs.Rows.{Line, entry, fault}
@@ -25,7 +25,6 @@ use Rattle.format.specs.Spelling.{lineText, textOf}
 use Rattle.format.proofs.EntryLines.{ListedEntry, entry-line, lines-all, same-lines}
 use Rattle.format.proofs.FaultLaws.{actions-fault, automata-fault, edge-fault, edges-fault, format-fault, init-fault, inv-fault, locations-fault, sync-fault, variable-fault, variables-fault}
 use Rattle.format.proofs.LineLaws.{entry-key, line-written, lineOf}
-use Rattle.format.proofs.NumberLaws.{false-true}
 use Rattle.format.proofs.TreeFaults.{compose-fault}
 
 -- the line of an entry breaks the rows that the entry breaks
@@ -44,9 +43,9 @@ fault-law r (edgesLine n) = edges-fault r n
 fault-law r (edgeLine e) = edge-fault r e
 fault-law r (composeLine c) = compose-fault r c
 
--- an entry that breaks no row has no empty list
+-- an entry that breaks no row has no empty list, and its numbers are in range
 listed-entry : (r : Reading) (e : Entry) → faultOf r e ≡ none → ListedEntry e
-unfolding faultOf contentFault
+unfolding numbersInRange
 listed-entry r (formatLine n) h = tt
 listed-entry r (actionsLine n) h = tt
 listed-entry r (variablesLine n) h = tt
@@ -58,10 +57,7 @@ listed-entry r (initLine p) h = tt
 listed-entry r (invLine p) h = tt
 listed-entry r (edgesLine n) h = tt
 listed-entry r (edgeLine e) h = tt
-listed-entry r (composeLine c) h =
-    let a = unbroken 3 (not (numbersInRange (composeLine c))) _ h in
-    let b = unbroken 5 (not (treeRises (r .model .actions) c)) _ (a .1) in
-    not-false (listsFilled c) (unbroken 13 (not (listsFilled c)) _ (b .1) .0)
+listed-entry r (composeLine c) h = (lists-filled r c h, in-range r (composeLine c) h)
 
 -- one step of reading
 pub read-case : (r : Reading) (k : Key) (ks : List Key) (n : ℕ) (l : Line) (ls : List Line) (o : Option ℕ) → fault r k l ≡ o → read r (k ∷ ks) n (l ∷ ls) ≡ elim o [ some row ↦ refused row n | none ↦ read (noted r (entry k l)) (thenDue (r .model .format) (entry k l) ++ ks) (suc n) ls ]

@@ -1,9 +1,9 @@
 -- The rows that the line of an entry breaks are those that the entry breaks; TreeFaults has the line of the tree.
 use Prim.Native.Nat.{ℕ}
-use mathlib.Core.Path.{_≡_, refl, sym, _∙_, ap}
+use mathlib.Core.Path.{_≡_, refl, _∙_, ap}
 use mathlib.Core.Bool.{Bool, true, false, not, _&&_, _||_, or-false, and-true}
 use mathlib.Core.List.{List, [], _∷_, _++_, map}
-use mathlib.Core.Option.{Option, none, some}
+use mathlib.Core.Option.{none, some}
 use native.Mathlib.Omega.{arith}
 use borrow.Author.Tests.{le-leb, eq-eqb}
 use lib.Dec.{leb}
@@ -12,12 +12,12 @@ use lib.IntN.{pos}
 use Rattle.model.specs.Basic.{between, every, lacks, orElse}
 use Rattle.model.specs.Bounds.{firstFormat, greatestNumber, lastFormat, lastLocation, leastNumber, maxActions, maxAutomata, maxEdges, maxLocations, maxVariables}
 use Rattle.model.specs.Limits.{broken, faultOf, inRange, isCrossed, isTooDeep, exceedsSpan, numbersInRange, passesEdges, passesNodes, predFault, rises, contentFault, locationFault, variableCount}
-use Rattle.model.specs.Lines.{Entry, Key, Reading, actions, actionsLine, automata, automataLine, composeLine, edge, edgeLine, edges, edgesLine, format, formatLine, init, initLine, inv, invLine, keyOf, locations, locationsLine, sync, syncLine, variable, variableLine, variables, variablesLine}
+use Rattle.model.specs.Lines.{Entry, Key, Reading, actions, actionsLine, automata, automataLine, compose, composeLine, edge, edgeLine, edges, edgesLine, format, formatLine, init, initLine, inv, invLine, keyOf, locations, locationsLine, sync, syncLine, variable, variableLine, variables, variablesLine}
 use Rattle.model.specs.Model.{Edge}
 use Rattle.model.specs.Parse.{readPred}
 use Rattle.model.specs.Predicate as P
 use Rattle.model.specs.Predicate.{Pred, Range, all, namesOutside, range, words}
-use Rattle.model.proofs.Tests.{and-intro, and-same, both-ways}
+use Rattle.model.proofs.Tests.{and-intro, and-same}
 use Rattle.model.proofs.Decode.{not-broken}
 use Rattle.format.specs.Bytes.{Bytes, begins, comma, parts}
 use Rattle.format.specs.Number.{naturalOf, decimal, integerOf, signed, within}
@@ -26,7 +26,7 @@ use Rattle.format.specs.Spelling.{spelling, textOfList, textOfPred, valu
 use Rattle.format.specs.Tokens.{readWords, sounds, tokens}
 use Rattle.format.proofs.EntryLines.{dropped, items-back, list-back, more-fields, sole-field, sole-part}
 use Rattle.format.proofs.LineLaws.{lineOf}
-use Rattle.format.proofs.PredText.{read-text, text-read, text-sound, text-words}
+use Rattle.format.proofs.PredText.{plain-nil, sounds-words, text-read, text-words, tokens-text}
 use Rattle.format.proofs.Spans.{Span, decimal-free, line-span, pred-free, signed-free}
 use Rattle.format.proofs.TokenLaws.{count-decimal, integer-signed, within-signed}
 
@@ -115,10 +115,14 @@ module _ (r : Reading) where
 
   -- the tokens of a predicate are sound exactly when its numbers are in range
   sounds-of : (p : Pred) → sounds [] (tokens (textOfPred p)) ≡ every inRange (words p)
-  sounds-of p = both-ways (sounds [] (tokens (textOfPred p))) (every inRange (words p)) (λ h. read-text (textOfPred p) p h (text-read p) .ranged) (text-sound p)
+  sounds-of p = ap (sounds []) (tokens-text p) ∙ sounds-words p [] plain-nil
+
+  -- a line with P, which is not that of the composition
+  abbrev HasPred : Key → Type 0
+  HasPred k = (hasPred k ≡ true) × (is k compose ≡ false)
 
   -- rows 3 and 6 to 11 of a line with P
-  module _ (k : Key) (l : Line) (p : Pred) (t : predTokens k l ≡ tokens (textOfPred p)) (has : hasPred k ≡ true) where
+  module _ (k : Key) (l : Line) (p : Pred) (t : predTokens k l ≡ tokens (textOfPred p)) (has : HasPred k) where
     its-words : wordsIn k l ≡ words p
     unfolding wordsIn
     its-words = ap readWords t ∙ text-words p
@@ -133,23 +137,23 @@ module _ (r : Reading) where
 
     r6 : row6 k l ≡ false
     unfolding row6 lacks
-    r6 = rw (has, its-p)
+    r6 = rw (has .0, has .1, its-p)
 
     r7 : row7 r k l ≡ namesOutside (variableCount r) (words p)
     unfolding row7
-    r7 = rw (has, its-words)
+    r7 = rw (has .0, has .1, its-words)
 
     r9 : row9 k l ≡ isTooDeep p
     unfolding row9
-    r9 = rw (has, its-pred)
+    r9 = rw (has .0, has .1, its-pred)
 
     r10 : row10 r k l ≡ exceedsSpan (r .model .variables) p
     unfolding row10
-    r10 = rw (has, its-pred)
+    r10 = rw (has .0, has .1, its-pred)
 
     r11 : row11 r k l ≡ passesNodes (r .nodes) (words p)
     unfolding row11
-    r11 = rw (has, its-words)
+    r11 = rw (has .0, has .1, its-words)
 
   init-tokens : (p : Pred) → predTokens init (lineOf (initLine p)) ≡ tokens (textOfPred p)
   unfolding predTokens is place field fields valueOf valueText keyOf
@@ -159,13 +163,13 @@ module _ (r : Reading) where
   unfolding predTokens is place field fields valueOf valueText keyOf
   inv-tokens p = ap tokens (sole-field inv (textOfPred p) (pred-free p))
 
-  has-init : hasPred init ≡ true
+  has-init : HasPred init
   unfolding hasPred is place
-  has-init = refl
+  has-init = (refl, refl)
 
-  has-inv : hasPred inv ≡ true
+  has-inv : HasPred inv
   unfolding hasPred is place
-  has-inv = refl
+  has-inv = (refl, refl)
 
   pub init-fault : (p : Pred) → fault r init (lineOf (initLine p)) ≡ faultOf r (initLine p)
   unfolding fault faultOf contentFault locationFault predFault numbersInRange row3 row4 row5 row8 row12 row13 row14 row15 row16 is place broken keyOf numbersSound
@@ -198,9 +202,9 @@ module _ (r : Reading) where
   unfolding predTokens is place field fields valueOf valueText keyOf
   edge-tokens e = ap (λ (q : List Bytes). tokens (getD q 3 [])) (more-fields edge (decimal (e .from)) (decimal (e .action) ∷ decimal (e .to) ∷ textOfPred (e .update) ∷ []) (decimal-free (e .from)) (decimal-free (e .action), (decimal-free (e .to), (pred-free (e .update), tt))))
 
-  has-edge : hasPred edge ≡ true
+  has-edge : HasPred edge
   unfolding hasPred is place
-  has-edge = refl
+  has-edge = (refl, refl)
 
   edge-fields : (e : Edge) → fields edge (lineOf (edgeLine e)) ≡ decimal (e .from) ∷ decimal (e .action) ∷ decimal (e .to) ∷ textOfPred (e .update) ∷ []
   unfolding is place fields valueOf valueText keyOf

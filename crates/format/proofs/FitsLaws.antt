@@ -2,7 +2,7 @@
 use Prim.Native.Nat.{ℕ, zero, suc, _+_, _-_, _*_, _/_, _%_, _^_, _≤_, _<_}
 use mathlib.Core.Path.{_≡_, refl, sym, ap, _∙_}
 use mathlib.Core.Bool.{Bool, true, false, _&&_, true≢false, and-eq-true-iff}
-use mathlib.Core.List.{List, [], _∷_, _++_, append-assoc, map, flatMap, List·Memᴰ, List·Memᴰ·head, List·Memᴰ·tail}
+use mathlib.Core.List.{List, [], _∷_, _++_, map, flatMap, List·Memᴰ, List·Memᴰ·head, List·Memᴰ·tail}
 use mathlib.Core.Logic.{⊎-elim}
 use native.Mathlib.Omega.{arith}
 use borrow.Author.Tests.{lt-ltb, ltb-true, leb-true}
@@ -13,7 +13,7 @@ use Rattle.model.specs.Basic.{between, every, sum, countUp}
 use Rattle.model.specs.Bounds.{maxActions, maxAutomata, maxLocations, maxEdges, maxOperands, maxBytes, leastNumber, greatestNumber}
 use Rattle.model.specs.Predicate as P
 use Rattle.model.specs.Predicate.{Pred, all, any, negate, imp, eq, le, Preds, more, operands, Expr, num, old, new, add, sub, mul, choose, Range, Word, words, wordsAll, wordsOf, nodeCount}
-use Rattle.model.specs.Composition.{Tree, par, syn, leaf, leaves, nodes, treeSize}
+use Rattle.model.specs.Composition.{Tree, par, syn, ini, leaf, leaves, starts, startNodes, nodes, treeSize}
 use Rattle.model.specs.Model.{Location, Edge, Automaton, Model, edgeTotal}
 use Rattle.model.specs.Lines.{Entry, formatLine, actionsLine, variablesLine, variableLine, automataLine, syncLine, locationsLine, initLine, invLine, edgesLine, edgeLine, composeLine, keyOf, locationLines, automatonLines, lines}
 use Rattle.model.specs.Limits.{inRange, rises, treeRises, treeInRange}
@@ -150,9 +150,10 @@ list-size : (A : ℕ) (list : List ℕ) → A ≤ maxActions → rises A 0 list 
 unfolding textOfList
 list-size A list a h = omega (arith, rising-size A 0 list a (omega arith) h, size-joined comma (map decimal list))
 
--- A node of the tree takes at most 184 bytes, with the space before it; of a leaf with the `par` that it needs, 360 are left.
-nodes-size : (A : ℕ) (c : Tree) → A ≤ maxActions → treeRises A c ≡ true → treeInRange c ≡ true → size (flatMap spelledNode (nodes c)) + 360 * length (leaves c) ≤ 184 * length (nodes c) + 180
-unfolding treeRises treeInRange nodes leaves flatMap spelledNode
+-- A node of the tree takes at most 184 bytes, with the space before it and without the P of an `ini`; of a leaf with the
+-- `par` that it needs, 360 are left. (All fourfold, as the bytes of a P are.)
+nodes-size : (A : ℕ) (c : Tree) → A ≤ maxActions → treeRises A c ≡ true → treeInRange c ≡ true → 4 * size (flatMap spelledNode (nodes c)) + 1440 * length (leaves c) ≤ 736 * length (nodes c) + 720 + 39 * startNodes c
+unfolding treeRises treeInRange nodes leaves flatMap spelledNode starts startNodes
 nodes-size A (par c d) a h r =
     let g = simp and-eq-true-iff at h in
     let k = simp and-eq-true-iff at r in
@@ -161,6 +162,7 @@ nodes-size A (par c d) a h r =
     let e = size-append (flatMap spelledNode (nodes c)) (flatMap spelledNode (nodes d)) in
     let n = length-append (nodes c) (nodes d) in
     let l = length-append (leaves c) (leaves d) in
+    let s = ap (length {A = Word}) (flat-append words (starts c) (starts d)) ∙ length-append (flatMap words (starts c)) (flatMap words (starts d)) in
     rw (flat-append spelledNode (nodes c) (nodes d)) (omega arith)
 nodes-size A (syn list c) a h r =
     let g = simp and-eq-true-iff at h in
@@ -168,6 +170,12 @@ nodes-size A (syn list c) a h r =
     let l = list-size A list a (g .0) in
     let ih = nodes-size A c a (g .1) (k .1) in
     omega arith
+nodes-size A (ini p c) a h r =
+    let k = simp and-eq-true-iff at r in
+    let e = size-append (flatMap spelled (words p)) (flatMap spelledNode (nodes c)) in
+    let l = length-append (words p) (flatMap words (starts c)) in
+    let ih = nodes-size A c a h (k .1) in
+    omega (arith, pred-cost p (k .0))
 nodes-size A (leaf k) a h r = let l = leb-true k _ r in let d = decimal-width 1 k (omega arith) in omega arith
 
 count-length : (n count : ℕ) → length (countUp n count) ≡ count
@@ -175,10 +183,10 @@ unfolding countUp
 count-length n zero = refl
 count-length n (suc count) = ap suc (count-length (suc n) count)
 
-tree-size : (A N : ℕ) (c : Tree) → A ≤ maxActions → N ≤ maxAutomata → LawfulTree A N c → length (textOfTree c) + 360 * N ≤ 184 * treeSize c + 180
+tree-size : (A N : ℕ) (c : Tree) → A ≤ maxActions → N ≤ maxAutomata → LawfulTree A N c → ((p : Pred) → List·Memᴰ p (starts c) → every inRange (words p) ≡ true) → 4 * length (textOfTree c) + 1440 * N ≤ 736 * treeSize c + 720 + 39 * startNodes c
 unfolding textOfTree treeSize
-tree-size A N c a n h =
-    let w = nodes-size A c a (h .lists) (tree-ranged A N c a n h) in
+tree-size A N c a n h s =
+    let w = nodes-size A c a (h .lists) (tree-ranged A N c a n h s) in
     omega (arith, w, size-joined space (flatMap spelledNode (nodes c)), ap (length {A = ℕ}) (h .in-order), count-length 0 N)
 
 -- a line: its key, its value and LF
@@ -277,7 +285,7 @@ text-size m h =
     let e₄ = line-size (automataLine (length (m .automata))) in
     let d₄ = decimal-width 1 (length (m .automata)) (omega arith) in
     let e₅ = line-size (composeLine (m .tree)) in
-    let d₅ = tree-size (m .actions) (length (m .automata)) (m .tree) (h .few-actions) (h .few-automata) (h .tree) in
+    let d₅ = tree-size (m .actions) (length (m .automata)) (m .tree) (h .few-actions) (h .few-automata) (h .tree) (λ p i. h .starts p i .pred .ranged) in
     let p = variables-total (m .variables) (h .ranges) in
     let q = automata-total (m .variables) (m .actions) (h .few-actions) (m .automata) (h .automata) (h .few-edges) in
     let j = total-append (map variableLine (m .variables)) (automataLine (length (m .automata)) ∷ (flatMap automatonLines (m .automata) ++ (composeLine (m .tree) ∷ []))) in

@@ -4,6 +4,7 @@ pub mod Spans
 pub mod TokenLaws
 pub mod ReadLaws
 pub mod PredText
+pub mod StartLaws
 pub mod TreeText
 pub mod LineLaws
 pub mod TreeRead

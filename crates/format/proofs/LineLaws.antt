@@ -9,7 +9,7 @@ use borrow.Author.Tests.{eqb-true, not-false}
 use lib.Dec.{eqb}
 use lib.ListN.{length, getD, drop}
 use lib.IntN.{ℤ, pos, negsuc}
-use Rattle.model.specs.Basic.{between, every, lacks, orElse}
+use Rattle.model.specs.Basic.{between, every, exists, lacks, orElse}
 use Rattle.model.specs.Bounds.{firstFormat, greatestNumber, lastFormat, lastLocation, leastNumber, maxActions, maxAutomata, maxEdges, maxLocations, maxVariables}
 use Rattle.model.specs.Composition.{Tree, leaf}
 use Rattle.model.specs.Limits.{broken}
@@ -17,20 +17,19 @@ use Rattle.model.specs.Lines.{Entry, Key, Reading, actions, automata, compose, 
 use Rattle.model.specs.Parse.{readPred, readTree}
 use Rattle.model.specs.Predicate as P
 use Rattle.model.specs.Predicate.{Pred, all, range}
-use Rattle.model.proofs.Parsing.{none-some}
-use Rattle.model.proofs.Tests.{and-left, and-right}
+use Rattle.model.proofs.Tests.{and-left, and-right, or-none-left}
 use Rattle.model.proofs.Decode.{unbroken}
 use Rattle.format.specs.Bytes.{Bytes, begins, comma, joined, ledBy, parts}
 use Rattle.format.specs.Number.{naturalOf, decimal, integerOf, signed, within}
-use Rattle.format.specs.Rows.{Line, entry, fault, field, fieldCount, fields, hasPred, is, listItems, numbersSound, place, predOf, predTokens, wordsIn, printable, row10, row11, row12, row13, row2, row3, row4, row5, row6, row7, row8, row9, syncList, thePred, theRange, theTree, treeTokens, nodesIn, treeOf, valueOf}
+use Rattle.format.specs.Rows.{Line, entry, fault, field, fieldCount, fields, hasPred, is, listItems, numbersSound, place, predOf, predTokens, wordsIn, printable, row10, row11, row12, row13, row2, row3, row4, row5, row6, row7, row8, row9, syncList, thePred, theRange, theTree, treeTokens, startsOf, theStarts, nodesIn, treeOf, valueOf}
 use Rattle.format.specs.Spelling.{spelling, textOfList, textOfPred, textOfTree, valueText}
-use Rattle.format.specs.Tokens.{readNodes, readWords, sounds, tokens}
+use Rattle.format.specs.Tokens.{readWords, sounds, tokens}
 use Rattle.format.proofs.BytesLaws.{joined-parts}
 use Rattle.format.proofs.NumberLaws.{false-true}
 use Rattle.format.proofs.PredText.{read-text}
 use Rattle.format.proofs.ReadLaws.{items-decimal, within-inv}
 use Rattle.format.proofs.TokenLaws.{count-decimal, every-cons, integer-signed}
-use Rattle.format.proofs.TreeText.{tree-law}
+use Rattle.format.proofs.TreeText.{readComposed, readStarts, tree-law}
 
 -- the rows that say how a line is formed are not broken
 record Faultless (k : Key) (l : Line) : Type 0 where
@@ -153,13 +152,13 @@ module _ (l : Line) where
   four-parts v a b c d h ea eb ec ed = sym (joined-parts comma v) ∙ ap (joined comma) (list-4 (parts comma v) h ∙ rw (ea, eb, ec, ed))
 
 -- the text of a tree
-c-written : (s : Bytes) (o : Option Tree) → readTree (readNodes (tokens s)) ≡ o → lacks o ≡ false → sounds [] (tokens s) ≡ true → s ≡ textOfTree (orElse (leaf 0) o)
+c-written : (s : Bytes) (o : Option Tree) → readTree (readComposed [] (tokens s)) ≡ o → lacks o ≡ false → sounds [] (tokens s) ≡ true → exists lacks (readStarts [] (tokens s)) ≡ false → s ≡ textOfTree (orElse (leaf 0) o)
 unfolding lacks orElse
-c-written s none e h k = absurd (false-true (sym h))
-c-written s (some c) e h k = tree-law s c k e
+c-written s none e h k n = absurd (false-true (sym h))
+c-written s (some c) e h k n = tree-law s c k n e
 
 value-written : (k : Key) (l : Line) → length (fields k l) ≡ fieldCount k → numbersSound k l ≡ true → row6 k l ≡ false → row13 k l ≡ false → valueOf k l ≡ valueText (entry k l)
-unfolding numbersSound fields field fieldCount is place entry valueText row6 row13 hasPred predOf wordsIn predTokens thePred theTree treeOf treeTokens nodesIn syncList theRange range
+unfolding numbersSound fields field fieldCount is place entry valueText row6 row13 hasPred predOf wordsIn predTokens thePred theTree treeOf treeTokens nodesIn startsOf theStarts syncList theRange range
 value-written format l c n s t = one-number l format firstFormat lastFormat c n
 value-written actions l c n s t = one-number l actions 0 maxActions c n
 value-written variables l c n s t = one-number l variables 0 maxVariables c n
@@ -178,7 +177,7 @@ value-written edge l c n s t =
     (count-value 0 maxActions (getD (parts comma (valueOf edge l)) 1 []) (and-left _ _ b))
     (count-value 0 lastLocation (getD (parts comma (valueOf edge l)) 2 []) (and-left _ _ d))
     (p-written (getD (parts comma (valueOf edge l)) 3 []) (readPred (readWords (tokens (getD (parts comma (valueOf edge l)) 3 [])))) refl s (and-right (within (pos 0) (pos lastLocation) (getD (parts comma (valueOf edge l)) 2 [])) _ d))
-value-written compose l c n s t = c-written (valueOf compose l) (readTree (readNodes (tokens (valueOf compose l)))) refl t n
+value-written compose l c n s t = c-written (valueOf compose l) (readTree (readComposed [] (tokens (valueOf compose l)))) refl t n (or-none-left _ false s)
 
 -- the line of an entry
 abbrev pub lineOf : Entry → Line

@@ -11,6 +11,7 @@ use Rattle.model.specs.Parse.{readPred}
 use Rattle.model.specs.Predicate as P
 use Rattle.model.specs.Predicate.{Expr, Pred, Preds, Word, add, addWord, all, allOf, any, anyOf, choose, eq, eqWord, ifWord, imp, impWord, le, leWord, more, mul, mulWord, negate, new, newWord, notWord, num, numWord, old, oldWord, operands, stray, sub, subWord, words, wordsAll, wordsOf}
 use Rattle.model.proofs.Parsing.{read-words-of, words-of-read}
+use Rattle.model.proofs.Tests.{both-ways}
 use Rattle.format.specs.Bytes.{Bytes, joined, space}
 use Rattle.format.specs.Spelling.{spelled, textOfPred}
 use Rattle.format.specs.Tokens.{readWords, sounds, tokens}
@@ -35,7 +36,7 @@ tokens-joined l t ts e h =
     let f : Each (Free 32) (t ∷ ts) = subst (λ (u : List Bytes). Each (Free 32) u) e h in
     rw e (parts-joined 32 t ts (f .0) (f .1))
 
-tokens-text : (p : Pred) → tokens (textOfPred p) ≡ flatMap spelled (words p)
+pub tokens-text : (p : Pred) → tokens (textOfPred p) ≡ flatMap spelled (words p)
 unfolding textOfPred
 tokens-text p = let f = first-token p in tokens-joined (flatMap spelled (words p)) (f .0) (f .1) (f .2) (words-free (words p))
 
@@ -71,7 +72,7 @@ not-stray w h e = let k : _≡_ {A = ℕ} 1 0 = ap number-word (sym e) ∙ h in 
 mutual
   unfolding words wordsAll wordsOf number-word
 
-  no-stray : (p : Pred) → Free stray (words p)
+  pub no-stray : (p : Pred) → Free stray (words p)
   no-stray (all ps) = (not-stray (allOf (operands ps)) refl, no-strays ps)
   no-stray (any ps) = (not-stray (anyOf (operands ps)) refl, no-strays ps)
   no-stray (negate p) = (not-stray notWord refl, no-stray p)
@@ -98,6 +99,16 @@ text-words p = rw (tokens-text p) (spelled-read (words p) (no-stray p))
 
 pub text-read : (p : Pred) → readPred (readWords (tokens (textOfPred p))) ≡ some p
 text-read p = rw (text-words p) (read-words-of p)
+
+-- the tokens of a predicate are sound exactly when its numbers are in range
+pub sounds-words : (p : Pred) (b : Bytes) → Plain b → sounds b (flatMap spelled (words p)) ≡ every inRange (words p)
+sounds-words p b q = both-ways _ _ there (spelled-sound b (words p) q)
+  where
+    there : sounds b (flatMap spelled (words p)) ≡ true → every inRange (words p) ≡ true
+    there h =
+        let w = spelled-read (words p) (no-stray p) in
+        let s = tokens-back b (flatMap spelled (words p)) q h (subst (λ (l : List Word). Free stray l) (sym w) (no-stray p)) in
+        ap (every inRange) (sym w) ∙ s .ranged
 
 -- the text of a predicate, whose numbers are in range
 pub record Written (s : Bytes) (p : Pred) : Type 0 where

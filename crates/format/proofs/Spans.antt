@@ -5,7 +5,7 @@ use mathlib.Core.List.{List, [], _∷_, _++_, map, flatMap}
 use mathlib.Core.Logic.{⊎-elim}
 use native.Mathlib.Omega.{arith}
 use lib.IntN.{ℤ, pos, negsuc}
-use Rattle.model.specs.Composition.{Node, Tree, leafNode, nodes, parNode, strayNode, synNode}
+use Rattle.model.specs.Composition.{Node, Tree, iniNode, leafNode, nodes, parNode, strayNode, synNode}
 use Rattle.model.specs.Lines.{Entry, Key, actions, actionsLine, automata, automataLine, compose, composeLine, edge, edgeLine, edges, edgesLine, format, formatLine, init, initLine, inv, invLine, keyOf, locations, locationsLine, sync, syncLine, variable, variableLine, variables, variablesLine}
 use Rattle.model.specs.Predicate.{Pred, Word, addWord, allOf, anyOf, eqWord, ifWord, impWord, leWord, mulWord, newWord, notWord, numWord, oldWord, stray, subWord, words}
 use Rattle.format.specs.Bytes.{Bytes}
@@ -103,6 +103,7 @@ node-span : (n : Node) → Each (Span 44 126) (spelledNode n)
 unfolding spelledNode
 node-span parNode = omega arith
 node-span (synNode l) = (omega arith, (list-span 44 126 l (omega arith) (omega arith), tt))
+node-span (iniNode p) = (omega arith, each-wider 45 126 44 126 (flatMap spelled (words p)) (omega arith) (omega arith) (words-span (words p)))
 node-span (leafNode k) = ((omega arith, decimal-span 44 126 k (omega arith) (omega arith)), tt)
 node-span strayNode = tt
 

@@ -70,13 +70,13 @@ numeral-new n =
     let l = leading n in
     rw (l .whole) (numeral-n (l .first) (l .rest) (is-digit (l .first) (l .low) (l .high)))
 
-plain-decimal : (n : ℕ) → Plain (decimal n)
+pub plain-decimal : (n : ℕ) → Plain (decimal n)
 plain-decimal n =
     let l = leading n in
     let h : l .first ≤ 57 = l .high in
     rw (l .whole) (plain-first (l .first) (l .rest) (omega arith))
 
-plain-signed : (z : ℤ) → Plain (signed z)
+pub plain-signed : (z : ℤ) → Plain (signed z)
 unfolding signed
 plain-signed (pos n) = plain-decimal n
 plain-signed (negsuc n) = plain-first 45 (decimal (suc n)) (omega arith)
@@ -94,7 +94,7 @@ pub within-signed : (lo hi z : ℤ) → within lo hi (signed z) ≡ between lo h
 unfolding within isBetween
 within-signed lo hi z = rw (number-signed z)
 
-within-decimal : (h n : ℕ) → n ≤ h → within (pos 0) (pos h) (decimal n) ≡ true
+pub within-decimal : (h n : ℕ) → n ≤ h → within (pos 0) (pos h) (decimal n) ≡ true
 unfolding signed between
 within-decimal h n l = within-signed (pos 0) (pos h) (pos n) ∙ rw (le-leb 0 n (omega arith), le-leb n h l)
 

@@ -2,18 +2,18 @@
 -- is broken, so it may take for granted that none is: what it says of other lines plays no part.
 use Prim.Native.Nat.{ℕ, _+_}
 use mathlib.Core.Bool.{Bool, true, false, not, _&&_, _||_}
-use mathlib.Core.List.{List, [], _∷_, map}
+use mathlib.Core.List.{List, [], _∷_, map, flatMap}
 use mathlib.Core.Option.{Option, none, some}
 use lib.ListN.{length, getD, drop}
 use lib.IntN.{pos}
 use lib.Dec.{eqb, leb}
-use Rattle.model.specs.Basic.{every, lacks, orElse}
+use Rattle.model.specs.Basic.{every, exists, lacks, orElse}
 use Rattle.model.specs.Bounds.{firstFormat, lastFormat, maxActions, maxVariables, maxAutomata, maxLocations, maxEdges}
 use Rattle.model.specs.Bounds.{lastLocation, leastNumber, greatestNumber}
 use Rattle.model.specs.Predicate as P
-use Rattle.model.specs.Predicate.{Pred, Range, range, Word, all, namesOutside, namesNew}
+use Rattle.model.specs.Predicate.{Pred, Range, range, Word, words, all, namesOutside, namesNew}
 use Rattle.model.specs.Composition.{Tree, Node, leaf}
-use Rattle.model.specs.Parse.{readPred, readTree}
+use Rattle.model.specs.Parse.{readPred, readTree, withStarts}
 use Rattle.model.specs.Lines.{Key, Entry, format, actions, variables, variable, automata, sync, locations, init, inv}
 use Rattle.model.specs.Lines.{edges, edge, compose, formatLine, actionsLine, variablesLine, variableLine, automataLine}
 use Rattle.model.specs.Lines.{syncLine, locationsLine, initLine, invLine, edgesLine, edgeLine, composeLine, Reading}
@@ -21,7 +21,7 @@ use Rattle.model.specs.Limits.{rises, isCrossed, isTooDeep, exceedsSpan, passes
 use Rattle.model.specs.Limits.{isTooLarge, passesEdges, variableCount, broken}
 use Rattle.format.specs.Bytes.{Bytes, begins, parts, comma}
 use Rattle.format.specs.Number.{within, naturalOf, integerOf}
-use Rattle.format.specs.Tokens.{tokens, sounds, listsSound, readWords, readNodes}
+use Rattle.format.specs.Tokens.{tokens, sounds, listsSound, readWords, readNodes, startsIn, outside}
 use Rattle.format.specs.Spelling.{spelling}
 
 -- the bytes of a line without its LF, and whether it has one
@@ -74,20 +74,28 @@ wordsIn k l = readWords (predTokens k l)
 unfoldable pub predOf : Key → Line → Option Pred
 predOf k l = readPred (wordsIn k l)
 
--- the tree of `compose=C`
+-- the predicate, where row 6 does not hold
+unfoldable pub thePred : Key → Line → Pred
+thePred k l = orElse (all P.none) (predOf k l)
+
+-- the tokens of `compose=C`; the P after each `ini`, well-formed or not, and the predicates where row 6 does not hold
 unfoldable pub treeTokens : Line → List Bytes
 treeTokens l = tokens (valueOf compose l)
 
+unfoldable pub startsOf : Line → List (Option Pred)
+startsOf l = map (λ ts. readPred (readWords ts)) (startsIn 0 [] (treeTokens l))
+
+unfoldable pub theStarts : Line → List Pred
+theStarts l = map (orElse (all P.none)) (startsOf l)
+
+-- the tree, whose nodes are read apart from the P's, and get these
 unfoldable pub nodesIn : Line → List Node
-nodesIn l = readNodes (treeTokens l)
+nodesIn l = withStarts (theStarts l) (readNodes (outside 0 [] (treeTokens l)))
 
 unfoldable pub treeOf : Line → Option Tree
 treeOf l = readTree (nodesIn l)
 
--- the predicate and the tree, where rows 6 and 13 do not hold
-unfoldable pub thePred : Key → Line → Pred
-thePred k l = orElse (all P.none) (predOf k l)
-
+-- where row 13 does not hold
 unfoldable pub theTree : Line → Tree
 theTree l = orElse (leaf 0) (treeOf l)
 
@@ -145,29 +153,37 @@ row5 r k l =
     is k sync && not (rises (r .model .actions) 0 (syncList l)) ||
     is k compose && not (listsSound (r .model .actions) [] (treeTokens l))
 
+-- Rows 6 to 11 are about the P of a line, and in `compose` about each P after an `ini`.
 -- Row 6: do the words make a predicate?
 unfoldable pub row6 : Key → Line → Bool
-row6 k l = hasPred k && lacks (predOf k l)
+row6 k l = is k compose && exists lacks (startsOf l) || hasPred k && lacks (predOf k l)
 
 -- Row 7: does the model have the variables?
 unfoldable pub row7 : Reading → Key → Line → Bool
-row7 r k l = hasPred k && namesOutside (variableCount r) (wordsIn k l)
+row7 r k l =
+    is k compose && exists (λ p. namesOutside (variableCount r) (words p)) (theStarts l) ||
+    hasPred k && namesOutside (variableCount r) (wordsIn k l)
 
--- Row 8: does a location's predicate read values of after a step?
+-- Row 8: does a location's predicate, or a start condition, read values of after a step?
 unfoldable pub row8 : Key → Line → Bool
-row8 k l = (is k init || is k inv) && namesNew (wordsIn k l)
+row8 k l =
+    is k compose && exists (λ p. namesNew (words p)) (theStarts l) || (is k init || is k inv) && namesNew (wordsIn k l)
 
 -- Row 9: is the predicate nested too deep?
 unfoldable pub row9 : Key → Line → Bool
-row9 k l = hasPred k && isTooDeep (thePred k l)
+row9 k l = is k compose && exists isTooDeep (theStarts l) || hasPred k && isTooDeep (thePred k l)
 
 -- Row 10: can an expression leave the span?
 unfoldable pub row10 : Reading → Key → Line → Bool
-row10 r k l = hasPred k && exceedsSpan (r .model .variables) (thePred k l)
+row10 r k l =
+    is k compose && exists (exceedsSpan (r .model .variables)) (theStarts l) ||
+    hasPred k && exceedsSpan (r .model .variables) (thePred k l)
 
 -- Row 11: are the nodes too many, this line's included?
 unfoldable pub row11 : Reading → Key → Line → Bool
-row11 r k l = hasPred k && passesNodes (r .nodes) (wordsIn k l)
+row11 r k l =
+    is k compose && passesNodes (r .nodes) (flatMap words (theStarts l)) ||
+    hasPred k && passesNodes (r .nodes) (wordsIn k l)
 
 -- Row 12: does the model have the edge's ends and action?
 unfoldable pub row12 : Reading → Key → Line → Bool

@@ -3,7 +3,7 @@ use Prim.Native.Nat.{ℕ}
 use mathlib.Core.List.{List, [], _∷_, _++_, map, flatMap}
 use Rattle.model.specs.Predicate.{Pred, Range, Word, words, allOf, anyOf, notWord, impWord, eqWord, leWord, numWord}
 use Rattle.model.specs.Predicate.{oldWord, newWord, addWord, subWord, mulWord, ifWord, stray}
-use Rattle.model.specs.Composition.{Tree, Node, nodes, parNode, synNode, leafNode, strayNode}
+use Rattle.model.specs.Composition.{Tree, Node, nodes, parNode, synNode, iniNode, leafNode, strayNode}
 use Rattle.model.specs.Model.{Edge, Model}
 use Rattle.model.specs.Lines.{Key, Entry, format, actions, variables, variable, automata, sync, locations, init, inv}
 use Rattle.model.specs.Lines.{edges, edge, compose, formatLine, actionsLine, variablesLine, variableLine, automataLine}
@@ -53,6 +53,7 @@ textOfList list = joined comma (map decimal list)
 unfoldable pub spelledNode : Node → List Bytes
 spelledNode parNode = bytes "par" ∷ []
 spelledNode (synNode list) = bytes "syn" ∷ textOfList list ∷ []
+spelledNode (iniNode p) = bytes "ini" ∷ flatMap spelled (words p)
 spelledNode (leafNode k) = ('a ∷ decimal k) ∷ []
 spelledNode strayNode = []
 

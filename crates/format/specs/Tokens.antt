@@ -1,6 +1,6 @@
 -- "The sheet text": the tokens of P and C, the numbers in them (row 3), the lists after `syn` (row 5), and the words
 -- and nodes that the tokens spell.
-use Prim.Native.Nat.{ℕ}
+use Prim.Native.Nat.{ℕ, zero, suc, _+_}
 use mathlib.Core.Bool.{Bool, true, false, _&&_, _||_}
 use mathlib.Core.List.{List, [], _∷_, map}
 use lib.IntN.{ℤ, pos}
@@ -10,6 +10,7 @@ use Rattle.model.specs.Bounds.{maxActions, maxOperands, lastVariable, lastAutom
 use Rattle.model.specs.Predicate.{Word, allOf, anyOf, notWord, impWord, eqWord, leWord, numWord, oldWord, newWord}
 use Rattle.model.specs.Predicate.{addWord, subWord, mulWord, ifWord, stray}
 use Rattle.model.specs.Composition.{Node, parNode, synNode, leafNode, strayNode}
+use Rattle.model.specs.Parse.{iniAlone}
 use Rattle.model.specs.Limits.{rises}
 use Rattle.format.specs.Bytes.{Bytes, bytes, parts, space, comma, minus, 'a, 'n, 'v}
 use Rattle.format.specs.Number.{digit, within, naturalOf, integerOf}
@@ -118,14 +119,47 @@ readWords (t ∷ k ∷ ts) =
           elim (same t (bytes "any")) [ true ↦ counted anyOf k ∷ readWords ts | false ↦ word t ∷ readWords (k ∷ ts) ]
     ]
 
--- the same for C
+-- Where the P of an `ini` ends: at its first token one is wanted, each token takes the place of one, and calls for as
+-- many as stand here; a token after `all` or `any` is the K, and calls for K.
+abbrev pub calls : List (Bytes × ℕ)
+calls =
+    (bytes "all", 1) ∷ (bytes "any", 1) ∷ (bytes "not", 1) ∷ (bytes "imp", 2) ∷ (bytes "eq", 2) ∷ (bytes "le", 2) ∷
+    (bytes "add", 2) ∷ (bytes "sub", 2) ∷ (bytes "mul", 2) ∷ (bytes "if", 3) ∷ []
+
+unfoldable pub callsFor : (before token : Bytes) → ℕ
+callsFor before token =
+    elim (same before (bytes "all") || same before (bytes "any")) [
+      | true ↦ elim (within (pos 0) (pos maxOperands) token) [ true ↦ naturalOf token | false ↦ 0 ]
+      | false ↦ find 0 calls token
+    ]
+
+-- the tokens of P: as long as some are wanted
+unfoldable pub startTokens : (wanted : ℕ) (before : Bytes) → List Bytes → List Bytes
+startTokens wanted before [] = []
+startTokens zero before (t ∷ ts) = []
+startTokens (suc n) before (t ∷ ts) = t ∷ startTokens (callsFor before t + n) t ts
+
+-- the P right after each `ini`; so many tokens of a P that has begun are still wanted
+unfoldable pub startsIn : (wanted : ℕ) (before : Bytes) → List Bytes → List (List Bytes)
+startsIn wanted before [] = []
+startsIn zero before (t ∷ ts) =
+    elim (same t (bytes "ini")) [ true ↦ startTokens 1 t ts ∷ startsIn 1 t ts | false ↦ startsIn 0 t ts ]
+startsIn (suc n) before (t ∷ ts) = startsIn (callsFor before t + n) t ts
+
+-- the tokens of C: those outside of all P
+unfoldable pub outside : (wanted : ℕ) (before : Bytes) → List Bytes → List Bytes
+outside wanted before [] = []
+outside zero before (t ∷ ts) = elim (same t (bytes "ini")) [ true ↦ t ∷ outside 1 t ts | false ↦ t ∷ outside 0 t ts ]
+outside (suc n) before (t ∷ ts) = outside (callsFor before t + n) t ts
+
+-- the words for C
 unfoldable pub leafOf : ℕ → ℕ → Node
 leafOf letter k = elim (eqb letter 'a) [ true ↦ leafNode k | false ↦ strayNode ]
 
 unfoldable pub node : Bytes → Node
 node token =
     elim (numeral token) [
-      | unjudged ↦ find strayNode ((bytes "par", parNode) ∷ []) token
+      | unjudged ↦ find strayNode ((bytes "par", parNode) ∷ (bytes "ini", iniAlone) ∷ []) token
       | bare s ↦ strayNode
       | lettered b s ↦ leafOf b (naturalOf s)
     ]

@@ -1,12 +1,11 @@
 -- The search for taking edges and the mark: each way out of the code, and what they are on the words of a lawful model.
-use mathlib.Core.Path.{_≡_, refl, sym, ap, _∙_}
+use mathlib.Core.Path.{_≡_, sym, ap, _∙_}
 use mathlib.Core.Bool.{Bool}
-use mathlib.Core.List.{List, _++_}
+use mathlib.Core.List.{List}
 use Prim.Native.Nat.{ℕ}
 use native.Mathlib.Omega.{arith}
 use lib.IntN.{ℤ}
 use lib.ListN.{length, take, drop, replicate}
-use lib.Seq.{take-at}
 use Rattle.model.specs.Basic.{exists}
 use Rattle.model.specs.Model.{Model, inSet}
 use Rattle.model.specs.Moves.{moves}
@@ -15,8 +14,8 @@ use Rattle.model.proofs.Tests.{or-none-left, or-none-right}
 use Rattle.table_places.specs.declared.layout.Layout.{Layout}
 use Rattle.table_places.specs.Outline.{nodesPlace}
 use Rattle.table_places.specs.Layout.{layoutOf, automataOf, variablesOf}
-use Rattle.table_places.proofs.Standing.{tree-stands}
-use Rattle.table_places.proofs.LayoutLaws.{all-variables, tree-place}
+use Rattle.table_places.proofs.Standing.{tree-begins}
+use Rattle.table_places.proofs.LayoutLaws.{all-variables, tree-line}
 use Rattle.table_places.proofs.AgreeLaws.{own-agrees, leaves-agree}
 use Rattle.table_places.proofs.Opened.{Sheet}
 use Rattle.table_tree.specs.Nodes.{treeWords}
@@ -67,11 +66,7 @@ mark-at w x own a at r f g = rw (g, f)
 -- On the words of a lawful model.
 module _ (t : List ℕ) (m : Model) (sheet : Sheet t m) where
   nodes-of-tree : take (length (treeWords (m .tree))) (drop (nodesPlace t (layoutOf t .tree)) t) ≡ treeWords (m .tree)
-  nodes-of-tree =
-      let c = treeWords (m .tree) in
-      let d : drop (nodesPlace t (layoutOf t .tree)) t ≡ c ++ sheet .rest =
-      ap (λ (i : ℕ). drop (nodesPlace t i) t) (tree-place m (sheet .lawful) t (sheet .rest) (sheet .stands)) ∙ tree-stands t (sheet .rest) m (sheet .stands) in
-      ap (take (length c)) d ∙ take-at c (sheet .rest) (length c) refl
+  nodes-of-tree = tree-begins t (sheet .rest) (m .tree) (layoutOf t .tree) (tree-line m (sheet .lawful) t (sheet .rest) (sheet .stands))
 
   -- the search finds taking edges exactly where some move of the composition fits the step
   pub taken-is : (q : Phase) (l : List ℕ) (v : List ℤ) (l' : List ℕ) (v' : List ℤ) (a : ℕ) → Pass m (stands q l v) (stands Running l' v')

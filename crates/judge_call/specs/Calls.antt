@@ -51,8 +51,8 @@ module _ (words : List ℕ) (x : Layout) where
   unfoldable pub environmentFrom : (s : State) (newValues : List ℤ) (t : State) → Answer
   environmentFrom s newValues t = thenAnswer (valuesChecked words x newValues) (environmentBy s t)
 
-  -- the step judge: row 24; then what holds of every automaton; then whether some of them can take the action, and its
-  -- mark
+  -- the step judge: row 24; then what holds of every automaton and of the composition; then whether some automata can
+  -- take the action, and its mark
   module _ (own : List ℕ) where
     unfoldable pub stepBy : (s : State) (action : ℕ) (t : State) → Answer
     stepBy s action t =

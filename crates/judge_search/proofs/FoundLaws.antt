@@ -13,8 +13,8 @@ use lib.Pow.{pow-mono}
 use borrow.Author.Tests.{lt-leb, lt-ltb, ltb-true, ltb-false, eq-eqb, ne-eqb}
 use Rattle.model.specs.Basic.{eqZ, every, exists, keep, member, countUp}
 use Rattle.model.specs.Bounds.{maxAutomata, maxTreeNodes, maxVariables}
-use Rattle.model.specs.Predicate.{mentions}
-use Rattle.model.specs.Composition.{Tree, par, syn, leaf, leaves, nodes, treeSize}
+use Rattle.model.specs.Predicate.{Pred, mentions}
+use Rattle.model.specs.Composition.{Tree, par, syn, ini, leaf, leaves, nodes, treeSize}
 use Rattle.model.specs.Model.{Model, Edge, automaton, inSet}
 use Rattle.model.specs.Limits.{rises, treeRises}
 use Rattle.model.specs.Lawful.{Lawful}
@@ -30,7 +30,7 @@ use Rattle.table_tree.specs.declared.nodes.Found.the-variants.{Par, Syn, Leaf}
 use Rattle.table_tree.specs.Nodes.{treeWords, nodeAt, skipFrom}
 use Rattle.table_tree.specs.Members.{inSetAt}
 use Rattle.table_tree.proofs.SetLaws.{keep-alike, bit-above}
-use Rattle.table_tree.proofs.Standing.{begins, par-stands, syn-stands, leaf-stands, size-par, size-syn, size-leaf, words-leaf, skip-of}
+use Rattle.table_tree.proofs.Standing.{begins, SynStands, par-stands, syn-stands, ini-stands, leaf-stands, size-par, size-syn, size-ini, size-leaf, words-leaf, skip-of}
 use Rattle.table_tree.proofs.NodeLaws.{later}
 use Rattle.table_tree.proofs.Inside.{Agrees, in-set-of}
 use Rattle.judge_cover.specs.Cover.{coverable, group, groupsOf}
@@ -60,6 +60,7 @@ some-node : (c : Tree) → 1 ≤ treeSize c
 unfolding treeSize nodes
 some-node (par c d) = omega arith
 some-node (syn list c) = omega arith
+some-node (ini p c) = omega arith
 some-node (leaf k) = omega arith
 
 -- the duties as bits of one number, and their trees' words
@@ -262,6 +263,10 @@ module _ (m : Model) (lawful : Lawful m) (s : State) (a : ℕ) (t : State) (w se
   unfolding treeRises Leaves
   below-sound {list} {c} x = record { lists = and-right (rises (m .actions) 0 list) _ (x .lists); named = x .named; agree = x .agree }
 
+  below-ini : {p : Pred} {c : Tree} → Sound (ini p c) → Sound c
+  unfolding treeRises Leaves
+  below-ini x = record { lists = x .lists; named = x .named; agree = x .agree }
+
   unfoldable AllSound : List Duty → Type 0
   AllSound [] = Unit {0}
   AllSound (duty ∷ duties) = Sound (treeOf duty) × AllSound duties
@@ -377,17 +382,15 @@ module _ (m : Model) (lawful : Lawful m) (s : State) (a : ℕ) (t : State) (w se
           sound = (left-sound both, (right-sound both, rest-sound));
         }
 
-    syn-ready : (list : List ℕ) (x : Duty) → treeOf z ≡ syn list (treeOf x) → Ready n (x ∷ duties) (at + 3) rest
+    -- what is under a `syn` or an `ini`
+    over-ready : (list : List ℕ) (x : Duty) → SynStands w at (wordsOf duties ++ rest) list (treeOf x) → treeSize (treeOf z) ≡ suc (treeSize (treeOf x)) → Sound (treeOf x) → Ready n (x ∷ duties) (at + 3) rest
     unfolding wordsOf owed AllSound
-    syn-ready list x e =
-        let next = syn-stands w at (wordsOf duties ++ rest) list (treeOf x) (first-words _ e) .next in
-        let size = first-size _ e in
-        record {
-          enough = omega (arith, size-syn list (treeOf x));
-          few = omega (arith, r .few);
-          words = next ∙ sym (append-assoc (treeWords (treeOf x)) (wordsOf duties) rest);
-          sound = (below-sound (first-sound _ e), rest-sound);
-        }
+    over-ready list x stands size sound = record {
+      enough = omega (arith, first-size _ refl);
+      few = omega (arith, r .few);
+      words = stands .next ∙ sym (append-assoc (treeWords (treeOf x)) (wordsOf duties) rest);
+      sound = (sound, rest-sound);
+    }
 
     leaf-ready : (k : ℕ) → treeOf z ≡ leaf k → Ready n duties (at + 1) rest
     leaf-ready k e =
@@ -426,10 +429,6 @@ module _ (m : Model) (lawful : Lawful m) (s : State) (a : ℕ) (t : State) (w se
   unfolding allUnmoved leaves every
   unmoved-leaf k = and-true (unmoved s t k)
 
-  unmoved-syn : (list : List ℕ) (c : Tree) → allUnmoved s t (syn list c) ≡ allUnmoved s t c
-  unfolding allUnmoved leaves
-  unmoved-syn list c = refl
-
   taken-is : (n next d k takers : ℕ) → k < maxAutomata → takers < 2 ^ k → takenBy (S n) next d k takers ≡ S n next d (takers + 2 ^ k)
   unfolding takenBy
   taken-is n next d k takers l small = rw (lt-ltb k maxAutomata l, takenBy, lt-ltb takers (2 ^ k) small, takenBy)
@@ -453,14 +452,26 @@ module _ (m : Model) (lawful : Lawful m) (s : State) (a : ℕ) (t : State) (w se
       let z = takes (syn list c) in
       let stands = syn-stands w at (wordsOf duties ++ rest) list c (first-words n z duties at rest r _ refl) in
       syn-step n at takers _ (stands .node) (stack duties) (stack-some duties) 1 (at + 3) _ _ refl
-      ∙ seek-is n (takes c ∷ duties) (at + 3) rest i takers ks (syn-ready n z duties at rest r list (takes c) refl) o x
+      ∙ seek-is n (takes c ∷ duties) (at + 3) rest i takers ks (over-ready n z duties at rest r list (takes c) stands (size-syn list c) (below-sound (first-sound n z duties at rest r _ refl))) o x
       ∙ unfold takerSets in refl
   seek-is (suc n) (rests (syn list c) ∷ duties) at rest i takers ks r o x =
       let z = rests (syn list c) in
       let stands = syn-stands w at (wordsOf duties ++ rest) list c (first-words n z duties at rest r _ refl) in
       syn-step n at takers _ (stands .node) (stack duties) (stack-some duties) 0 (at + 3) _ _ refl
-      ∙ seek-is n (rests c ∷ duties) (at + 3) rest i takers ks (syn-ready n z duties at rest r list (rests c) refl) o x
-      ∙ ap (λ b. b && walk duties ks) (sym (unmoved-syn list c))
+      ∙ seek-is n (rests c ∷ duties) (at + 3) rest i takers ks (over-ready n z duties at rest r list (rests c) stands (size-syn list c) (below-sound (first-sound n z duties at rest r _ refl))) o x
+      ∙ unfold allUnmoved leaves in refl
+  seek-is (suc n) (takes (ini p c) ∷ duties) at rest i takers ks r o x =
+      let z = takes (ini p c) in
+      let stands = ini-stands w at (wordsOf duties ++ rest) p c (first-words n z duties at rest r _ refl) in
+      syn-step n at takers _ (stands .node) (stack duties) (stack-some duties) 1 (at + 3) _ _ refl
+      ∙ seek-is n (takes c ∷ duties) (at + 3) rest i takers ks (over-ready n z duties at rest r [] (takes c) stands (size-ini p c) (below-ini (first-sound n z duties at rest r _ refl))) o x
+      ∙ unfold takerSets in refl
+  seek-is (suc n) (rests (ini p c) ∷ duties) at rest i takers ks r o x =
+      let z = rests (ini p c) in
+      let stands = ini-stands w at (wordsOf duties ++ rest) p c (first-words n z duties at rest r _ refl) in
+      syn-step n at takers _ (stands .node) (stack duties) (stack-some duties) 0 (at + 3) _ _ refl
+      ∙ seek-is n (rests c ∷ duties) (at + 3) rest i takers ks (over-ready n z duties at rest r [] (rests c) stands (size-ini p c) (below-ini (first-sound n z duties at rest r _ refl))) o x
+      ∙ unfold allUnmoved leaves in refl
   seek-is (suc n) (takes (leaf k) ∷ duties) at rest i takers ks r o x =
       let z = takes (leaf k) in
       let node = leaf-stands w at (wordsOf duties ++ rest) k (first-words n z duties at rest r _ refl) in

@@ -4,7 +4,7 @@ use mathlib.Core.Bool.{Bool, true, false, _&&_, _||_, or-false}
 use mathlib.Core.List.{List, [], _∷_, _++_, map, flatMap}
 use Prim.Native.Nat.{ℕ}
 use Rattle.model.specs.Basic.{exists, countUp}
-use Rattle.model.specs.Composition.{Tree, par, syn, leaf}
+use Rattle.model.specs.Composition.{Tree, par, syn, ini, leaf}
 use Rattle.model.specs.Model.{Model, inSet}
 use Rattle.model.specs.Lawful.{Lawful}
 use Rattle.model.specs.Rules.{State}
@@ -81,6 +81,7 @@ module _ (m : Model) (s : State) (a : ℕ) (t : State) where
       ∙ sym (exists-and (allUnmoved s t d) f P) ∙ sym (exists-only f (allUnmoved s t d) P))
       (ap (λ b. allUnmoved s t c && b) (takes-sets d on u) ∙ sym (exists-only f (allUnmoved s t c) Q))
   takes-sets (syn list c) on u = takes-sets c on u
+  takes-sets (ini p c) on u = takes-sets c on u
   takes-sets (leaf k) on u = unfold choosing exists in sym (or-false (exists (λ e. on (uncovered u e)) (candidates m s a t k)))
 
 -- The search says whether some move of the composition fits the step.

@@ -7,7 +7,7 @@ use native.Mathlib.Omega.{arith}
 use lib.ListN.{length}
 use Rattle.model.specs.Basic.{every, exists, keep, countUp, eqZ, each}
 use Rattle.model.specs.Predicate.{mentions}
-use Rattle.model.specs.Composition.{Tree, par, syn, leaf, leaves}
+use Rattle.model.specs.Composition.{Tree, par, syn, ini, leaf, leaves}
 use Rattle.model.specs.Model.{Model, Edge, automaton, inSet}
 use Rattle.model.specs.Rules.{State, Taker, val, mentioned}
 use Rattle.model.specs.Moves.{pairs, sides, under, alone, moves}
@@ -76,6 +76,7 @@ every-leaves f g (par c d) i w h =
     ∙ and-same (every-leaves f g c i (w .0) (λ k l u. h k l (omega arith))) (every-leaves f g d (i + size c) (w .1) (λ k l u. h k (omega arith) (omega arith)))
     ∙ sym (every-append g (leaves c) (leaves d))
 every-leaves f g (syn list c) i w h = every-leaves f g c i w h
+every-leaves f g (ini p c) i w h = every-leaves f g c i w h
 every-leaves f g (leaf k) i w h = and-same (h k (omega arith) (omega arith)) refl
 
 -- one of three tests, by whether the action is in the left's set and in the right's
@@ -172,6 +173,7 @@ module _ (m : Model) (s : State) (a : ℕ) (t : State) where
   unfoldable pub takesOn : Tree → (List ℕ → Bool) → List ℕ → Bool
   takesOn (leaf k) on u = exists (λ e. on (uncovered u e)) (candidates m s a t k)
   takesOn (syn list c) on u = takesOn c on u
+  takesOn (ini p c) on u = takesOn c on u
   takesOn (par c d) on u =
       alternatives (inSet m a c) (inSet m a d)
       (takesOn c (λ v. takesOn d on v) u)
@@ -251,6 +253,7 @@ module _ (m : Model) (s : State) (a : ℕ) (t : State) where
       (left-takes c d i (w .0) (w .1) is-c is-d on u)
       (right-takes c d i (w .0) (w .1) is-c is-d on u)
   takes-is (syn list c) i w on u = takes-is c i w on u
+  takes-is (ini p c) i w on u = takes-is c i w on u
   takes-is (leaf k) i w on u =
       exists-keep (λ e. on (uncovered u e)) (isCandidate m s a t k) (under a (automaton m k .edges))
       ∙ exists-ext _ _ (under a (automaton m k .edges)) (λ e h. ap (λ b. b && on (uncovered u e)) (sym (fit-alone k e)))

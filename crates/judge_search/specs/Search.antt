@@ -8,7 +8,7 @@ use lib.ListN.{length}
 use lib.Dec.{eqb}
 use Rattle.model.specs.Basic.{eqZ, every, exists, keep, countUp}
 use Rattle.model.specs.Predicate.{mentions}
-use Rattle.model.specs.Composition.{Tree, par, syn, leaf, leaves}
+use Rattle.model.specs.Composition.{Tree, par, syn, ini, leaf, leaves}
 use Rattle.model.specs.Model.{Model, Edge, automaton, inSet}
 use Rattle.model.specs.Rules.{State, at, val}
 use Rattle.model.specs.Moves.{under}
@@ -67,6 +67,7 @@ module _ (m : Model) (s : State) (a : ℕ) (t : State) where
       (onlyIf (allUnmoved s t d) (takerSets c))
       (onlyIf (allUnmoved s t c) (takerSets d))
   takerSets (syn list c) = takerSets c
+  takerSets (ini p c) = takerSets c
   takerSets (leaf k) = (k ∷ []) ∷ []
 
   -- Can these automata each choose one of their candidates, so that `on` holds of what is then uncovered?

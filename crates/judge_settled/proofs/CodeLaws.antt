@@ -1,8 +1,9 @@
 -- Each way out of the code of src/.
-use mathlib.Core.Path.{_≡_, sym, ap, _∙_}
-use mathlib.Core.Bool.{Bool, true, false, not}
+use mathlib.Core.Path.{_≡_, refl, sym, ap, _∙_}
+use mathlib.Core.Bool.{Bool, true, false, not, _&&_}
 use mathlib.Core.List.{List}
-use Prim.Native.Nat.{ℕ, _-_, _≤_}
+use Prim.Native.Nat.{ℕ, zero, suc, _-_, _≤_}
+use native.Mathlib.Numerals.{sub-one}
 use lib.IntN.{ℤ}
 use lib.ListN.{length, getD, take, List·getD-eq-default}
 use Rattle.model.proofs.Tests.{not-true, not-false}
@@ -10,13 +11,14 @@ use Rattle.evaluator.specs.Evaluate.{evaluate}
 use Rattle.table_places.specs.declared.layout.Layout.{Layout}
 use Rattle.table_places.specs.Outline.{nodesPlace, firstLocation, locationAt, afterPredicate}
 use Rattle.table_places.specs.Layout.{automataOf, variablesOf}
+use Rattle.table_places.specs.Starts.{startsAt, startCount, firstStart}
 use Rattle.judge_rows.specs.declared.Phase.{Phase}
 use Rattle.judge_rows.specs.declared.Phase.the-variants.{Start, Running}
 use Rattle.judge_rows.specs.declared.State.{State}
 use Rattle.judge_settled.specs.declared.Part.{Part}
 use Rattle.judge_settled.specs.declared.Part.the-variants.{Init, Inv}
 use Rattle.judge_rows.specs.Each.{eachFrom}
-use Rattle.judge_settled.specs.Settled.{partAt, partHolds, locationHolds, holdsAt, allHold, startedIn, settledAt}
+use Rattle.judge_settled.specs.Settled.{partAt, partHolds, locationHolds, holdsAt, allHold, holdFrom, startsHoldAt, startedIn, settledAt}
 
 -- `location`
 pub location-past : (l : List ℕ) (k : ℕ) → length l ≡ 16 → 16 ≤ k → 0 ≡ getD l k 0
@@ -50,11 +52,46 @@ pub all-walked : (w : List ℕ) (x : Layout) (part : Part) (s : State) (n : ℕ)
 unfolding allHold
 all-walked w x part s n r e f = f ∙ ap (eachFrom (holdsAt w x part s (x .sets)) 0) e
 
+-- `starts_hold`
+pub starts-walked : (w : List ℕ) (x : Layout) (s : State) (place n at : ℕ) → place ≡ startsAt w (x .tree) → n ≡ startCount w place
+    → at ≡ firstStart w place → holdFrom w x (s .values) at n ≡ startsHoldAt w x s
+unfolding startsHoldAt
+starts-walked w x s place n at e f g = rw (g, f, e)
+
+module _ (w : List ℕ) (x : Layout) (values : List ℤ) where
+  pub hold-cons : (at left : ℕ) → holdFrom w x values at (suc left) ≡ (partHolds w x values at && holdFrom w x values (afterPredicate w at) left)
+  hold-cons at left = go (partHolds w x values at) refl
+    where
+      go : (b : Bool) → partHolds w x values at ≡ b → holdFrom w x values at (suc left) ≡ (b && holdFrom w x values (afterPredicate w at) left)
+      go true e = unfold holdFrom in rw (e, holdFrom)
+      go false e = unfold holdFrom in rw (e, holdFrom)
+
+  module _ (at left : ℕ) (whole : Bool) (goes : holdFrom w x values at left ≡ whole) where
+    pub hold-done : left ≡ 0 → true ≡ whole
+    unfolding holdFrom
+    hold-done z = rw z at goes
+
+    module _ (y : left ≡ 0 → ⊥) (r : Bool) (e : r ≡ partHolds w x values at) where
+      taken : (r && holdFrom w x values (afterPredicate w at) (left - 1)) ≡ whole
+      taken = go left y goes
+        where
+          go : (m : ℕ) → (m ≡ 0 → ⊥) → holdFrom w x values at m ≡ whole → (r && holdFrom w x values (afterPredicate w at) (m - 1)) ≡ whole
+          go zero u i = absurd (u refl)
+          go (suc m) u i = rw (sub-one (suc m), e, ← hold-cons at m) i
+
+      pub hold-fails : not r ≡ true → false ≡ whole
+      hold-fails f = rw (not-true r f) at taken
+
+      pub hold-again : not r ≡ false → (b : ℕ) → b ≡ afterPredicate w at → holdFrom w x values b (left - 1) ≡ whole
+      hold-again f b g = rw g (rw (not-false r f) at taken)
+
+pub ruleset hold-laws = (starts-walked, hold-done, hold-fails, hold-again)
+
 -- `started`
 module _ (w : List ℕ) (x : Layout) (s : State) (phase : Phase) where
-  pub started-start : phase ≡ Start → (r : Bool) → r ≡ allHold w x Init s → r ≡ startedIn w x s phase
+  pub started-start : phase ≡ Start → (a b : Bool) → a ≡ allHold w x Init s → b ≡ startsHoldAt w x s → (a && b) ≡ startedIn w x s phase
   unfolding startedIn
-  started-start e r f = rw (e, f)
+  started-start e a b f g = rw (e, f, g)
 
   pub started-running : phase ≡ Running → true ≡ startedIn w x s phase
   unfolding startedIn

@@ -1,33 +1,38 @@
 -- On the words of a lawful model, what the code tests of two states is `settled` of the definitions.
 use mathlib.Core.Path.{_≡_, refl, ap, _∙_}
 use mathlib.Core.Bool.{Bool, true, false, _&&_}
-use mathlib.Core.List.{List, _++_, map, List·Memᴰ}
-use Prim.Native.Nat.{ℕ, _≤_, _<_}
-use lib.ListN.{length, take, drop, length-map}
+use mathlib.Core.List.{List, [], _∷_, _++_, append-assoc, map, flatMap, List·Memᴰ, List·Memᴰ·head, List·Memᴰ·tail, List·Memᴰ·not-nil}
+use Prim.Native.Nat.{ℕ, _+_, _≤_, _<_}
+use native.Mathlib.Omega.{arith}
+use lib.ListN.{length, take, drop, length-append, length-map}
 use lib.Seq.{take-at}
+use Rattle.model.specs.Basic.{every}
 use Rattle.model.specs.Bounds.{maxNodes}
 use Rattle.model.specs.Predicate.{Pred, words, nodeCount}
+use Rattle.model.specs.Composition.{starts, startNodes}
 use Rattle.model.specs.Model.{Location, Model, nowhere, nobody, automaton, location}
 use Rattle.model.specs.Lawful.{LawfulPred, LawfulLocation, Lawful}
 use Rattle.model.specs.Table.{code, predWords, sheetWords}
 use Rattle.model.specs.Rules as R
-use Rattle.model.specs.Judge.{inits, invs, initial, settled}
+use Rattle.model.specs.Judge.{inits, invs, startsHold, initial, settled}
 use Rattle.model.proofs.Tests.{and-same}
 use Rattle.evaluator.proofs.Items.{item-in}
 use Rattle.evaluator.proofs.Meaning.{evaluate-lawful}
 use Rattle.evaluator.proofs.FewNodes.{init-nodes, inv-nodes}
-use Rattle.table_places.specs.Outline.{nodesPlace, firstLocation, automatonAt}
+use Rattle.table_places.specs.Outline.{nodesPlace, afterPredicate, firstLocation, automatonAt}
 use Rattle.table_places.specs.Layout.{layoutOf}
-use Rattle.table_places.proofs.OutlineLaws.{nodes-stand, first-location}
-use Rattle.table_places.proofs.LayoutLaws.{all-variables}
+use Rattle.table_places.proofs.OutlineLaws.{nodes-stand, after-predicate, first-location}
+use Rattle.table_places.proofs.LayoutLaws.{all-variables, tree-line}
 use Rattle.table_places.proofs.Standing.{init-stands, inv-stands, automaton-stands}
+use Rattle.table_places.proofs.StartLaws.{start-count, first-start}
 use Rattle.judge_rows.specs.declared.Phase.{Phase}
 use Rattle.judge_rows.specs.declared.Phase.the-variants.{Start, Running}
 use Rattle.judge_rows.specs.declared.State.{State}
 use Rattle.judge_settled.specs.declared.Part.{Part}
 use Rattle.judge_settled.specs.declared.Part.the-variants.{Init, Inv}
 use Rattle.judge_rows.specs.Phases.{phaseIs}
-use Rattle.judge_settled.specs.Settled.{partAt, partHolds, locationHolds, allHold, startedIn, settledAt}
+use Rattle.judge_settled.specs.Settled.{partAt, partHolds, locationHolds, allHold, holdFrom, startsHoldAt, startedIn, settledAt}
+use Rattle.judge_settled.proofs.CodeLaws.{hold-cons}
 use Rattle.judge_rows.proofs.RowLaws.{each-automaton}
 use Rattle.judge_rows.proofs.StateLaws.{Shows}
 
@@ -35,7 +40,19 @@ unfoldable partOf : Part → Location → Pred
 partOf Init l = l .init
 partOf Inv l = l .inv
 
+-- a predicate has no more nodes than all of a list together
+one-of-all : (ps : List Pred) (p : Pred) → List·Memᴰ p ps → nodeCount p ≤ length (flatMap words ps)
+unfolding flatMap nodeCount
+one-of-all [] p i = absurd (List·Memᴰ·not-nil i)
+one-of-all (q ∷ ps) p (List·Memᴰ·head e) = let n : length (words p) ≡ length (words q) = ap (λ (r : Pred). length (words r)) e in omega (arith, length-append (words q) (flatMap words ps))
+one-of-all (q ∷ ps) p (List·Memᴰ·tail i) = omega (arith, length-append (words q) (flatMap words ps), one-of-all ps p i)
+
 module _ (m : Model) (lawful : Lawful m) where
+  -- so has the P of an `ini`, and it is lawful
+  lawful-start : (p : Pred) → List·Memᴰ p (starts (m .tree)) → LawfulPred (m .variables) p × (nodeCount p ≤ maxNodes)
+  unfolding startNodes
+  lawful-start p i = (lawful .starts p i .pred, omega (arith, lawful .few-nodes, one-of-all (starts (m .tree)) p i))
+
   -- a location's predicates are lawful, and have no more nodes than all of them
   module _ (k j : ℕ) (h : k < length (m .automata)) (i : j < length (automaton m k .locations)) where
     in-sheet : List·Memᴰ (automaton m k) (m .automata)
@@ -83,13 +100,33 @@ module _ (m : Model) (lawful : Lawful m) where
       unfolding allHold invs partOf
       invs-is = each-automaton m lawful t rest e (locationHolds t (layoutOf t) Inv s) _ (location-at Inv)
 
-      -- init only in phase Start
-      pub started-is : startedIn t (layoutOf t) s (s .phase) ≡ initial (u .phase) (inits m u)
+      -- some predicates, one after the other
+      all-at : (ps : List Pred) (at : ℕ) (more : List ℕ) → drop at t ≡ flatMap predWords ps ++ more
+          → ((p : Pred) → List·Memᴰ p ps → LawfulPred (m .variables) p × (nodeCount p ≤ maxNodes)) → holdFrom t (layoutOf t) (s .values) at (length ps) ≡ every (R.holdsIn u) ps
+      unfolding holdFrom flatMap every
+      all-at [] at more stands l = refl
+      all-at (p ∷ ps) at more stands l =
+          let others = flatMap predWords ps ++ more in
+          let here : drop at t ≡ predWords p ++ others = stands ∙ append-assoc (predWords p) (flatMap predWords ps) more in
+          hold-cons t (layoutOf t) (s .values) at (length ps) ∙
+          and-same (holds-at p at others here (l p (List·Memᴰ·head refl)))
+          (all-at ps (afterPredicate t at) more (after-predicate t at p others here) (λ q i. l q (List·Memᴰ·tail i)))
+
+      pub starts-is : startsHoldAt t (layoutOf t) s ≡ startsHold m u
+      unfolding startsHoldAt startsHold
+      starts-is =
+          let line = tree-line m lawful t rest e in
+          let few = lawful .tree .size in
+          let first = first-start t rest (m .tree) (layoutOf t .tree) line few in
+          rw (start-count t rest (m .tree) (layoutOf t .tree) line few) (all-at (starts (m .tree)) _ rest first lawful-start)
+
+      -- init and P only in phase Start
+      pub started-is : startedIn t (layoutOf t) s (s .phase) ≡ initial (u .phase) (inits m u && startsHold m u)
       unfolding startedIn initial phaseIs
       started-is = go (s .phase) (u .phase) (shows .phase)
         where
-          go : (p : Phase) (q : R.Phase) → phaseIs p ≡ q → startedIn t (layoutOf t) s p ≡ initial q (inits m u)
-          go Start q f = rw (← f) inits-is
+          go : (p : Phase) (q : R.Phase) → phaseIs p ≡ q → startedIn t (layoutOf t) s p ≡ initial q (inits m u && startsHold m u)
+          go Start q f = rw (← f) (and-same inits-is starts-is)
           go Running q f = rw (← f)
 
     pub settled-is : (s s' : State) (u u' : R.State) → Shows m s u → Shows m s' u' → settledAt t (layoutOf t) s s' ≡ settled m u u'

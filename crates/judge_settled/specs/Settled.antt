@@ -1,14 +1,15 @@
--- What holds of every automaton, over the words of a table, a layout, and states as the code holds them. On a model's
--- table and its layout it is `settled` of the definitions: the law settled-is.
-use mathlib.Core.Bool.{Bool, true, false}
+-- What holds of every automaton and of the composition, over the words of a table, a layout, and states as the code
+-- holds them. On a model's table and its layout it is `settled` of the definitions: the law settled-is.
+use mathlib.Core.Bool.{Bool, true, false, _&&_}
 use mathlib.Core.List.{List}
-use Prim.Native.Nat.{ℕ}
+use Prim.Native.Nat.{ℕ, zero, suc}
 use lib.IntN.{ℤ}
 use lib.ListN.{getD, take}
 use Rattle.evaluator.specs.Evaluate.{evaluate}
 use Rattle.table_places.specs.declared.layout.Layout.{Layout}
 use Rattle.table_places.specs.Outline.{nodesPlace, firstLocation, locationAt, afterPredicate}
 use Rattle.table_places.specs.Layout.{automataOf, variablesOf}
+use Rattle.table_places.specs.Starts.{startsAt, startCount, firstStart}
 use Rattle.judge_rows.specs.declared.Phase.{Phase}
 use Rattle.judge_rows.specs.declared.Phase.the-variants.{Start, Running}
 use Rattle.judge_rows.specs.declared.State.{State}
@@ -34,8 +35,20 @@ module _ (words : List ℕ) (x : Layout) where
   unfoldable pub allHold : Part → State → Bool
   allHold part s = eachFrom (holdsAt part s (x .sets)) 0 (automataOf x)
 
+  -- the `left` predicates from a place on hold
+  unfoldable pub holdFrom : (values : List ℤ) (at left : ℕ) → Bool
+  holdFrom values at zero = true
+  holdFrom values at (suc left) =
+      elim (partHolds values at) [ true ↦ holdFrom values (afterPredicate words at) left | false ↦ false ]
+
+  -- every P of an `ini`; `place` is where their number stands
+  unfoldable pub startsHoldAt : State → Bool
+  startsHoldAt s =
+      let place = startsAt words (x .tree) in
+      holdFrom (s .values) (firstStart words place) (startCount words place)
+
   unfoldable pub startedIn : State → Phase → Bool
-  startedIn s Start = allHold Init s
+  startedIn s Start = allHold Init s && startsHoldAt s
   startedIn s Running = true
 
   abbrev pub started : State → Bool

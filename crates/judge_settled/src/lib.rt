@@ -1,10 +1,12 @@
 // What holds of every automaton, whether it takes an edge or is still: its location's init (in phase Start) and inv.
+// And what holds of the composition, whoever takes an edge: the P of each `ini` (in phase Start).
 use judge_rows::Phase;
 use judge_rows::State;
 use table_places::Layout;
 ghost use mathlib.Core.Path.{_≡_};
 ghost use lib.ListN.{getD};
-ghost use Rattle.judge_settled.specs.Settled.{partAt, partHolds, locationHolds, allHold, started, settledAt};
+ghost use Rattle.judge_settled.specs.Settled.{partAt, partHolds, locationHolds, allHold, startsHoldAt, started};
+ghost use Rattle.judge_settled.specs.Settled.{settledAt};
 
 // Which of a location's two predicates.
 pub enum Part {
@@ -69,18 +71,35 @@ fn all_hold(words: &[u32], x: Layout, part: Part, s: State) -> bool
     true
 }
 
-// In phase Start every init holds; in phase Running they play no part.
+// Every P holds. They are predicates, one after the other.
+fn starts_hold(words: &[u32], x: Layout, s: State) -> bool
+    ensures { λ r. ⌜ r ≡ startsHoldAt (now (words .entry)) x s ⌝ }
+{
+    let place = table_places::starts_at(words, x);
+    let mut left = table_places::start_count(words, place);
+    let mut at = table_places::first_start(words, place);
+    while left != 0 {
+        if !part_holds(words, x, at, s) {
+            return false;
+        }
+        at = table_places::after_predicate(words, at);
+        left -= 1;
+    }
+    true
+}
+
+// In phase Start every init and every P holds; in phase Running they play no part.
 fn started(words: &[u32], x: Layout, s: State) -> bool
     ensures { λ r. ⌜ r ≡ started (now (words .entry)) x s ⌝ }
 {
     let phase = s.phase;
     match phase {
-        Phase::Start => all_hold(words, x, Part::Init, s),
+        Phase::Start => all_hold(words, x, Part::Init, s) & starts_hold(words, x, s),
         Phase::Running => true,
     }
 }
 
-// For a step or a change from s to t: the inits and invs that s needs, and the invs of t.
+// For a step or a change from s to t: the inits, P's and invs that s needs, and the invs of t.
 pub fn settled(words: &[u32], x: Layout, s: State, t: State) -> bool
     ensures { λ r. ⌜ r ≡ settledAt (now (words .entry)) x s t ⌝ }
 {

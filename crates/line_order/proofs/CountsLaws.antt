@@ -9,7 +9,8 @@ use lib.ListN.{length, length-append}
 use lib.Dec.{leb}
 use Rattle.model.specs.Model.{Automaton, Location, edgeTotal}
 use Rattle.model.specs.Predicate.{nodeCount}
-use Rattle.model.specs.Lines.{Key as LineKey, Entry, formatLine, actionsLine, variablesLine, variableLine, automataLine, syncLine, locationsLine, initLine, invLine, edgesLine, edgeLine, composeLine, keyOf, Reading, atFirst, lastOf, onLast, addLocation, addEdge, withModel, withAutomata, withPred, noted}
+use Rattle.model.specs.Composition.{startNodes}
+use Rattle.model.specs.Lines.{Key as LineKey, Entry, formatLine, actionsLine, variablesLine, variableLine, automataLine, syncLine, locationsLine, initLine, invLine, edgesLine, edgeLine, composeLine, keyOf, Reading, atFirst, lastOf, onLast, addLocation, addEdge, withModel, withAutomata, withPred, withNodes, noted}
 use Rattle.model.specs.Limits.{variableCount, locationCount}
 use Rattle.model.proofs.LimitsLaws.{last-is}
 use Rattle.line_order.specs.declared.Key.{Key}
@@ -57,7 +58,7 @@ paced-after n c Init m p h = record { variables = omega arith; automata = omega 
 paced-after n c Inv m p h = record { variables = omega arith; automata = omega arith; locations = omega (arith, add-most (c .locations) 1); edges = omega arith }
 paced-after n c Edges m p h = paced-more n (n + 1) c (omega arith) h
 paced-after n c Edge m p h = record { variables = omega arith; automata = omega arith; locations = omega arith; edges = omega (arith, add-most (c .edges) 1) }
-paced-after n c Compose m p h = paced-more n (n + 1) c (omega arith) h
+paced-after n c Compose m p h = record { variables = omega arith; automata = omega arith; locations = omega arith; edges = omega arith }
 paced-after n c End m p h = paced-more n (n + 1) c (omega arith) h
 
 pub paced-room : (n : ℕ) (c : Counts) (p : ℕ) → n < mostCount → c .nodes + p ≤ mostCount → Paced n c → Room c p
@@ -95,7 +96,7 @@ unfolding atFirst variableCount locationCount lastOf edgeTotal
 counted-first = record { actions = refl; variables = refl; automata = refl; locations = refl; edges = refl; nodes = refl }
 
 pub counted-after : (r : Reading) (c : Counts) (e : Entry) → Counted r c → Room c (nodesOf e) → (isInside (codeOf (keyOf e)) ≡ true → 1 ≤ length (r .model .automata)) → Counted (noted r e) (countsAfter c (codeOf (keyOf e)) (numberOf e) (nodesOf e))
-unfolding noted withModel withAutomata withPred variableCount locationCount keyOf codeOf numberOf nodesOf countsAfter isInside addLocation addEdge
+unfolding noted withModel withAutomata withPred withNodes variableCount locationCount keyOf codeOf numberOf nodesOf countsAfter isInside addLocation addEdge
 counted-after r c (formatLine n) h room begun = record { actions = h .actions; variables = h .variables; automata = h .automata; locations = h .locations; edges = h .edges; nodes = h .nodes }
 counted-after r c (actionsLine n) h room begun = record { actions = refl; variables = h .variables; automata = h .automata; locations = h .locations; edges = h .edges; nodes = h .nodes }
 counted-after r c (variablesLine n) h room begun = h
@@ -149,7 +150,15 @@ counted-after r c (edgeLine e) h room begun =
       edges = add-fits (c .edges) 1 (room .edges) ∙ omega (arith, h .edges, edges-on-last (addEdge e) 1 (λ x. length-append (x .edges) (e ∷ [])) (r .model .automata) (begun refl));
       nodes = add-fits (c .nodes) (nodeCount (e .update)) (room .nodes) ∙ ap (λ (n : ℕ). n + nodeCount (e .update)) (h .nodes);
     }
-counted-after r c (composeLine t) h room begun = record { actions = h .actions; variables = h .variables; automata = h .automata; locations = h .locations; edges = h .edges; nodes = h .nodes }
+counted-after r c (composeLine t) h room begun =
+    record {
+      actions = h .actions;
+      variables = h .variables;
+      automata = h .automata;
+      locations = h .locations;
+      edges = h .edges;
+      nodes = add-fits (c .nodes) (startNodes t) (room .nodes) ∙ ap (λ (n : ℕ). n + startNodes t) (h .nodes);
+    }
 
 -- Where a line inside an automaton is due, an automaton has been begun.
 pub begun-first : Begun dueFirst atFirst
@@ -168,7 +177,7 @@ neither : {A : Type 0} {b : Bool} → b ≡ false → b ≡ true → A
 neither p q = absurd (true≢false (sym q ∙ p))
 
 begun-next : (d : Due) (r : Reading) (e : Entry) → (isInside (codeOf (keyOf e)) ≡ true → 1 ≤ length (r .model .automata)) → isInside (dueAfterKey (codeOf (keyOf e)) d (numberOf e) .key) ≡ true → 1 ≤ length (noted r e .model .automata)
-unfolding dueAfterKey dueVariables dueAutomata codeOf keyOf numberOf isInside noted withModel withAutomata withPred
+unfolding dueAfterKey dueVariables dueAutomata codeOf keyOf numberOf isInside noted withModel withAutomata withPred withNodes
 begun-next d r (formatLine n) b i = neither refl i
 begun-next d r (actionsLine n) b i = neither refl i
 begun-next d r (variablesLine n) b i = neither (outside n _ _ refl refl) i

@@ -3,7 +3,7 @@ use Prim.Native.Nat.{ℕ, zero, suc, _-_}
 use mathlib.Core.Path.{_≡_, refl, sym, _∙_, ap}
 use mathlib.Core.List.{List, [], _∷_, _++_, append-assoc}
 use native.Mathlib.Numerals.{sub-one}
-use Rattle.model.specs.Lines.{Key as LineKey, format, actions, variables, variable, automata, sync, locations, init, inv, edges, edge, compose, repeat, Entry, formatLine, actionsLine, variablesLine, variableLine, automataLine, syncLine, locationsLine, initLine, invLine, edgesLine, edgeLine, composeLine, keyOf, dueAtFirst, thenDue, Reading, atFirst, withModel, withAutomata, withPred, noted}
+use Rattle.model.specs.Lines.{Key as LineKey, format, actions, variables, variable, automata, sync, locations, init, inv, edges, edge, compose, repeat, Entry, formatLine, actionsLine, variablesLine, variableLine, automataLine, syncLine, locationsLine, initLine, invLine, edgesLine, edgeLine, composeLine, keyOf, dueAtFirst, thenDue, Reading, atFirst, withModel, withAutomata, withPred, withNodes, noted}
 use Rattle.line_order.specs.declared.Key.{Key}
 use Rattle.line_order.specs.declared.Key.the-variants.{Format, Actions, Variables, Variable, Automata, Sync, Locations, Init, Inv, Edges, Edge, Compose, End}
 use Rattle.line_order.specs.declared.Due.{Due}
@@ -159,7 +159,7 @@ module _ (d : Due) (r : Reading) (same : d .format ≡ r .model .format) where
 
   -- the format is kept; at its own line it is the line's number
   format-next : (e : Entry) → dueAfterKey (codeOf (keyOf e)) d (numberOf e) .format ≡ noted r e .model .format
-  unfolding dueAfterKey dueVariables dueAutomata dueLocations dueEdges codeOf keyOf numberOf noted withModel withAutomata withPred
+  unfolding dueAfterKey dueVariables dueAutomata dueLocations dueEdges codeOf keyOf numberOf noted withModel withAutomata withPred withNodes
   format-next (formatLine n) = refl
   format-next (actionsLine n) = same
   format-next (variablesLine n) = either-format n _ _ same same

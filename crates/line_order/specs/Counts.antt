@@ -5,6 +5,7 @@ use mathlib.Core.Bool.{cond}
 use lib.ListN.{length}
 use lib.Dec.{leb, ltb}
 use Rattle.model.specs.Predicate.{nodeCount}
+use Rattle.model.specs.Composition.{startNodes}
 use Rattle.model.specs.Model.{edgeTotal}
 use Rattle.model.specs.Lines.{Entry, formatLine, actionsLine, variablesLine, variableLine, automataLine, syncLine}
 use Rattle.model.specs.Lines.{locationsLine, initLine, invLine, edgesLine, edgeLine, composeLine, Reading}
@@ -31,7 +32,7 @@ countsNone = counts 0 0 0 0 0 0
 abbrev pub withNodes : Counts → ℕ → Counts
 withNodes c p = counts (c .actions) (c .variables) (c .automata) (c .locations) (c .edges) (addUpTo (c .nodes) p)
 
--- after a line with this key and number, whose predicate has p nodes
+-- after a line with this key and number, whose predicates have p nodes
 unfoldable pub countsAfter : Counts → Key → (n p : ℕ) → Counts
 countsAfter c Format n p = c
 countsAfter c Actions n p = counts n (c .variables) (c .automata) (c .locations) (c .edges) (c .nodes)
@@ -47,10 +48,10 @@ countsAfter c Inv n p =
 countsAfter c Edges n p = c
 countsAfter c Edge n p =
     withNodes (counts (c .actions) (c .variables) (c .automata) (c .locations) (addUpTo (c .edges) 1) (c .nodes)) p
-countsAfter c Compose n p = c
+countsAfter c Compose n p = withNodes c p
 countsAfter c End n p = c
 
--- the nodes of a line's predicate
+-- the nodes of a line's predicate, or of all that stand in the composition
 unfoldable pub nodesOf : Entry → ℕ
 nodesOf (formatLine n) = 0
 nodesOf (actionsLine n) = 0
@@ -63,7 +64,7 @@ nodesOf (initLine p) = nodeCount p
 nodesOf (invLine p) = nodeCount p
 nodesOf (edgesLine n) = 0
 nodesOf (edgeLine e) = nodeCount (e .update)
-nodesOf (composeLine c) = 0
+nodesOf (composeLine c) = startNodes c
 
 -- the counts are those of what has been read
 pub record Counted (r : Reading) (c : Counts) : Type 0 where
@@ -74,7 +75,7 @@ pub record Counted (r : Reading) (c : Counts) : Type 0 where
   pub edges : c .edges ≡ edgeTotal (r .model .automata)
   pub nodes : c .nodes ≡ r .nodes
 
--- there is room to count one more line, whose predicate has p nodes
+-- there is room to count one more line, whose predicates have p nodes
 pub record Room (c : Counts) (p : ℕ) : Type 0 where
   pub variables : c .variables + 1 ≤ mostCount
   pub automata : c .automata + 1 ≤ mostCount

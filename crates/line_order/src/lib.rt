@@ -237,14 +237,14 @@ impl Counts {
     }
 
     // The nodes of one more predicate.
-    fn with_nodes(mut self, nodes: usize) -> Counts
+    pub fn with_nodes(mut self, nodes: usize) -> Counts
         ensures { λ r. ⌜ r ≡ withNodes self nodes ⌝ }
     {
         self.nodes = add(self.nodes, nodes);
         self
     }
 
-    // After a line with this key and number, whose predicate has so many nodes.
+    // After a line with this key and number, whose predicates have so many nodes.
     pub fn after(mut self, key: Key, number: usize, nodes: usize) -> Counts
         ensures { λ r. ⌜ r ≡ countsAfter self key number nodes ⌝ }
     {
@@ -276,7 +276,7 @@ impl Counts {
                 self.edges = add(self.edges, 1);
                 self.with_nodes(nodes)
             }
-            Key::Compose => self,
+            Key::Compose => self.with_nodes(nodes),
             Key::End => self,
         }
     }

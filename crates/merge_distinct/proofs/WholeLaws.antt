@@ -7,11 +7,10 @@ use native.Mathlib.Omega.{arith}
 use lib.ListN.{length, getD}
 use lib.Dec.{eqb}
 use borrow.Author.Tests.{eq-eqb, ne-eqb}
-use Rattle.model.specs.Bounds.{maxTreeNodes}
-use Rattle.table_tree.specs.Nodes.{skipFrom}
 use Rattle.table_places.specs.declared.layout.Layout.{Layout}
-use Rattle.table_places.specs.Outline.{nodesPlace, firstAutomaton}
+use Rattle.table_places.specs.Outline.{firstAutomaton}
 use Rattle.table_places.specs.Layout.{automataOf}
+use Rattle.table_places.specs.Starts.{startsAt, startCount, firstStart, startAt}
 use Rattle.merge_append.specs.Append.{Appended}
 use Rattle.merge_append.proofs.AppendLaws.{then}
 use Rattle.merge_distinct.specs.Firsts.{edgesOf, firstOnes, Gathered}
@@ -52,9 +51,15 @@ repeats-on t places i count whole u h edges n k firsts ee g ek e =
 
 pub ruleset repeats-laws = (repeats-begun, repeats-end, repeats-here, repeats-on)
 
+-- `tree_end`
+pub tree-end-is : (t : List ℕ) (x : Layout) (at first count r : ℕ) → at ≡ startsAt t (x .tree) → first ≡ firstStart t at → count ≡ startCount t at
+    → r ≡ startAt t first count → r ≡ treeEnd t x
+unfolding treeEnd
+tree-end-is t x at first count r e f g h = rw (h, f, g, e)
+
 -- `distinct`
-pub distinct-is : (t : List ℕ) (x : Layout) (first nodes end a b r : ℕ) (old mid new last : List ℕ) → first ≡ firstAutomaton t → Appended (part t 0 first) 0 old mid a
-    → Appended (automataWords t (x .sets) (x .edges) 0 (automataOf x)) a mid new b → nodes ≡ nodesPlace t (x .tree) → end ≡ skipFrom t maxTreeNodes 1 nodes
-    → Appended (part t (x .tree) end) b new last r → Appended (distinctWords t x) 0 old last r
-unfolding distinctWords treeEnd
-distinct-is t x first nodes end a b r old mid new last ef p q en ee s = rw (← ef, ← en, ← ee) (then p (then q s))
+pub distinct-is : (t : List ℕ) (x : Layout) (first end a b r : ℕ) (old mid new last : List ℕ) → first ≡ firstAutomaton t → Appended (part t 0 first) 0 old mid a
+    → Appended (automataWords t (x .sets) (x .edges) 0 (automataOf x)) a mid new b → end ≡ treeEnd t x → Appended (part t (x .tree) end) b new last r
+    → Appended (distinctWords t x) 0 old last r
+unfolding distinctWords
+distinct-is t x first end a b r old mid new last ef p q ee s = rw (← ef, ← ee) (then p (then q s))

@@ -5,11 +5,10 @@ use mathlib.Core.List.{List, [], _∷_, _++_}
 use Prim.Native.Nat.{ℕ, zero, suc, _+_, _-_}
 use lib.ListN.{length, getD}
 use lib.Dec.{eqb}
-use Rattle.model.specs.Bounds.{maxTreeNodes}
-use Rattle.table_tree.specs.Nodes.{skipFrom}
 use Rattle.table_places.specs.declared.layout.Layout.{Layout}
-use Rattle.table_places.specs.Outline.{nodesPlace, firstAutomaton}
+use Rattle.table_places.specs.Outline.{firstAutomaton}
 use Rattle.table_places.specs.Layout.{automataOf}
+use Rattle.table_places.specs.Starts.{startsAt, startCount, firstStart, startAt}
 use Rattle.merge_append.specs.Runs.{run}
 use Rattle.merge_distinct.specs.Equality.{edgeLength}
 use Rattle.merge_distinct.specs.Firsts.{edgesOf, firstOnes}
@@ -46,9 +45,11 @@ module _ (t : List ℕ) where
   automataWords sets places i (suc n) =
       automatonWords (getD sets i 0) (getD places i 0) ++ automataWords sets places (i + 1) n
 
-  -- where the tree ends
+  -- where the tree's words end: after its start conditions
   unfoldable pub treeEnd : (x : Layout) → ℕ
-  treeEnd x = skipFrom t maxTreeNodes 1 (nodesPlace t (x .tree))
+  treeEnd x =
+      let at = startsAt t (x .tree) in
+      startAt t (firstStart t at) (startCount t at)
 
   -- the whole sheet
   unfoldable pub distinctWords : (x : Layout) → List ℕ

@@ -8,7 +8,7 @@ use model::Model;
 use table_places::Layout;
 ghost use mathlib.Core.Path.{_≡_};
 ghost use Rattle.merge_append.specs.Append.{Appended};
-ghost use Rattle.merge_distinct.specs.Distinct.{repeatsIn, distinctWords};
+ghost use Rattle.merge_distinct.specs.Distinct.{repeatsIn, treeEnd, distinctWords};
 
 // Has some automaton an edge twice?
 pub fn repeats(t: &[u32], x: Layout) -> bool
@@ -30,12 +30,20 @@ pub fn repeats(t: &[u32], x: Layout) -> bool
     false
 }
 
+// Where the tree's words end: after its start conditions.
+fn tree_end(t: &[u32], x: Layout) -> usize
+    ensures { λ r. ⌜ r ≡ treeEnd (now (t .entry)) x ⌝ }
+{
+    let at = table_places::starts_at(t, x);
+    let first = table_places::first_start(t, at);
+    table_places::start_at(t, first, table_places::start_count(t, at))
+}
+
 // The sheet's words without the repeats, from the table's first word on.
 pub fn distinct(t: &[u32], x: Layout, out: &mut [u32; Model::WORDS]) -> usize
     ensures { λ r. ⌜ Appended (distinctWords (now (t .entry)) x) 0 (now (out .entry)) (now (out .exit)) r ⌝ }
 {
     let a = copying::part(t, 0, table_places::first_automaton(t), out, 0);
     let b = copying::automata(t, x, out, a);
-    let end = table_tree::skip(t, table_places::nodes_at(t, x.tree));
-    copying::part(t, x.tree, end, out, b)
+    copying::part(t, x.tree, tree_end(t, x), out, b)
 }

@@ -4,7 +4,7 @@ use mathlib.Core.List.{List, [], _++_, flatMap, append-nil}
 use Prim.Native.Nat.{ℕ, _+_, _≤_, _<_}
 use native.Mathlib.Omega.{arith}
 use lib.ListN.{getD}
-use Rattle.model.specs.Composition.{Tree, par, syn, leaf, leaves}
+use Rattle.model.specs.Composition.{Tree, par, syn, ini, leaf, leaves}
 use Rattle.model.specs.Model.{Model}
 use Rattle.model.proofs.Numbered.{size, Numbered}
 use Rattle.model.proofs.Lists.{flat-append}
@@ -29,6 +29,7 @@ module _ (m : Model) (action : ℕ) where
       (takers-same d (i + size c) some others (n .1) (λ j p q. h j (omega arith) (omega arith)))
       ∙ sym (takers-joined some c d)
   takers-same (syn list c) i some others n h = takers-same c i some others n h
+  takers-same (ini p c) i some others n h = takers-same c i some others n h
   takers-same (leaf k) i some others n h =
       takers-leaf others k ∙ ap (takerOf m action k) (h k (omega arith) (omega arith)) ∙ sym (takers-leaf some k)
 
@@ -41,4 +42,5 @@ module _ (m : Model) (action : ℕ) where
       (takers-none c i picked (n .0) (λ j p q. h j p (omega arith)))
       (takers-none d (i + size c) picked (n .1) (λ j p q. h j (omega arith) (omega arith)))
   takers-none (syn list c) i picked n h = takers-none c i picked n h
+  takers-none (ini p c) i picked n h = takers-none c i picked n h
   takers-none (leaf k) i picked n h = takers-leaf picked k ∙ ap (takerOf m action k) (h k (omega arith) (omega arith))

@@ -10,7 +10,7 @@ use native.Mathlib.Decide.{decLt}
 use lib.ListN.{length, getD, take, drop, length-set, List·getD-append}
 use lib.Seq.{getD-set-same, getD-set-other, take-append-seam}
 use Rattle.model.specs.Bounds.{maxTreeNodes}
-use Rattle.model.specs.Composition.{Tree, par, syn, leaf, leaves, treeSize}
+use Rattle.model.specs.Composition.{Tree, par, syn, ini, leaf, leaves, treeSize}
 use Rattle.model.specs.Model.{Model, automaton, inSet}
 use Rattle.model.specs.Moves.{under, alone, sides, pairs, moves, sidesCount, moveCount}
 use Rattle.model.specs.Rules.{Taker}
@@ -19,7 +19,7 @@ use Rattle.model.proofs.Count.{moves-length}
 use Rattle.model.proofs.Numbered.{size, Numbered}
 use Rattle.table_tree.specs.declared.nodes.Found.the-variants.{Par, Syn, Leaf}
 use Rattle.table_tree.specs.Nodes.{treeWords}
-use Rattle.table_tree.proofs.Standing.{par-stands, syn-stands, leaf-stands, size-par, size-syn, size-leaf, length-par, length-syn, words-leaf, skip-of}
+use Rattle.table_tree.proofs.Standing.{SynStands, par-stands, syn-stands, ini-stands, leaf-stands, size-par, size-syn, size-ini, size-leaf, length-par, length-syn, length-ini, words-leaf, skip-of}
 use Rattle.merge_moves.specs.declared.picking.Taking.{Taking}
 use Rattle.merge_moves.specs.declared.picking.Taking.the-variants.{Both, Left, Right}
 use Rattle.merge_moves.specs.Capping.{capped, cellOf}
@@ -238,18 +238,25 @@ module _ (w cells : List ℕ) (m : Model) (action root : ℕ) where
   cell-of : (c : Tree) (at : ℕ) → at < root + 192 → Filled m action root cells c at → cellOf (inSet m action c) (moveCount m action c) ≡ cellAt cells root at
   cell-of c at h f = sym (filled-cell m action root cells c at f) ∙ cell-within cells root at (at - root) refl (omega arith)
 
-  syn-took : (list : List ℕ) (c : Tree) (i : ℕ) (before after : List ℕ) (move : List Taker) → Took m action c i before after move → Took m action (syn list c) i before after move
-  unfolding leaves size
-  syn-took list c i before after move t = record { takers = t .takers; there = t .there; low = t .low; high = t .high; long = t .long }
+  took-over : (c d : Tree) (i : ℕ) (before after : List ℕ) (move : List Taker) → leaves d ≡ leaves c → size d ≡ size c → Took m action c i before after move → Took m action d i before after move
+  took-over c d i before after move e s t = record { takers = rw e (t .takers); there = rw s (t .there); low = t .low; high = rw s (t .high); long = t .long }
+
+  -- a `syn` or an `ini` takes what is under it
+  over : (list : List ℕ) (c d : Tree) (i left at k : ℕ) (rest edges : List ℕ) (move : List Taker) → treeSize d ≤ left → treeSize d ≡ suc (treeSize c) → SynStands w at rest list c → leaves d ≡ leaves c → size d ≡ size c
+      → Took m action c i edges (P (left - 1) (at + 3) k edges .edges) move × (left - 1 ≤ P (left - 1) (at + 3) k edges .left + treeSize c) → Took m action d i edges (P left at k edges .edges) move × (left ≤ P left at k edges .left + treeSize d)
+  over list c d i left at k rest edges move h sz s e n below =
+      let step = pick-syn w cells root left at k (omega arith) (Syn (lowBits list) (highBits list) (at + 3)) (sym (s .node)) edges (lowBits list) (highBits list) (at + 3) refl _ refl in
+      rw (← step) (took-over c d i edges _ _ e n (below .0), omega (arith, below .1))
 
   some-words : (c : Tree) → 1 ≤ length (treeWords c)
   some-words (par c d) = omega (arith, length-par c d)
   some-words (syn list c) = omega (arith, length-syn list c)
+  some-words (ini p c) = omega (arith, length-ini p c)
   some-words (leaf k) = omega (arith, ap length (words-leaf k))
 
   pub picks : (c : Tree) (i left at k : ℕ) (rest edges : List ℕ) → treeSize c ≤ left → treeSize c ≤ maxTreeNodes → drop at w ≡ treeWords c ++ rest → at + length (treeWords c) ≤ root + 192 → Filled m action root cells c at → Numbered i c → i + size c ≤ 16 → length edges ≡ 16 → Unpicked c i edges → k < moveCount m action c → moveCount m action c ≤ 512
       → Took m action c i edges (P left at k edges .edges) (getD (moves m action c) k []) × (left ≤ P left at k edges .left + treeSize c)
-  unfolding Filled Numbered size moves moveCount
+  unfolding Filled Numbered size leaves moves moveCount
   picks (par c d) i left at k rest edges h small e room f n few long z l cap =
       let s = par-stands w at rest c d e in
       let sz = size-par c d in
@@ -277,9 +284,12 @@ module _ (w cells : List ℕ) (m : Model) (action root : ℕ) where
       let s = syn-stands w at rest list c e in
       let sz = size-syn list c in
       let lz = length-syn list c in
-      let step = pick-syn w cells root left at k (omega arith) (Syn (lowBits list) (highBits list) (at + 3)) (sym (s .node)) edges (lowBits list) (highBits list) (at + 3) refl _ refl in
-      let below = picks c i (left - 1) (at + 3) k rest edges (omega arith) (omega arith) (s .next) (omega arith) (f .1) n few long z l cap in
-      rw (← step) (syn-took list c i edges _ _ (below .0), omega (arith, below .1))
+      over list c (syn list c) i left at k rest edges _ h sz s refl refl (picks c i (left - 1) (at + 3) k rest edges (omega arith) (omega arith) (s .next) (omega arith) (f .1) n few long z l cap)
+  picks (ini p c) i left at k rest edges h small e room f n few long z l cap =
+      let s = ini-stands w at rest p c e in
+      let sz = size-ini p c in
+      let lz = length-ini p c in
+      over [] c (ini p c) i left at k rest edges _ h sz s refl refl (picks c i (left - 1) (at + 3) k rest edges (omega arith) (omega arith) (s .next) (omega arith) (f .1) n few long z l cap)
   picks (leaf j) i left at k rest edges h small e room f n few long z l cap =
       let sz = size-leaf j in
       let step = pick-leaf w cells root left at k (omega arith) (Leaf j (at + 1)) (sym (leaf-stands w at rest j e)) edges j (at + 1) refl _ refl in

@@ -1,5 +1,5 @@
 -- Each way out of the code of src/clauses.rt.
-use mathlib.Core.Path.{_≡_, sym, ap, ap₂, _∙_, subst}
+use mathlib.Core.Path.{_≡_, sym, ap, _∙_, subst}
 use mathlib.Core.List.{List, [], _∷_, _++_}
 use Prim.Native.Nat.{ℕ, suc, _+_, _-_, _≤_, _<_}
 use native.Mathlib.Omega.{arith}
@@ -10,7 +10,9 @@ use Rattle.merge_append.specs.Append.{Appended}
 use Rattle.merge_append.specs.Runs.{nodesAt}
 use Rattle.merge_append.specs.NodeWords.{allNode, numberNode, oldNode, impNode, eqNode, pointerOf, capped}
 use Rattle.merge_predicates.specs.declared.functions.Functions.{Functions}
-use Rattle.merge_predicates.specs.Clauses.{clauseWords, valueClauses, functionClauses, valueNodes, mergedNodes, mergedWords}
+use Rattle.merge_predicates.specs.declared.starts.Starts.{Starts}
+use Rattle.merge_predicates.specs.Starts.{addStarts, startNodesAt}
+use Rattle.merge_predicates.specs.Clauses.{clauseWords, valueClauses, functionClauses, valueNodes, mergedNodes, mergedOperands, mergedWords}
 use Rattle.merge_append.proofs.AppendLaws.{then, Underway, begun, on-by, ended}
 
 -- `clause`
@@ -87,11 +89,17 @@ module _ (t places : List ℕ) (count : ℕ) where
 
 pub ruleset nodes-laws = (nodes-begun, nodes-turn, nodes-end)
 
+-- `opening`
+pub opening-is : (t : List ℕ) (f : Functions) (s : Starts) (own nodes k word : ℕ) → own ≡ valueNodes t (f .places) 0 (f .total) 1
+    → nodes ≡ addStarts t (s .first) (s .count) own → k ≡ capped (f .total + s .count) → word ≡ allNode k → (at a r : ℕ) (old mid new : List ℕ)
+    → Appended (nodes ∷ []) at old mid a → Appended (word ∷ []) a mid new r → Appended (mergedNodes t f s ∷ allNode (mergedOperands f s) ∷ []) at old new r
+unfolding mergedNodes mergedOperands
+opening-is t f s own nodes k word eo en ek ew at a r old mid new p q = rw (← eo, ← en, ← ek, ← ew) (then p q)
+
 -- `merged`
-pub merged-is : (t : List ℕ) (x : Layout) (f : Functions) (nodes word : ℕ) → nodes ≡ valueNodes t (f .places) 0 (f .total) 1 → word ≡ allNode (f .total)
-    → (at a b r : ℕ) (old m1 m2 new : List ℕ) → Appended (nodes ∷ []) at old m1 a → Appended (word ∷ []) a m1 m2 b
-    → Appended (functionClauses t (f .domains) (f .places) (x .variables) 0 (automataOf x) 0) b m2 new r → Appended (mergedWords t x f) at old new r
-unfolding mergedWords mergedNodes
-merged-is t x f nodes word e1 e2 at a b r old m1 m2 new p1 p2 p3 =
-    let others = functionClauses t (f .domains) (f .places) (x .variables) 0 (automataOf x) 0 in
-    subst (λ (l : List ℕ). Appended l at old new r) (ap₂ (λ (n w : ℕ). n ∷ w ∷ others) e1 e2) (then p1 (then p2 p3))
+pub merged-is : (t : List ℕ) (x : Layout) (f : Functions) (s : Starts) (at a b r : ℕ) (old m1 m2 new : List ℕ)
+    → Appended (mergedNodes t f s ∷ allNode (mergedOperands f s) ∷ []) at old m1 a
+    → Appended (functionClauses t (f .domains) (f .places) (x .variables) 0 (automataOf x) 0) a m1 m2 b
+    → Appended (startNodesAt t (s .first) (s .count)) b m2 new r → Appended (mergedWords t x f s) at old new r
+unfolding mergedWords
+merged-is t x f s at a b r old m1 m2 new p q u = then p (then q u)

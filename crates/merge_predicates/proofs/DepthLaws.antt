@@ -12,10 +12,10 @@ use Rattle.node_words.specs.declared.Node.{Node}
 use Rattle.node_words.specs.declared.Node.the-variants.{All, Any, Not, Imp, Eq, Le, Number, Old, New, Add, Sub, Mul, If, Stray}
 use Rattle.node_words.specs.Nodes.{meant, nodeOf}
 use Rattle.node_words.proofs.NodeLaws.{word-by, Other, by-others}
-use Rattle.table_places.specs.Outline.{reach, nodesPlace}
+use Rattle.table_places.specs.Outline.{reach, nodesPlace, afterPredicate}
 use Rattle.merge_predicates.specs.declared.depth.Depth.{Depth}
 use Rattle.merge_append.specs.NodeWords.{capped}
-use Rattle.merge_predicates.specs.Depths.{arity, operandsOf, depthTo, greater, deepest, depthAt, isDeeper, valuesDeeper}
+use Rattle.merge_predicates.specs.Depths.{arity, operandsOf, depthTo, greater, deepest, depthAt, isDeeper, valuesDeeper, startsDeeper}
 
 -- `operands_of`
 abbrev not-two : List Node
@@ -140,3 +140,26 @@ module _ (t places : List ℕ) (count : ℕ) where
       values-on q = rw q at split
 
 pub ruleset merged-deep-laws = (values-begun, values-none, values-deep, values-on)
+
+-- `starts_deep`
+module _ (t : List ℕ) (place left : ℕ) (whole : Bool) (u : startsDeeper t 23 place left ≡ whole) where
+  pub starts-none : left ≡ 0 → false ≡ whole
+  unfolding startsDeeper
+  starts-none z = rw z at u
+
+  module _ (y : left ≡ 0 → ⊥) (b : Bool) (eb : b ≡ isDeeper t 23 place) where
+    first-start : (b || startsDeeper t 23 (afterPredicate t place) (left - 1)) ≡ whole
+    unfolding startsDeeper
+    first-start = go left y u
+      where
+        go : (n : ℕ) → (n ≡ 0 → ⊥) → startsDeeper t 23 place n ≡ whole → (b || startsDeeper t 23 (afterPredicate t place) (n - 1)) ≡ whole
+        go zero z i = absurd (z refl)
+        go (suc n) z i = rw (sub-one (suc n), eb) i
+
+    pub starts-deep : b ≡ true → true ≡ whole
+    starts-deep q = rw q at first-start
+
+    pub starts-on : b ≡ false → (p : ℕ) → p ≡ afterPredicate t place → startsDeeper t 23 p (left - 1) ≡ whole
+    starts-on q p e = rw e (rw q at first-start)
+
+pub ruleset starts-deep-laws = (starts-none, starts-deep, starts-on)

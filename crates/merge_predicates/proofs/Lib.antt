@@ -1,3 +1,4 @@
 pub mod FunctionLaws
+pub mod StartLaws
 pub mod ClauseLaws
 pub mod DepthLaws

@@ -1,5 +1,5 @@
 -- The words of the merged init, and of the merged inv, made from the functions fs or gs: how many values each automaton
--- has (`domains`), and where the values stand (`places`).
+-- has (`domains`), and where the values stand (`places`); and from the start conditions, which the inv does not have.
 use mathlib.Core.List.{List, [], _∷_, _++_}
 use Prim.Native.Nat.{ℕ, zero, suc, _+_}
 use lib.ListN.{getD}
@@ -8,6 +8,8 @@ use Rattle.table_places.specs.Layout.{automataOf}
 use Rattle.merge_append.specs.Runs.{nodesAt}
 use Rattle.merge_append.specs.NodeWords.{allNode, numberNode, oldNode, impNode, eqNode, pointerOf, capped}
 use Rattle.merge_predicates.specs.declared.functions.Functions.{Functions}
+use Rattle.merge_predicates.specs.declared.starts.Starts.{Starts}
+use Rattle.merge_predicates.specs.Starts.{addStarts, startNodesAt}
 
 -- `imp eq vK J` with the predicate at a place
 unfoldable pub clauseWords : (t : List ℕ) (k j part : ℕ) → List ℕ
@@ -33,11 +35,16 @@ valueNodes t places i zero sum = sum
 valueNodes t places i (suc n) sum =
     valueNodes t places (i + 1) n (capped (capped (sum + 4) + getD t (getD places i 0) 0))
 
--- the count of nodes, `all K`, and the clauses
-unfoldable pub mergedNodes : (t : List ℕ) (f : Functions) → ℕ
-mergedNodes t f = valueNodes t (f .places) 0 (f .total) 1
+-- how many nodes there are with `all K`, and K: the clauses, and the start conditions
+unfoldable pub mergedNodes : (t : List ℕ) (f : Functions) (s : Starts) → ℕ
+mergedNodes t f s = addStarts t (s .first) (s .count) (valueNodes t (f .places) 0 (f .total) 1)
 
-unfoldable pub mergedWords : (t : List ℕ) (x : Layout) (f : Functions) → List ℕ
-mergedWords t x f =
-    mergedNodes t f ∷ allNode (f .total) ∷
-    functionClauses t (f .domains) (f .places) (x .variables) 0 (automataOf x) 0
+unfoldable pub mergedOperands : (f : Functions) (s : Starts) → ℕ
+mergedOperands f s = capped (f .total + s .count)
+
+-- the count of nodes, `all K`, the clauses, and the start conditions
+unfoldable pub mergedWords : (t : List ℕ) (x : Layout) (f : Functions) (s : Starts) → List ℕ
+mergedWords t x f s =
+    mergedNodes t f s ∷ allNode (mergedOperands f s) ∷
+    (functionClauses t (f .domains) (f .places) (x .variables) 0 (automataOf x) 0 ++
+    startNodesAt t (s .first) (s .count))

@@ -9,9 +9,10 @@ use Rattle.model.specs.Bounds.{maxDepth}
 use Rattle.model.specs.Predicate.{Word, allOf, anyOf, notWord, impWord, eqWord, leWord, numWord, oldWord, newWord}
 use Rattle.model.specs.Predicate.{addWord, subWord, mulWord, ifWord, stray}
 use Rattle.model.specs.Table.{wordOf}
-use Rattle.table_places.specs.Outline.{reach, nodesPlace}
+use Rattle.table_places.specs.Outline.{reach, nodesPlace, afterPredicate}
 use Rattle.merge_predicates.specs.declared.depth.Depth.{Depth}
 use Rattle.merge_predicates.specs.declared.functions.Functions.{Functions}
+use Rattle.merge_predicates.specs.declared.starts.Starts.{Starts}
 use Rattle.merge_append.specs.NodeWords.{capped}
 
 -- the operands of a node
@@ -61,6 +62,11 @@ unfoldable pub valuesDeeper : (t : List ℕ) (most : ℕ) (places : List ℕ) (i
 valuesDeeper t most places i zero = false
 valuesDeeper t most places i (suc n) = isDeeper t most (getD places i 0) || valuesDeeper t most places (i + 1) n
 
--- so the merged init, or the merged inv, two deeper, is too deep
-unfoldable pub mergedDeep : (t : List ℕ) (f : Functions) → Bool
-mergedDeep t f = valuesDeeper t 22 (f .places) 0 (f .total)
+-- and one of n start conditions, of which the first stands at a place?
+unfoldable pub startsDeeper : (t : List ℕ) (most at n : ℕ) → Bool
+startsDeeper t most at zero = false
+startsDeeper t most at (suc n) = isDeeper t most at || startsDeeper t most (afterPredicate t at) n
+
+-- so the merged init, or the merged inv, is too deep: two deeper than its values, and one than its start conditions
+unfoldable pub mergedDeep : (t : List ℕ) (f : Functions) (s : Starts) → Bool
+mergedDeep t f s = valuesDeeper t 22 (f .places) 0 (f .total) || startsDeeper t 23 (s .first) (s .count)

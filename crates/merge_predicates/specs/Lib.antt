@@ -1,3 +1,4 @@
 pub mod Functions
+pub mod Starts
 pub mod Clauses
 pub mod Depths

@@ -1,14 +1,19 @@
 // The merged init, and the merged inv: `all K` of `imp eq vI J` with that init (or inv), for each automaton's pointer
-// and location. Definition 4 makes them of the functions fs (or gs).
+// and location, and in the init of the composition's own start conditions after them. Definition 4 makes them of the
+// functions fs (or gs).
 use crate::functions::Functions;
 use crate::functions::{self};
+use crate::starts::Starts;
+use crate::starts::{self};
 use model::Model;
 use table_places::Layout;
 ghost use mathlib.Core.Path.{_≡_};
+ghost use mathlib.Core.List.{[], _∷_};
 ghost use Rattle.table_places.specs.Layout.{automataOf};
 ghost use Rattle.merge_append.specs.Append.{Appended};
+ghost use Rattle.merge_append.specs.NodeWords.{allNode};
 ghost use Rattle.merge_predicates.specs.Clauses.{clauseWords, valueClauses, functionClauses, valueNodes};
-ghost use Rattle.merge_predicates.specs.Clauses.{mergedWords};
+ghost use Rattle.merge_predicates.specs.Clauses.{mergedNodes, mergedOperands, mergedWords};
 
 // `imp eq vK J` with the predicate at a place.
 fn clause(
@@ -79,7 +84,8 @@ fn at_automata(
     next
 }
 
-// The nodes of the merged init, or of the merged inv, of which the first `count` values stand at these places.
+// The nodes of the merged init, or of the merged inv, of which the first `count` values stand at these places; those of
+// start conditions are not among them.
 pub fn merged_nodes(t: &[u32], places: &[usize], count: usize) -> usize
     ensures { λ r. ⌜ r ≡ valueNodes (now (t .entry)) (now (places .entry)) 0 count 1 ⌝ }
 {
@@ -93,13 +99,32 @@ pub fn merged_nodes(t: &[u32], places: &[usize], count: usize) -> usize
     sum
 }
 
-// The merged init, or the merged inv, with its count of nodes.
-pub fn merged(t: &[u32], x: Layout, f: Functions, out: &mut [u32; Model::WORDS], at: usize) -> usize
-    ensures { λ r. ⌜ Appended (mergedWords (now (t .entry)) x f) at (now (out .entry)) (now (out .exit)) r ⌝ }
+// The count of nodes of the merged init, or of the merged inv, and its first node.
+fn opening(t: &[u32], f: Functions, s: Starts, out: &mut [u32; Model::WORDS], at: usize) -> usize
+    ensures { λ r. ⌜ Appended (mergedNodes (now (t .entry)) f s ∷ allNode (mergedOperands f s) ∷ [])
+        at (now (out .entry)) (now (out .exit)) r ⌝ }
+{
+    let places = f.places;
+    let nodes = starts::starts_nodes(t, s, merged_nodes(t, &places, f.total));
+    let operands = merge_append::add(f.total, s.count);
+    let next = merge_append::put(nodes, out, at);
+    merge_append::put(merge_append::all_node(operands), out, next)
+}
+
+// The merged init, or the merged inv, whole: the clauses, and the start conditions after them.
+pub fn merged(
+    t: &[u32],
+    x: Layout,
+    f: Functions,
+    s: Starts,
+    out: &mut [u32; Model::WORDS],
+    at: usize,
+) -> usize
+    ensures { λ r. ⌜ Appended (mergedWords (now (t .entry)) x f s) at (now (out .entry)) (now (out .exit)) r ⌝ }
 {
     let domains = f.domains;
     let places = f.places;
-    let a = merge_append::put(merged_nodes(t, &places, f.total), out, at);
-    let b = merge_append::put(merge_append::all_node(f.total), out, a);
-    at_automata(t, x, domains, &places, out, b)
+    let a = opening(t, f, s, out, at);
+    let b = at_automata(t, x, domains, &places, out, a);
+    starts::copied(t, s, out, b)
 }

@@ -1,10 +1,12 @@
 // How deep the predicates nest that the merged ones take in (row 33).
 use crate::functions::{self};
+use crate::starts::Starts;
 use node_words::Node;
 ghost use mathlib.Core.Path.{_≡_};
 ghost use lib.ListN.{getD};
 ghost use Rattle.node_words.specs.Nodes.{meant};
 ghost use Rattle.merge_predicates.specs.Depths.{arity, operandsOf, greater, depthAt, isDeeper, valuesDeeper};
+ghost use Rattle.merge_predicates.specs.Depths.{startsDeeper};
 
 // How deep a node and its operands nest, and where the words after them begin.
 pub struct Depth {
@@ -85,6 +87,22 @@ pub fn merged_deep(t: &[u32], places: &[usize], count: usize) -> bool
             return true;
         }
         i += 1;
+    }
+    false
+}
+
+// Is the merged init too deep for one of its start conditions? It nests one deeper than these.
+pub fn starts_deep(t: &[u32], s: Starts) -> bool
+    ensures { λ r. ⌜ r ≡ startsDeeper (now (t .entry)) 23 (s .first) (s .count) ⌝ }
+{
+    let mut left = s.count;
+    let mut place = s.first;
+    while left != 0 {
+        if is_deeper(t, model::Model::DEPTH - 1, place) {
+            return true;
+        }
+        place = table_places::after_predicate(t, place);
+        left -= 1;
     }
     false
 }

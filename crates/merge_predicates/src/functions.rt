@@ -64,7 +64,6 @@ fn values(
     next
 }
 
-// fs, or gs where `inv` says so, of the automata of a layout.
 // The functions of all automata, which stand where the layout says: fs, or gs if the invariants are asked for.
 pub fn functions_of(t: &[u32], x: Layout, inv: bool) -> Functions
     ensures { λ r. ⌜ r ≡ functionsOf (now (t .entry)) x inv ⌝ }

@@ -1,7 +1,8 @@
--- The clauses of the merged init and inv are those of the merged model; their nodes are counted without being listed.
-use mathlib.Core.Path.{_≡_, refl, sym, ap, ap₂, _∙_}
+-- The clauses of the merged init and inv are those of the merged model, and the start conditions stand behind them; their
+-- nodes are counted without being listed.
+use mathlib.Core.Path.{_≡_, refl, sym, ap, ap₂, _∙_, subst}
 use mathlib.Core.Bool.{Bool, true, false}
-use mathlib.Core.List.{List, [], _∷_, _++_, append-assoc, map, map-append, flatMap}
+use mathlib.Core.List.{List, [], _∷_, _++_, append-assoc, append-nil, map, map-append, flatMap}
 use Prim.Native.Nat.{ℕ, suc, _+_, _≤_, _<_}
 use native.Mathlib.Omega.{arith}
 use native.Mathlib.Nat.{add-zero}
@@ -14,6 +15,7 @@ use borrow.Author.Tests.{leb-true, leb-false}
 use Rattle.model.specs.Basic.{sum}
 use Rattle.model.specs.Bounds.{bias, maxAutomata}
 use Rattle.model.specs.Predicate.{Pred, all, imp, eq, num, old, preds, Word, allOf, impWord, eqWord, numWord, oldWord, words, wordsAll, wordsOf, operands, nodeCount}
+use Rattle.model.specs.Composition.{starts}
 use Rattle.model.specs.Model.{Location, Automaton, Model}
 use Rattle.model.specs.Lawful.{Lawful}
 use Rattle.model.specs.Table.{code, predWords, sheetWords}
@@ -21,6 +23,7 @@ use Rattle.model.specs.Linear.{pointer, atLocations, atAutomata, mergedInit, me
 use Rattle.model.proofs.Lists.{sum-append}
 use Rattle.model.proofs.LinearLimits.{preds-count, locations-length}
 use Rattle.table_places.specs.declared.layout.Layout.{Layout}
+use Rattle.table_places.specs.Outline.{afterPredicate}
 use Rattle.table_places.specs.Layout.{layoutOf, automataOf}
 use Rattle.table_places.proofs.LayoutLaws.{all-automata}
 use Rattle.table_places.proofs.OutlineLaws.{read, node-count}
@@ -30,12 +33,15 @@ use Rattle.node_words.proofs.NodeLaws.{unbiased-up, all-held, old-held, number-
 use Rattle.merge_append.specs.Append.{narrow}
 use Rattle.merge_append.specs.NodeWords.{allNode, numberNode, oldNode, pointerOf, most, capped}
 use Rattle.merge_predicates.specs.declared.functions.Functions.{Functions}
+use Rattle.merge_predicates.specs.declared.starts.Starts.{Starts}
 use Rattle.merge_predicates.specs.Functions.{functionsOf}
-use Rattle.merge_predicates.specs.Clauses.{clauseWords, valueClauses, functionClauses, valueNodes, mergedNodes, mergedWords}
+use Rattle.merge_predicates.specs.Starts.{startsOf, noStarts, addStarts, startNodesAt}
+use Rattle.merge_predicates.specs.Clauses.{clauseWords, valueClauses, functionClauses, valueNodes, mergedNodes, mergedOperands, mergedWords}
 use Rattle.merge_append.proofs.NodeLaws.{capped-over, capped-is}
 use Rattle.merge_table.proofs.Standing.{narrow-is, nodes-stand}
 use Rattle.merge_table.proofs.HeadIs.{pointer-sum, upward-small, laid-variables}
 use Rattle.merge_table.proofs.FunctionsAre.{predicates, sizes, Stands, AllStand, from-index, stand-first, stand-rest, stand-left, stand-right, AreFunctions, init-functions, inv-functions}
+use Rattle.merge_table.proofs.StartsAre.{first-stands, others-stand, AreStarts, no-starts, starts-are}
 
 -- sums that stay within a word
 pub capped-most : (n : ℕ) → capped n ≤ most
@@ -139,6 +145,26 @@ module _ (m : Model) (part : Location → Pred) (t : List ℕ) where
         point : (u j : ℕ) → u ≡ length (m .variables) → u + j ≡ pointer m j
         point u j q = unfold pointer in ap (λ w. w + j) q
 
+-- the start conditions, one after the other: their words, and how many nodes they have
+starts-words : (t : List ℕ) (ps : List Pred) (at : ℕ) (rest : List ℕ) → drop at t ≡ flatMap predWords ps ++ rest → startNodesAt t at (length ps) ≡ codes ps
+unfolding startNodesAt preds wordsAll
+starts-words t [] at rest e = refl
+starts-words t (p ∷ ps) at rest e =
+    ap₂ (λ (a b : List ℕ). a ++ b) (nodes-stand t at p _ (first-stands t at p ps rest e)) (starts-words t ps (afterPredicate t at) rest (others-stand t at p ps rest e)) ∙
+    sym (codes-cons p ps)
+
+starts-count : (t : List ℕ) (ps : List Pred) (at total : ℕ) (rest : List ℕ) → total ≤ most → drop at t ≡ flatMap predWords ps ++ rest
+    → addStarts t at (length ps) total ≡ capped (total + length (wordsAll (preds ps)))
+unfolding addStarts preds words wordsAll wordsOf nodeCount
+starts-count t [] at total rest h e = rw (add-zero total) (capped-is total h)
+starts-count t (p ∷ ps) at total rest h e =
+    let n = nodeCount p in
+    let others = length (wordsAll (preds ps)) in
+    let g : getD t at 0 ≡ n = node-count t at p _ (first-stands t at p ps rest e) in
+    let size : total + n + others ≡ total + length (words p ++ wordsAll (preds ps)) = omega (arith, length-append (words p) (wordsAll (preds ps))) in
+    ap (λ (k : ℕ). addStarts t (afterPredicate t at) (length ps) (capped (total + k))) g ∙
+    starts-count t ps (afterPredicate t at) (capped (total + n)) rest (capped-most (total + n)) (others-stand t at p ps rest e) ∙ capped-add (total + n) others ∙ ap capped size
+
 -- a clause's nodes are its four and the predicate's
 abbrev clauseNodes : List Pred → ℕ
 clauseNodes ps = sum (map (λ (p : Pred). 4 + nodeCount p) ps)
@@ -211,36 +237,66 @@ module _ (m : Model) (lawful : Lawful m) (t rest : List ℕ) (e : t ≡ sheetWor
         ap₂ (λ v k. functionClauses t (f .domains) (f .places) v 0 k 0) (laid-variables m lawful t rest e) (all-automata m lawful t rest e) ∙
         automata-are m part t (f .places) (f .domains) _ xs (length (m .variables)) 0 0 refl (omega arith) (omega arith) (omega arith) filled (are .values)
 
-    -- the count of nodes is the merged predicate's
-    nodes-are : mergedNodes t f ≡ capped (nodeCount (all (preds clauses)))
-    unfolding mergedNodes nodeCount words wordsAll wordsOf
-    nodes-are =
-        let ps = predicates part (m .automata) in
-        let size : 1 + clauseNodes ps ≡ suc (length (wordsAll (preds clauses))) = omega (arith, automata-list m part 0 (m .automata)) in
-        ap (λ n. valueNodes t (f .places) 0 n 1) (are .total) ∙ values-count t (f .places) ps 0 1 (omega arith) (are .values) ∙ ap capped size
+    -- with the start conditions after them
+    module _ (ps : List Pred) (s : Starts) (stand : AreStarts t ps s) where
+      abbrev whole : List Pred
+      whole = clauses ++ ps
 
-    words-are : nodeCount (all (preds clauses)) ≤ most → mergedWords t lay f ≡ predWords (all (preds clauses))
-    unfolding mergedWords predWords words wordsAll wordsOf
-    words-are few =
-        let small = are .few in
-        let total : f .total ≡ operands (preds clauses) = are .total ∙ sym (preds-count clauses ∙ clauses-count m part 0 (m .automata)) in
-        let node : allNode (f .total) ≡ code (allOf (operands (preds clauses))) = ap allNode total ∙ all-code (operands (preds clauses)) (omega (arith, are .total, total)) in
-        let nodes : mergedNodes t f ≡ nodeCount (all (preds clauses)) = nodes-are ∙ sym (capped-is (nodeCount (all (preds clauses))) few) in
-        rw (nodes, node, clauses-are)
+      -- the count of nodes is the merged predicate's
+      nodes-are : mergedNodes t f s ≡ capped (nodeCount (all (preds whole)))
+      unfolding mergedNodes nodeCount words wordsAll wordsOf
+      nodes-are =
+          let vs = predicates part (m .automata) in
+          let first = 1 + clauseNodes vs in
+          let more = length (wordsAll (preds ps)) in
+          let own : valueNodes t (f .places) 0 (f .total) 1 ≡ capped first =
+          ap (λ n. valueNodes t (f .places) 0 n 1) (are .total) ∙ values-count t (f .places) vs 0 1 (omega arith) (are .values) in
+          let size : first + more ≡ suc (length (wordsAll (preds whole))) =
+          omega (arith, automata-list m part 0 (m .automata), ap length (all-append clauses ps), length-append (wordsAll (preds clauses)) (wordsAll (preds ps))) in
+          ap₂ (λ n k. addStarts t (s .first) n k) (stand .count) own ∙ starts-count t ps (s .first) (capped first) (stand .rest) (capped-most first) (stand .words) ∙
+          capped-add first more ∙ ap capped size
 
-  -- the merged init's words and nodes, and the merged inv's
-  pub init-words : nodeCount (mergedInit m) ≤ most → mergedWords t (layoutOf t) (functionsOf t (layoutOf t) false) ≡ predWords (mergedInit m)
+      -- K is how many predicates `all K` has
+      operands-are : f .total + s .count ≡ operands (preds whole)
+      operands-are = sym (preds-count whole ∙ omega (arith, length-append clauses ps, clauses-count m part 0 (m .automata), are .total, stand .count))
+
+      words-are : nodeCount (all (preds whole)) ≤ most → mergedWords t lay f s ≡ predWords (all (preds whole))
+      unfolding mergedWords mergedOperands predWords words wordsAll wordsOf
+      words-are few =
+          let k = operands (preds whole) in
+          let small : k < 65536 = omega (arith, sym operands-are, are .total, are .few, stand .count, stand .few) in
+          let node : allNode (capped (f .total + s .count)) ≡ code (allOf k) =
+          ap (λ n. allNode (capped n)) operands-are ∙ ap allNode (sym (capped-is k (omega arith))) ∙ all-code k small in
+          let nodes : mergedNodes t f s ≡ nodeCount (all (preds whole)) = nodes-are ∙ sym (capped-is (nodeCount (all (preds whole))) few) in
+          let after : startNodesAt t (s .first) (s .count) ≡ codes ps = ap (startNodesAt t (s .first)) (stand .count) ∙ starts-words t ps (s .first) (stand .rest) (stand .words) in
+          rw (nodes, node, clauses-are, after) (ap (λ (l : List ℕ). nodeCount (all (preds whole)) ∷ code (allOf k) ∷ l) (sym (codes-append clauses ps)))
+
+  -- the merged init's words and nodes, and the merged inv's, which has no start conditions
+  abbrev fs : Functions
+  fs = functionsOf t lay false
+
+  abbrev gs : Functions
+  gs = functionsOf t lay true
+
+  pub init-words : nodeCount (mergedInit m) ≤ most → mergedWords t (layoutOf t) (functionsOf t (layoutOf t) false) (startsOf t (layoutOf t)) ≡ predWords (mergedInit m)
   unfolding mergedInit
-  init-words = words-are (λ l. l .init) (functionsOf t lay false) (init-functions m lawful t rest e)
+  init-words = words-are (λ l. l .init) fs (init-functions m lawful t rest e) (starts (m .tree)) (startsOf t lay) (starts-are m lawful t rest e)
 
-  pub inv-words : nodeCount (mergedInv m) ≤ most → mergedWords t (layoutOf t) (functionsOf t (layoutOf t) true) ≡ predWords (mergedInv m)
-  unfolding mergedInv
-  inv-words = words-are (λ l. l .inv) (functionsOf t lay true) (inv-functions m lawful t rest e)
-
-  pub init-nodes : mergedNodes t (functionsOf t (layoutOf t) false) ≡ capped (nodeCount (mergedInit m))
+  pub init-nodes : mergedNodes t (functionsOf t (layoutOf t) false) (startsOf t (layoutOf t)) ≡ capped (nodeCount (mergedInit m))
   unfolding mergedInit
-  init-nodes = nodes-are (λ l. l .init) (functionsOf t lay false) (init-functions m lawful t rest e)
+  init-nodes = nodes-are (λ l. l .init) fs (init-functions m lawful t rest e) (starts (m .tree)) (startsOf t lay) (starts-are m lawful t rest e)
 
-  pub inv-nodes : mergedNodes t (functionsOf t (layoutOf t) true) ≡ capped (nodeCount (mergedInv m))
+  abbrev invClauses : List Pred
+  invClauses = atAutomata m (λ l. l .inv) 0 (m .automata)
+
+  pub inv-words : nodeCount (mergedInv m) ≤ most → mergedWords t (layoutOf t) (functionsOf t (layoutOf t) true) noStarts ≡ predWords (mergedInv m)
   unfolding mergedInv
-  inv-nodes = nodes-are (λ l. l .inv) (functionsOf t lay true) (inv-functions m lawful t rest e)
+  inv-words =
+      subst (λ (ps : List Pred). nodeCount (all (preds ps)) ≤ most → mergedWords t lay gs noStarts ≡ predWords (all (preds ps))) (append-nil invClauses)
+      (words-are (λ l. l .inv) gs (inv-functions m lawful t rest e) [] noStarts (no-starts t))
+
+  pub inv-nodes : mergedNodes t (functionsOf t (layoutOf t) true) noStarts ≡ capped (nodeCount (mergedInv m))
+  unfolding mergedInv
+  inv-nodes =
+      nodes-are (λ l. l .inv) gs (inv-functions m lawful t rest e) [] noStarts (no-starts t) ∙
+      ap (λ (ps : List Pred). capped (nodeCount (all (preds ps)))) (append-nil invClauses)

@@ -1,31 +1,36 @@
 -- The tests of depth are row 33's: of the merged init and inv, and of a merged edge's update.
 use mathlib.Core.Path.{_≡_, refl, sym, ap, ap₂, _∙_}
 use mathlib.Core.Bool.{Bool, true, false, _||_, or-false}
-use mathlib.Core.List.{List, [], _∷_, _++_, map, flatMap}
+use mathlib.Core.List.{List, [], _∷_, _++_, append-nil, map, flatMap, List·Memᴰ, List·Memᴰ·head, List·Memᴰ·tail}
 use Prim.Native.Nat.{ℕ, suc, max, _≤_, _<_}
 use native.Mathlib.Omega.{arith}
 use native.Mathlib.Numerals.{add-one}
 use lib.IntN.{pos}
-use lib.ListN.{length, getD}
+use lib.ListN.{length, getD, drop}
 use lib.Dec.{ltb}
 use borrow.Author.Tests.{ltb-true, ltb-false, lt-ltb, le-ltb}
 use Rattle.model.specs.Basic.{exists}
 use Rattle.model.specs.Predicate.{Pred, all, imp, eq, num, old, preds, depth, depthAll, depthOf}
+use Rattle.model.specs.Composition.{starts}
 use Rattle.model.specs.Model.{Location, Automaton, Model}
 use Rattle.model.specs.Rules.{Taker}
 use Rattle.model.specs.Limits.{isTooDeep}
 use Rattle.model.specs.Lawful.{Lawful}
-use Rattle.model.specs.Table.{sheetWords}
+use Rattle.model.specs.Table.{predWords, sheetWords}
 use Rattle.model.specs.Linear.{pointer, atLocations, atAutomata, mergedInit, mergedInv, pointerMoves, mergedEdge}
 use Rattle.model.proofs.Tests.{exists-append}
 use Rattle.merge_predicates.specs.declared.functions.Functions.{Functions}
+use Rattle.merge_predicates.specs.declared.starts.Starts.{Starts}
 use Rattle.merge_predicates.specs.Functions.{functionsOf}
+use Rattle.merge_predicates.specs.Starts.{startsOf, noStarts}
 use Rattle.merge_takers.specs.Taking.{takers}
 use Rattle.merge_edges.specs.Edge.{updatesDeep}
+use Rattle.table_places.specs.Outline.{afterPredicate}
 use Rattle.table_places.specs.Layout.{layoutOf}
-use Rattle.merge_predicates.specs.Depths.{valuesDeeper, mergedDeep}
+use Rattle.merge_predicates.specs.Depths.{valuesDeeper, startsDeeper, mergedDeep}
 use Rattle.merge_table.proofs.FunctionsAre.{predicates, AllStand, stand-first, stand-rest, AreFunctions, init-functions, inv-functions}
-use Rattle.merge_table.proofs.DepthsAre.{deeper-stands}
+use Rattle.merge_table.proofs.StartsAre.{first-stands, others-stand, AreStarts, no-starts, starts-are}
+use Rattle.merge_table.proofs.DepthsAre.{Readable, deeper-stands}
 use Rattle.merge_table.proofs.EdgesAre.{Valid, takersFrom, edge-deep}
 
 -- one test of numbers is another, where each number is above its limit if the other is
@@ -90,12 +95,24 @@ values-read t places (p ∷ ps) i s =
     rw (add-one i)
     (ap₂ (λ (a b : Bool). a || b) (deeper-stands t p 22 (getD places i 0) (here .others) (here .said) (here .words)) (values-read t places ps (suc i) (stand-rest t places i p ps s)))
 
-whole-deep : (m : Model) (t : List ℕ) (part : Location → Pred) (f : Functions) → AreFunctions t part (m .automata) f
-    → mergedDeep t f ≡ isTooDeep (all (preds (atAutomata m part 0 (m .automata))))
+-- and the start conditions
+starts-read : (t : List ℕ) (ps : List Pred) (at : ℕ) (rest : List ℕ) → ((p : Pred) → List·Memᴰ p ps → Readable p) → drop at t ≡ flatMap predWords ps ++ rest
+    → startsDeeper t 23 at (length ps) ≡ exists (λ p. ltb 23 (depth p)) ps
+unfolding startsDeeper exists
+starts-read t [] at rest said e = refl
+starts-read t (p ∷ ps) at rest said e =
+    ap₂ (λ (a b : Bool). a || b) (deeper-stands t p 23 at _ (said p (List·Memᴰ·head refl)) (first-stands t at p ps rest e))
+    (starts-read t ps (afterPredicate t at) rest (λ q i. said q (List·Memᴰ·tail i)) (others-stand t at p ps rest e))
+
+whole-deep : (m : Model) (t : List ℕ) (part : Location → Pred) (f : Functions) → AreFunctions t part (m .automata) f → (ps : List Pred) (s : Starts) → AreStarts t ps s
+    → mergedDeep t f s ≡ isTooDeep (all (preds (atAutomata m part 0 (m .automata) ++ ps)))
 unfolding mergedDeep
-whole-deep m t part f are =
-    ap (valuesDeeper t 22 (f .places) 0) (are .total) ∙ values-read t (f .places) (predicates part (m .automata)) 0 (are .values) ∙
-    sym (all-deep (atAutomata m part 0 (m .automata)) ∙ automata-deep m part 0 (m .automata))
+whole-deep m t part f are ps s stand =
+    let clauses = atAutomata m part 0 (m .automata) in
+    ap₂ (λ (a b : Bool). a || b)
+    (ap (valuesDeeper t 22 (f .places) 0) (are .total) ∙ values-read t (f .places) (predicates part (m .automata)) 0 (are .values) ∙ sym (automata-deep m part 0 (m .automata)))
+    (ap (startsDeeper t 23 (s .first)) (stand .count) ∙ starts-read t ps (s .first) (stand .rest) (stand .said) (stand .words)) ∙
+    sym (all-deep (clauses ++ ps) ∙ exists-append (λ p. ltb 23 (depth p)) clauses ps)
 
 -- the pointer moves are not deep
 moves-shallow : (m : Model) (ts : List Taker) → exists (λ p. ltb 23 (depth p)) (pointerMoves m ts) ≡ false
@@ -109,13 +126,16 @@ updates-deep [] = refl
 updates-deep (x ∷ xs) = ap (λ b. ltb 23 (depth (x .edge .update)) || b) (updates-deep xs)
 
 module _ (m : Model) (lawful : Lawful m) (t rest : List ℕ) (e : t ≡ sheetWords m ++ rest) where
-  pub init-deep : mergedDeep t (functionsOf t (layoutOf t) false) ≡ isTooDeep (mergedInit m)
+  pub init-deep : mergedDeep t (functionsOf t (layoutOf t) false) (startsOf t (layoutOf t)) ≡ isTooDeep (mergedInit m)
   unfolding mergedInit
-  init-deep = whole-deep m t (λ l. l .init) (functionsOf t (layoutOf t) false) (init-functions m lawful t rest e)
+  init-deep =
+      whole-deep m t (λ l. l .init) (functionsOf t (layoutOf t) false) (init-functions m lawful t rest e) (starts (m .tree)) (startsOf t (layoutOf t)) (starts-are m lawful t rest e)
 
-  pub inv-deep : mergedDeep t (functionsOf t (layoutOf t) true) ≡ isTooDeep (mergedInv m)
+  pub inv-deep : mergedDeep t (functionsOf t (layoutOf t) true) noStarts ≡ isTooDeep (mergedInv m)
   unfolding mergedInv
-  inv-deep = whole-deep m t (λ l. l .inv) (functionsOf t (layoutOf t) true) (inv-functions m lawful t rest e)
+  inv-deep =
+      whole-deep m t (λ l. l .inv) (functionsOf t (layoutOf t) true) (inv-functions m lawful t rest e) [] noStarts (no-starts t) ∙
+      ap (λ (ps : List Pred). isTooDeep (all (preds ps))) (append-nil (atAutomata m (λ l. l .inv) 0 (m .automata)))
 
   pub edge-too-deep : (action : ℕ) (picks : List ℕ) → Valid action picks 0 (m .automata) → updatesDeep t (takers t (layoutOf t) action picks) ≡ isTooDeep (mergedEdge m action (takersFrom action picks 0 (m .automata)) .update)
   unfolding mergedEdge

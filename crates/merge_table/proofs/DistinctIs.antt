@@ -5,12 +5,11 @@ use mathlib.Core.List.{List, [], _∷_, _++_, append-assoc, append-nil, map, fla
 use Prim.Native.Nat.{ℕ, suc, _+_, _-_, _≤_, _<_}
 use native.Mathlib.Omega.{arith}
 use native.Mathlib.Numerals.{add-one}
-use lib.ListN.{length, getD, take, drop, length-append, length-drop, length-map}
-use lib.Seq.{take-append-seam, drop-drop, drop-append-seam}
+use lib.ListN.{length, getD, drop, length-append, length-drop, length-map}
 use lib.Dec.{eqb}
 use borrow.Author.Tests.{eqb-true}
 use Rattle.model.specs.Basic.{every, exists, once}
-use Rattle.model.specs.Bounds.{maxEdges, maxTreeNodes}
+use Rattle.model.specs.Bounds.{maxEdges}
 use Rattle.model.specs.Predicate.{words, nodeCount}
 use Rattle.model.specs.Model.{Edge, Automaton, Model, nobody, automaton}
 use Rattle.model.specs.Limits.{inRange}
@@ -25,15 +24,15 @@ use Rattle.model.proofs.Decode.{words-back}
 use Rattle.model.proofs.Once.{onceFrom, once-by}
 use Rattle.model.proofs.EqualLaws.{same-pred, edge-is, same-edge-is}
 use Rattle.model.proofs.Distinct.{distinct-same}
-use Rattle.table_tree.specs.Nodes.{skipFrom, treeWords}
-use Rattle.table_tree.proofs.Standing.{skip-of}
-use Rattle.table_places.specs.Outline.{nodesPlace, afterPredicate, updatePlace, firstEdge, edgesAt, afterAutomaton, firstAutomaton, automatonAt, treeAt, countAt}
+use Rattle.table_places.specs.Outline.{afterPredicate, updatePlace, firstEdge, edgesAt, afterAutomaton, firstAutomaton, automatonAt, countAt}
 use Rattle.table_places.specs.AtMost.{atMost}
 use Rattle.table_places.specs.Layout.{layoutOf, automataOf}
+use Rattle.table_places.specs.Starts.{startsAt, startCount, firstStart}
 use Rattle.table_places.proofs.CodeLaws.{at-most-all}
-use Rattle.table_places.proofs.OutlineLaws.{reach-inside, wordsOf, locationWords, edgeWords, automatonWords, words-append, node-count, update-stands, edges-at, edge-count, first-edge, after-automaton, sheet-parts, tree-at}
-use Rattle.table_places.proofs.Standing.{automaton-stands, edges-inside, after-automaton-inside, tree-inside, tree-stands}
-use Rattle.table_places.proofs.LayoutLaws.{all-automata, edges-place, tree-place}
+use Rattle.table_places.proofs.OutlineLaws.{reach-inside, wordsOf, locationWords, edgeWords, automatonWords, words-append, node-count, update-stands, edges-at, edge-count, first-edge, after-automaton, sheet-parts}
+use Rattle.table_places.proofs.Standing.{automaton-stands, edges-inside, after-automaton-inside, tree-inside}
+use Rattle.table_places.proofs.StartLaws.{first-start-inside, start-inside, starts-end}
+use Rattle.table_places.proofs.LayoutLaws.{all-automata, edges-place, tree-place, tree-line}
 use Rattle.merge_append.specs.Runs.{run}
 use Rattle.merge_append.specs.NodeWords.{most, capped}
 use Rattle.merge_append.proofs.NodeLaws.{capped-is}
@@ -280,20 +279,16 @@ module _ (m : Model) (lawful : Lawful m) (t rest : List ℕ) (e : t ≡ sheetWor
       sheet-parts t rest m e ∙ ap (λ (l : List ℕ). m .format ∷ m .actions ∷ length (m .variables) ∷ l) (sym (append-assoc vs (length (m .automata) ∷ []) others)) in
       part-words t sheetHead others 0 (firstAutomaton t) (omega arith) (reach-inside t (countAt t) 1) there (automata-stand m lawful t rest e)
 
-  -- the tree's words
+  -- the tree's words, up to the end of the last start condition
   tree-is : part t (layoutOf t .tree) (treeEnd t (layoutOf t)) ≡ lineWords (composeLine (m .tree))
-  unfolding treeEnd nodesPlace
+  unfolding treeEnd
   tree-is =
       let c = m .tree in
-      let root = nodesPlace t (treeAt t) in
-      let there : drop root t ≡ treeWords c ++ rest = tree-stands t rest m e in
-      let begins : take (length (treeWords c)) (drop root t) ≡ treeWords c = ap (take (length (treeWords c))) there ∙ take-append-seam (treeWords c) rest in
-      let end : skipFrom t maxTreeNodes 1 root ≡ root + length (treeWords c) = skip-of t c root (lawful .tree .size) begins in
-      let past : drop (root + length (treeWords c)) t ≡ rest = sym (drop-drop (length (treeWords c)) root t) ∙ ap (drop (length (treeWords c))) there ∙ drop-append-seam (treeWords c) rest in
-      let size : length t - root ≡ length (treeWords c) + length rest = sym (length-drop root t) ∙ ap length there ∙ length-append (treeWords c) rest in
-      let inside : root + length (treeWords c) ≤ length t = omega (arith, reach-inside t (treeAt t) 1) in
-      ap (λ p. part t p (skipFrom t maxTreeNodes 1 (nodesPlace t p))) (tree-place m lawful t rest e) ∙ ap (part t (treeAt t)) end ∙
-      part-words t (lineWords (composeLine c)) rest (treeAt t) (root + length (treeWords c)) (tree-inside t) inside (tree-at t rest m e) past
+      let at = layoutOf t .tree in
+      let line = tree-line m lawful t rest e in
+      let counted = startsAt t at in
+      let inside = start-inside t (firstStart t counted) (startCount t counted) (first-start-inside t counted) in
+      part-words t (lineWords (composeLine c)) rest at _ (rw (tree-place m lawful t rest e) (tree-inside t)) inside line (starts-end t rest c at line (lawful .tree .size))
 
   -- the sheet without repeats, in three parts
   distinct-parts : sheetWords (distinct m) ≡ sheetHead ++ (automatonWords (map distinctEdges (m .automata)) ++ lineWords (composeLine (m .tree)))

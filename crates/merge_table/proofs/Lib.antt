@@ -2,6 +2,7 @@ pub mod Standing
 pub mod HeadIs
 pub mod DepthsAre
 pub mod FunctionsAre
+pub mod StartsAre
 pub mod ClausesAre
 pub mod PlacesAre
 pub mod EdgesAre

@@ -97,7 +97,7 @@ module _ (m : Model) (lawful : Lawful m) (t rest : List ℕ) (e : t ≡ sheetWor
   module _ (a : row31 m ≡ false) where
     module _ (b : row32WithRepeats m ≡ false) where
       abbrev begun : Survey
-      begun = surveyStart t (g .inits) (g .invs)
+      begun = surveyStart t (g .inits) (g .starts) (g .invs)
 
       -- the survey that the code makes is that of all merged edges
       surveyed-all : surveyWhole t g list ≡ surveyFrom t (gathered t lay (ownOf t) (replicate tableWords 0)) 0 (countWithRepeats m) begun

@@ -7,7 +7,7 @@ use native.Mathlib.Omega.{arith}
 use lib.ListN.{drop}
 use lib.Dec.{eqb}
 use borrow.Author.Tests.{ne-eqb}
-use Rattle.model.specs.Composition.{Tree, par, syn, leaf}
+use Rattle.model.specs.Composition.{Tree, par, syn, ini, leaf}
 use Rattle.model.specs.Model.{Edge, Model, automaton, inSet}
 use Rattle.model.specs.Rules.{Taker}
 use Rattle.model.specs.Lines.{edgeLine}
@@ -72,6 +72,7 @@ moves-start m a (par c d) ts i =
     go f g (left-one q r) = f ts r
     go f g (right-one p r) = g ts r
 moves-start m a (syn list c) ts i = moves-start m a c ts i
+moves-start m a (ini p c) ts i = moves-start m a c ts i
 moves-start m a (leaf k) ts i =
     let r = Memᴰ·of-map (alone k) (under a (automaton m k .edges)) i in
     (record { automaton = k; edge = r .0 }, [], sym (r .2), under-out a (automaton m k .edges) (r .1) .1)

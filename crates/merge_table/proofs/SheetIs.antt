@@ -7,12 +7,12 @@ use lib.ListN.{length, replicate, length-replicate}
 use Rattle.model.specs.Basic.{keep, countUp}
 use Rattle.model.specs.Bounds.{tableWords}
 use Rattle.model.specs.Predicate.{nodeCount}
-use Rattle.model.specs.Composition.{leaf, nodes, treeSize}
+use Rattle.model.specs.Composition.{leaf, nodes, starts, treeSize}
 use Rattle.model.specs.Model.{Model, Automaton, inSet}
 use Rattle.model.specs.Rules.{Taker}
 use Rattle.model.specs.Lawful.{Lawful}
 use Rattle.model.specs.Lines.{Entry, formatLine, actionsLine, variablesLine, variableLine, automataLine, composeLine, locationLines, automatonLines, lines}
-use Rattle.model.specs.Table.{setWords, predWords, nodeWords, lineWords, sheetWords}
+use Rattle.model.specs.Table.{setWords, predWords, nodeWords, startWords, lineWords, sheetWords}
 use Rattle.model.specs.Moves.{moves}
 use Rattle.model.specs.Linear.{mergedInit, mergedInv, mergedEdge, edgesWithRepeats}
 use Rattle.model.specs.Repeats.{linearWithRepeats, row32WithRepeats}
@@ -75,8 +75,8 @@ module _ (m : Model) (lawful : Lawful m) (t rest : List ℕ) (e : t ≡ sheetWor
       (ap (λ (l : List ℕ). l ++ (1 ∷ ((predWords (mergedInit m) ++ predWords (mergedInv m)) ++ (length (edgesWithRepeats m) ∷ edgeWords (edgesWithRepeats m))))) set ∙
       ap (λ (l : List ℕ). setWords (whole .sync) ++ (1 ∷ l)) (append-assoc (predWords (mergedInit m)) (predWords (mergedInv m)) (length (edgesWithRepeats m) ∷ edgeWords (edgesWithRepeats m))))
 
-  tail-words : 1 ∷ 2 ∷ [] ≡ wordsOf (composeLine (leaf 0) ∷ [])
-  unfolding flatMap lineWords treeSize nodes nodeWords
+  tail-words : 1 ∷ 2 ∷ 0 ∷ [] ≡ wordsOf (composeLine (leaf 0) ∷ [])
+  unfolding flatMap lineWords treeSize nodes nodeWords startWords starts
   tail-words = refl
 
   -- the law of the whole

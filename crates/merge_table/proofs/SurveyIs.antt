@@ -22,6 +22,7 @@ use Rattle.model.proofs.Tests.{exists-append}
 use Rattle.model.proofs.Count.{repeats-counted}
 use Rattle.merge_words.specs.declared.survey.Survey.{Survey}
 use Rattle.merge_predicates.specs.Functions.{functionsOf}
+use Rattle.merge_predicates.specs.Starts.{startsOf}
 use Rattle.merge_append.specs.NodeWords.{most, capped}
 use Rattle.merge_append.specs.Runs.{run}
 use Rattle.merge_takers.specs.Gather.{gathered}
@@ -75,7 +76,7 @@ pub record Begun (m : Model) (s : Survey) : Type 0 where
   pub nodes : s .nodes ≡ capped (nodeCount (mergedInit m) + nodeCount (mergedInv m))
 
 module _ (m : Model) (lawful : Lawful m) (t rest : List ℕ) (e : t ≡ sheetWords m ++ rest) where
-  pub start-begun : Begun m (surveyStart t (functionsOf t (layoutOf t) false) (functionsOf t (layoutOf t) true))
+  pub start-begun : Begun m (surveyStart t (functionsOf t (layoutOf t) false) (startsOf t (layoutOf t)) (functionsOf t (layoutOf t) true))
   unfolding surveyStart
   start-begun =
       let a = nodeCount (mergedInit m) in

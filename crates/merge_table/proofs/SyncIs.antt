@@ -6,7 +6,6 @@ use Prim.Native.Nat.{ℕ, zero, suc, _+_, _-_, _*_, _^_, _%_, _≤_, _<_}
 use native.Mathlib.Omega.{arith}
 use native.Mathlib.Nat.{zero-add, add-zero, add-mul, mul-assoc, mul-comm, one-mul, zero-mul, mod-eq-of-lt}
 use lib.ListN.{length, take, drop}
-use lib.Seq.{take-at}
 use lib.Dec.{eqb, leb}
 use lib.Pow.{pow-mono, pow-add}
 use borrow.Author.Tests.{le-leb, lt-leb, ne-eqb}
@@ -21,10 +20,9 @@ use Rattle.table_tree.specs.Nodes.{treeWords}
 use Rattle.table_tree.specs.Members.{inSetAt}
 use Rattle.table_tree.proofs.SetLaws.{keep-alike, low-joined, high-joined}
 use Rattle.table_tree.proofs.Inside.{list-back, in-set-of}
-use Rattle.table_places.specs.Outline.{nodesPlace}
 use Rattle.table_places.specs.Layout.{layoutOf}
-use Rattle.table_places.proofs.Standing.{tree-stands}
-use Rattle.table_places.proofs.LayoutLaws.{tree-place}
+use Rattle.table_places.proofs.Standing.{tree-begins}
+use Rattle.table_places.proofs.LayoutLaws.{tree-line}
 use Rattle.table_places.proofs.AgreeLaws.{own-agrees}
 use Rattle.merge_takers.specs.Moves.{rootOf}
 use Rattle.merge_words.specs.Sync.{isShared, shifted, bitsFrom, setsOf, wordsOf}
@@ -183,9 +181,7 @@ set-fits A list few r =
 module _ (m : Model) (lawful : Lawful m) (t rest : List ℕ) (e : t ≡ sheetWords m ++ rest) where
   -- where the tree's nodes stand
   pub root-stands : take (length (treeWords (m .tree))) (drop (rootOf t (layoutOf t)) t) ≡ treeWords (m .tree)
-  root-stands =
-      let n = length (treeWords (m .tree)) in
-      ap (λ (i : ℕ). take n (drop (nodesPlace t i) t)) (tree-place m lawful t rest e) ∙ ap (take n) (tree-stands t rest m e) ∙ take-at (treeWords (m .tree)) rest n refl
+  root-stands = tree-begins t rest (m .tree) (layoutOf t .tree) (tree-line m lawful t rest e)
 
   in-set-is : (action : ℕ) → inSetAt t (ownOf t) action (rootOf t (layoutOf t)) ≡ inSet m action (m .tree)
   in-set-is action =

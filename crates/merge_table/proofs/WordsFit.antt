@@ -1,30 +1,32 @@
 -- Every word of a lawful model's sheet has 32 bits.
-use mathlib.Core.Path.{_≡_, refl, sym, ap₂, _∙_}
+use mathlib.Core.Path.{_≡_, refl, sym, ap, ap₂, _∙_}
 use mathlib.Core.Bool.{true, not, _&&_}
-use mathlib.Core.List.{List, [], _∷_, _++_, map, map-append, flatMap}
+use mathlib.Core.List.{List, [], _∷_, _++_, map, map-append, flatMap, List·Memᴰ, List·Memᴰ·head, List·Memᴰ·tail}
 use mathlib.Core.Option.{Option, none}
 use Prim.Native.Nat.{ℕ, _+_, _≤_, _<_}
 use native.Mathlib.Omega.{arith}
 use lib.IntN.{ℤ, pos, negsuc}
-use lib.ListN.{length}
+use lib.ListN.{length, length-append}
 use lib.Dec.{leb, ltb}
 use borrow.Author.Tests.{leb-true, ltb-false}
 use Rattle.model.specs.Basic.{between, every, lacks}
 use Rattle.model.specs.Bounds.{firstFormat, lastFormat, maxActions, maxNodes, maxTreeNodes, leastNumber, greatestNumber}
 use Rattle.model.specs.Predicate.{Pred, Word, words, nodeCount, namesOutside, namesNew}
-use Rattle.model.specs.Composition.{Tree, par, syn, leaf, nodes, treeSize}
+use Rattle.model.specs.Composition.{Tree, par, syn, ini, leaf, starts, startNodes, treeSize}
 use Rattle.model.specs.Model.{Model}
 use Rattle.model.specs.Lawful.{Lawful}
 use Rattle.model.specs.Lines.{Entry, formatLine, actionsLine, variablesLine, variableLine, automataLine, syncLine, locationsLine, initLine, invLine, edgesLine, edgeLine, composeLine, lines, Reading, atFirst, noted}
 use Rattle.model.specs.Limits.{inRange, treeInRange, numbersInRange, rises, treeRises, isTooDeep, exceedsSpan, passesNodes, variableCount, listsFilled, isDisordered, isTooLarge, predFault, locationFault, contentFault, faultOf, withinLimits, limits}
 use Rattle.node_words.proofs.NodeLaws.{code-small}
-use Rattle.model.specs.Table.{biased, lowBits, highBits, setWords, code, predWords, lineWords, sheetWords}
+use Rattle.model.specs.Table.{biased, lowBits, highBits, setWords, code, predWords, startWords, lineWords, sheetWords}
 use Rattle.model.proofs.Tests.{and-intro, and-left, and-right}
+use Rattle.model.proofs.LimitLines.{starts-ranged, starts-clear}
 use Rattle.model.proofs.LimitsLaws.{lawful-is}
+use Rattle.model.proofs.Sizes.{starts-few}
 use Rattle.model.proofs.Bits.{rises-cons}
 use Rattle.model.proofs.Decode.{unbroken, in-range, unsaid, none-lacks}
 use Rattle.table_tree.specs.Nodes.{treeWords}
-use Rattle.table_tree.proofs.Standing.{words-par, words-syn, words-leaf}
+use Rattle.table_tree.proofs.Standing.{words-par, words-syn, words-ini, words-leaf}
 use Rattle.merge_append.specs.Append.{narrow}
 use Rattle.merge_table.proofs.Standing.{narrow-is}
 use Rattle.merge_table.proofs.SyncIs.{set-fits}
@@ -85,31 +87,49 @@ list-fits A list r h =
     let s = set-fits maxActions list (omega arith) (rises-below A 0 list r h) in
     one-fits (lowBits list) (highBits list ∷ []) (s .0) (one-fits (highBits list) [] (s .1) refl)
 
--- a tree's nodes
+-- a tree's nodes: over another tree stands a list, or none
+over-fits : (A : ℕ) (list : List ℕ) (c : Tree) → rises A 0 list ≡ true → every (λ k. leb k maxActions) list ≡ true → Fit (treeWords c) → Fit (treeWords (syn list c))
+unfolding setWords
+over-fits A list c r h under =
+    rw (words-syn list c) (one-fits 1 (setWords list ++ treeWords c) (omega arith) (both-fit (setWords list) (treeWords c) (list-fits A list r h) under))
+
 tree-fits : (A : ℕ) (c : Tree) → treeRises A c ≡ true → treeInRange c ≡ true → Fit (treeWords c)
-unfolding treeRises treeInRange setWords
+unfolding treeRises treeInRange rises every setWords
 tree-fits A (par c d) r h =
     let left = tree-fits A c (and-left (treeRises A c) _ r) (and-left (treeInRange c) _ h) in
     let right = tree-fits A d (and-right (treeRises A c) _ r) (and-right (treeInRange c) _ h) in
     rw (words-par c d) (one-fits 0 (treeWords c ++ treeWords d) (omega arith) (both-fit (treeWords c) (treeWords d) left right))
 tree-fits A (syn list c) r h =
     let ranged = every (λ k. leb k maxActions) list in
-    let set = list-fits A list (and-left (rises A 0 list) _ r) (and-left ranged _ h) in
-    let under = tree-fits A c (and-right (rises A 0 list) _ r) (and-right ranged _ h) in
-    rw (words-syn list c) (one-fits 1 (setWords list ++ treeWords c) (omega arith) (both-fit (setWords list) (treeWords c) set under))
+    over-fits A list c (and-left (rises A 0 list) _ r) (and-left ranged _ h) (tree-fits A c (and-right (rises A 0 list) _ r) (and-right ranged _ h))
+tree-fits A (ini p c) r h = rw (words-ini p c) (over-fits A [] c refl refl (tree-fits A c r (and-right (every inRange (words p)) _ h)))
 tree-fits A (leaf k) r h = let l = leb-true k 15 h in rw (words-leaf k) (one-fits (2 + k) [] (omega arith) refl)
 
--- rows 3, 5 and 16
-compose-fits : (r : Reading) (c : Tree) → faultOf r (composeLine c) ≡ none → Fit (treeSize c ∷ treeWords c)
-unfolding faultOf numbersInRange contentFault isTooLarge
+-- the start conditions behind it
+preds-fit : (ps : List Pred) → ((p : Pred) → List·Memᴰ p ps → every inRange (words p) ≡ true) → length (flatMap words ps) ≤ maxNodes → Fit (flatMap predWords ps)
+unfolding flatMap nodeCount
+preds-fit [] ranged few = refl
+preds-fit (p ∷ ps) ranged few =
+    let l = length-append (words p) (flatMap words ps) in
+    both-fit (predWords p) (flatMap predWords ps) (pred-fits p (ranged p (List·Memᴰ·head refl)) (omega arith)) (preds-fit ps (λ q i. ranged q (List·Memᴰ·tail i)) (omega arith))
+
+starts-fit : (c : Tree) → treeInRange c ≡ true → startNodes c ≤ maxNodes → treeSize c ≤ maxTreeNodes → Fit (startWords c)
+unfolding startWords startNodes
+starts-fit c h few small = one-fits (length (starts c)) (flatMap predWords (starts c)) (omega (arith, starts-few c)) (preds-fit (starts c) (starts-ranged c h) few)
+
+-- rows 3, 5, 11 and 16
+compose-fits : (r : Reading) (c : Tree) → faultOf r (composeLine c) ≡ none → Fit (lineWords (composeLine c))
+unfolding faultOf numbersInRange contentFault isTooLarge lacks lineWords
 compose-fits r c h =
     let A = r .model .actions in
+    let ranged = in-range r (composeLine c) h in
     let up : treeRises A c ≡ true = unsaid r (composeLine c) 5 (treeRises A c) _ h refl in
-    let a = unbroken 5 (not (treeRises A c)) _ (unbroken 3 (not (treeInRange c)) _ h .1) .1 in
-    let b = unbroken 13 (not (listsFilled c)) _ a .1 in
+    let a = starts-clear r c _ .0 (ap lacks (unbroken 5 (not (treeRises A c)) _ (unbroken 3 (not (treeInRange c)) _ h .1) .1)) in
+    let b = unbroken 13 (not (listsFilled c)) _ (none-lacks _ (a .5)) .1 in
     let d = unbroken 14 (isDisordered (length (r .model .automata)) c) _ b .1 in
     let few = ltb-false maxTreeNodes (treeSize c) (unbroken 16 (isTooLarge (treeSize c)) none d .0) in
-    one-fits (treeSize c) (treeWords c) (omega arith) (tree-fits A c up (in-range r (composeLine c) h))
+    one-fits (treeSize c) (treeWords c ++ startWords c) (omega arith)
+    (both-fit (treeWords c) (startWords c) (tree-fits A c up ranged) (starts-fit c ranged (omega (arith, a .4)) few))
 
 -- each line's words
 said : (r : Reading) (e : Entry) → faultOf r e ≡ none → contentFault r e ≡ none

@@ -26,9 +26,14 @@ module _ (t : List ℕ) (at n : ℕ) (e : n ≡ locationCount t at) where
 
 pub ruleset last-laws = (last-none, last-is)
 
--- `range` and `tail`
+-- `range`
 pub two-words : (g h at a r : ℕ) (old mid new : List ℕ) → Appended (g ∷ []) at old mid a → Appended (h ∷ []) a mid new r → Appended (g ∷ h ∷ []) at old new r
 two-words g h at a r old mid new p q = then p q
+
+-- `tail`
+pub three-words : (f g h at a b r : ℕ) (old m1 m2 new : List ℕ) → Appended (f ∷ []) at old m1 a → Appended (g ∷ []) a m1 m2 b → Appended (h ∷ []) b m2 new r
+    → Appended (f ∷ g ∷ h ∷ []) at old new r
+three-words f g h at a b r old m1 m2 new p q s = then p (then q s)
 
 -- `pointers`
 pub pointers-begun : (t places : List ℕ) (count at : ℕ) (old : List ℕ) → Underway (pointerRanges t places 0 count) at old (pointerRanges t places 0 (count - 0)) at old
@@ -52,9 +57,9 @@ module _ (t places old now : List ℕ) (at i count next : ℕ) (u : Underway (po
 pub ruleset pointers-laws = (pointers-begun, pointers-turn, pointers-end)
 
 -- `numbers`
-pub three-words : (t : List ℕ) (f g h at a b r : ℕ) (old m1 m2 new : List ℕ) → f ≡ formatIn t
+pub numbers-are : (t : List ℕ) (f g h at a b r : ℕ) (old m1 m2 new : List ℕ) → f ≡ formatIn t
     → Appended (f ∷ []) at old m1 a → Appended (g ∷ []) a m1 m2 b → Appended (h ∷ []) b m2 new r → Appended (formatIn t ∷ g ∷ h ∷ []) at old new r
-three-words t f g h at a b r old m1 m2 new ef p q s = rw (← ef) (then p (then q s))
+numbers-are t f g h at a b r old m1 m2 new ef p q s = rw (← ef) (three-words f g h at a b r old m1 m2 new p q s)
 
 -- `head`
 pub head-is : (t : List ℕ) (x : Layout) (s vn vv : ℕ) → s ≡ rangeAt t 0 → vn ≡ pointerOf (x .variables) (x .automata) → vv ≡ pointerOf (x .variables) (x .variables)

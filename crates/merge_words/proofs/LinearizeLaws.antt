@@ -12,7 +12,9 @@ use Rattle.table_places.specs.Layout.{layoutOf}
 use Rattle.merge_append.specs.Append.{Appended}
 use Rattle.merge_append.specs.NodeWords.{pointerOf}
 use Rattle.merge_predicates.specs.declared.functions.Functions.{Functions}
+use Rattle.merge_predicates.specs.declared.starts.Starts.{Starts}
 use Rattle.merge_predicates.specs.Functions.{functionsOf}
+use Rattle.merge_predicates.specs.Starts.{startsOf}
 use Rattle.merge_takers.specs.Moves.{movesIn}
 use Rattle.merge_takers.specs.Gather.{gathered}
 use Rattle.merge_words.specs.declared.Linearization.{Linearization}
@@ -92,19 +94,19 @@ module _ (t : List ℕ) (x : Layout) (ex : x ≡ layoutOf t) (c : Bool) (e : c �
   linearize-crowded z h = h ∙ rw (crowded-here ∙ z, linearBy)
 
   -- what was gathered, part by part
-  module _ (fs gs : Functions) (s : Sets) (edges : ℕ) (list : List ℕ) (ef : fs ≡ functionsOf t x false)
-      (eg : gs ≡ functionsOf t x true) (es : s ≡ setsOf t x) (en : edges ≡ movesIn t x (s .own))
+  module _ (fs gs : Functions) (ps : Starts) (s : Sets) (edges : ℕ) (list : List ℕ) (ef : fs ≡ functionsOf t x false)
+      (ep : ps ≡ startsOf t x) (eg : gs ≡ functionsOf t x true) (es : s ≡ setsOf t x) (en : edges ≡ movesIn t x (s .own))
       (el : list ≡ gathered t x (s .own) (replicate tableWords 0)) where
-    parts : record { wildcards = x; inits = fs; invs = gs; sets = s; edges = edges } ≡ gatheredIn t x
+    parts : record { wildcards = x; inits = fs; starts = ps; invs = gs; sets = s; edges = edges } ≡ gatheredIn t x
     unfolding gatheredIn setsOf
-    parts = rw (ef, eg, en, es)
+    parts = rw (ef, ep, eg, en, es)
 
     listed : list ≡ takersFor t x
     unfolding takersFor setsOf
     listed = el ∙ rw es
 
     pub linearize-gathered : c ≡ false
-        → r ≡ linearFor t (record { wildcards = x; inits = fs; invs = gs; sets = s; edges = edges }) list
+        → r ≡ linearFor t (record { wildcards = x; inits = fs; starts = ps; invs = gs; sets = s; edges = edges }) list
         → r ≡ linearBy t
     unfolding linearBy
     linearize-gathered z h =

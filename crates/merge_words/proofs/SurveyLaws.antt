@@ -8,8 +8,10 @@ use Rattle.table_places.specs.Outline.{reach}
 use Rattle.merge_append.specs.Runs.{run}
 use Rattle.merge_append.specs.NodeWords.{capped}
 use Rattle.merge_predicates.specs.declared.functions.Functions.{Functions}
+use Rattle.merge_predicates.specs.declared.starts.Starts.{Starts}
+use Rattle.merge_predicates.specs.Starts.{noStarts, addStarts}
 use Rattle.merge_predicates.specs.Clauses.{valueNodes, mergedNodes}
-use Rattle.merge_predicates.specs.Depths.{valuesDeeper, mergedDeep}
+use Rattle.merge_predicates.specs.Depths.{valuesDeeper, startsDeeper, mergedDeep}
 use Rattle.merge_edges.specs.Edge.{takersNodes, updatesDeep}
 use Rattle.merge_words.specs.declared.gathering.Gathered.{Gathered}
 use Rattle.merge_words.specs.declared.survey.Survey.{Survey}
@@ -40,19 +42,20 @@ module _ (t list : List ℕ) (at left : ℕ) (s whole : Survey) (u : surveyFrom 
 pub ruleset with-edges-laws = (with-edges-turn, with-edges-end)
 
 -- `predicate`
-pub predicate-is : (t : List ℕ) (f : Functions) (d : Bool) (n : ℕ) → d ≡ valuesDeeper t 22 (f .places) 0 (f .total) → n ≡ valueNodes t (f .places) 0 (f .total) 1
-    → surveyed d n ≡ surveyOf t f
+pub predicate-is : (t : List ℕ) (f : Functions) (s : Starts) (d b : Bool) (n k : ℕ) → d ≡ valuesDeeper t 22 (f .places) 0 (f .total) → n ≡ valueNodes t (f .places) 0 (f .total) 1
+    → b ≡ startsDeeper t 23 (s .first) (s .count) → k ≡ addStarts t (s .first) (s .count) n → surveyed (d || b) k ≡ surveyOf t f s
 unfolding surveyOf mergedDeep mergedNodes
-predicate-is t f d n ed en = ap₂ surveyed ed en
+predicate-is t f s d b n k ed en eb ek = ap₂ surveyed (ap₂ (λ (x y : Bool). x || y) ed eb) (ek ∙ ap (addStarts t (s .first) (s .count)) en)
 
 -- `start`
-pub start-is : (t : List ℕ) (fs gs : Functions) (a b : Survey) (r : ℕ) → a ≡ surveyOf t fs → b ≡ surveyOf t gs → r ≡ capped (a .nodes + b .nodes)
-    → surveyed (a .deep || b .deep) r ≡ surveyStart t fs gs
+pub start-is : (t : List ℕ) (fs : Functions) (s none : Starts) (gs : Functions) (a b : Survey) (r : ℕ) → none ≡ noStarts → a ≡ surveyOf t fs s → b ≡ surveyOf t gs none
+    → r ≡ capped (a .nodes + b .nodes) → surveyed (a .deep || b .deep) r ≡ surveyStart t fs s gs
 unfolding surveyStart surveyOf
-start-is t fs gs a b r ea eb er =
-    ap (surveyed (a .deep || b .deep)) er ∙ ap₂ (λ (s u : Survey). surveyed (s .deep || u .deep) (capped (s .nodes + u .nodes))) ea eb
+start-is t fs s none gs a b r e ea eb er =
+    ap (surveyed (a .deep || b .deep)) er ∙
+    ap₂ (λ (x y : Survey). surveyed (x .deep || y .deep) (capped (x .nodes + y .nodes))) ea (eb ∙ ap (surveyOf t gs) e)
 
 -- `whole`
-pub whole-is : (t list : List ℕ) (g : Gathered) (s r : Survey) → s ≡ surveyStart t (g .inits) (g .invs) → r ≡ surveyFrom t list 0 (g .edges) s → r ≡ surveyWhole t g list
+pub whole-is : (t list : List ℕ) (g : Gathered) (s r : Survey) → s ≡ surveyStart t (g .inits) (g .starts) (g .invs) → r ≡ surveyFrom t list 0 (g .edges) s → r ≡ surveyWhole t g list
 unfolding surveyWhole
 whole-is t list g s r es er = er ∙ ap (surveyFrom t list 0 (g .edges)) es

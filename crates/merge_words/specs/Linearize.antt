@@ -13,6 +13,7 @@ use Rattle.table_places.specs.Own.{ownSets}
 use Rattle.merge_append.specs.Append.{narrow}
 use Rattle.merge_append.specs.NodeWords.{pointerOf}
 use Rattle.merge_predicates.specs.Functions.{functionsOf}
+use Rattle.merge_predicates.specs.Starts.{startsOf}
 use Rattle.merge_takers.specs.Moves.{movesIn}
 use Rattle.merge_takers.specs.Gather.{gathered}
 use Rattle.merge_words.specs.declared.Linearization.{Linearization}
@@ -21,13 +22,14 @@ use Rattle.merge_words.specs.Sync.{setsOf}
 use Rattle.merge_words.specs.MergedSheet.{mergedSheet}
 use Rattle.merge_words.specs.Survey.{surveyWhole}
 
--- what Definition 4 needs, in its order: the wild-cards, the initial predicates, the invariants, the synchronising set,
--- and the number of the action transitions
+-- what Definition 4 needs, in its order: the wild-cards, the initial predicates and the composition's own start
+-- conditions, the invariants, the synchronising set, and the number of the action transitions
 unfoldable pub gatheredIn : (t : List ℕ) (x : Layout) → Gathered
 gatheredIn t x =
     record {
       wildcards = x;
       inits = functionsOf t x false;
+      starts = startsOf t x;
       invs = functionsOf t x true;
       sets = setsOf t x;
       edges = movesIn t x (ownSets t (x .sets));

@@ -7,6 +7,8 @@ use Rattle.table_places.specs.Outline.{reach}
 use Rattle.merge_append.specs.Runs.{run}
 use Rattle.merge_append.specs.NodeWords.{capped}
 use Rattle.merge_predicates.specs.declared.functions.Functions.{Functions}
+use Rattle.merge_predicates.specs.declared.starts.Starts.{Starts}
+use Rattle.merge_predicates.specs.Starts.{noStarts}
 use Rattle.merge_predicates.specs.Clauses.{mergedNodes}
 use Rattle.merge_predicates.specs.Depths.{mergedDeep}
 use Rattle.merge_edges.specs.Edge.{takersNodes, updatesDeep}
@@ -26,13 +28,14 @@ surveyFrom t list at zero s = s
 surveyFrom t list at (suc n) s = surveyFrom t list (reach list at 16) n (withEdge t (run list at 16) s)
 
 -- the merged init, or the merged inv
-unfoldable pub surveyOf : (t : List ℕ) (f : Functions) → Survey
-surveyOf t f = surveyed (mergedDeep t f) (mergedNodes t f)
+unfoldable pub surveyOf : (t : List ℕ) (f : Functions) (s : Starts) → Survey
+surveyOf t f s = surveyed (mergedDeep t f s) (mergedNodes t f s)
 
 -- both of them; then all edges
-unfoldable pub surveyStart : (t : List ℕ) (inits invs : Functions) → Survey
-surveyStart t inits invs =
-    surveyed (mergedDeep t inits || mergedDeep t invs) (capped (mergedNodes t inits + mergedNodes t invs))
+unfoldable pub surveyStart : (t : List ℕ) (inits : Functions) (starts : Starts) (invs : Functions) → Survey
+surveyStart t inits starts invs =
+    surveyed (mergedDeep t inits starts || mergedDeep t invs noStarts)
+    (capped (mergedNodes t inits starts + mergedNodes t invs noStarts))
 
 unfoldable pub surveyWhole : (t : List ℕ) (g : Gathered) (takers : List ℕ) → Survey
-surveyWhole t g takers = surveyFrom t takers 0 (g .edges) (surveyStart t (g .inits) (g .invs))
+surveyWhole t g takers = surveyFrom t takers 0 (g .edges) (surveyStart t (g .inits) (g .starts) (g .invs))

@@ -74,10 +74,11 @@ pub fn head(t: &[u32], x: Layout, out: &mut [u32; Model::WORDS], at: usize) -> u
     merge_append::put(1, out, c)
 }
 
-// The merged sheet's last words: a tree of one leaf.
+// The merged sheet's last words: a tree of one leaf, and no start conditions.
 pub fn tail(out: &mut [u32; Model::WORDS], at: usize) -> usize
-    ensures { λ r. ⌜ Appended (1 ∷ 2 ∷ []) at (now (out .entry)) (now (out .exit)) r ⌝ }
+    ensures { λ r. ⌜ Appended (1 ∷ 2 ∷ 0 ∷ []) at (now (out .entry)) (now (out .exit)) r ⌝ }
 {
-    let next = merge_append::put(1, out, at);
-    merge_append::put(2, out, next)
+    let a = merge_append::put(1, out, at);
+    let b = merge_append::put(2, out, a);
+    merge_append::put(0, out, b)
 }

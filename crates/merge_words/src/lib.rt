@@ -65,8 +65,9 @@ pub fn linearize(t: &[u32]) -> Linearization
     if rows::crowded(wildcards) {
         return refused(31);
     }
-    // to fs (ipred): the initial predicates
+    // to fs (ipred): the initial predicates, and the composition's own start conditions
     let inits = merge_predicates::functions_of(t, wildcards, false);
+    let starts = merge_predicates::starts_of(t, wildcards);
     // to gs (inv): the invariants
     let invs = merge_predicates::functions_of(t, wildcards, true);
     // to A (sync): the synchronising set
@@ -78,6 +79,7 @@ pub fn linearize(t: &[u32]) -> Linearization
     let g = Gathered {
         wildcards,
         inits,
+        starts,
         invs,
         sets,
         edges,

@@ -3,6 +3,7 @@ use crate::gathering::Gathered;
 use crate::head::{self};
 use crate::sync::{self};
 use merge_predicates::Functions;
+use merge_predicates::Starts;
 use model::Model;
 use table_places::Layout;
 ghost use Rattle.merge_append.specs.Append.{Appended};
@@ -13,16 +14,18 @@ fn location(
     t: &[u32],
     x: Layout,
     inits: Functions,
+    starts: Starts,
     invs: Functions,
     out: &mut [u32; Model::WORDS],
     at: usize,
 ) -> usize
-    ensures { λ r. ⌜ Appended (locationWords (now (t .entry)) x inits invs)
+    ensures { λ r. ⌜ Appended (locationWords (now (t .entry)) x inits starts invs)
         at (now (out .entry)) (now (out .exit)) r ⌝ }
 {
+    let none = merge_predicates::no_starts();
     let a = merge_append::put(1, out, at);
-    let b = merge_predicates::merged(t, x, inits, out, a);
-    merge_predicates::merged(t, x, invs, out, b)
+    let b = merge_predicates::merged(t, x, inits, starts, out, a);
+    merge_predicates::merged(t, x, invs, none, out, b)
 }
 
 // The one automaton.
@@ -37,7 +40,7 @@ fn automaton(
         at (now (out .entry)) (now (out .exit)) r ⌝ }
 {
     let a = sync::write(g.sets, out, at);
-    let b = location(t, g.wildcards, g.inits, g.invs, out, a);
+    let b = location(t, g.wildcards, g.inits, g.starts, g.invs, out, a);
     let c = merge_append::put(g.edges, out, b);
     merge_edges::all_edges(t, g.wildcards.variables, takers, g.edges, out, c)
 }

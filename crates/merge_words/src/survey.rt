@@ -1,6 +1,7 @@
 // What rows 33 and 34 ask of the merged predicates: is one too deep, and how many nodes they have.
 use crate::gathering::Gathered;
 use merge_predicates::Functions;
+use merge_predicates::Starts;
 use model::Model;
 ghost use mathlib.Core.Path.{_≡_};
 ghost use Rattle.merge_append.specs.Runs.{run};
@@ -40,21 +41,25 @@ fn with_edges(t: &[u32], takers: &[u32; Model::WORDS], count: usize, s: Survey) 
 }
 
 // The merged init, or the merged inv.
-fn predicate(t: &[u32], f: Functions) -> Survey
-    ensures { λ r. ⌜ r ≡ surveyOf (now (t .entry)) f ⌝ }
+fn predicate(t: &[u32], f: Functions, s: Starts) -> Survey
+    ensures { λ r. ⌜ r ≡ surveyOf (now (t .entry)) f s ⌝ }
 {
     let places = f.places;
     let deep = merge_predicates::merged_deep(t, &places, f.total);
     let nodes = merge_predicates::merged_nodes(t, &places, f.total);
-    Survey { deep, nodes }
+    let starts_deep = merge_predicates::starts_deep(t, s);
+    Survey {
+        deep: deep | starts_deep,
+        nodes: merge_predicates::starts_nodes(t, s, nodes),
+    }
 }
 
 // Both of them.
-fn start(t: &[u32], inits: Functions, invs: Functions) -> Survey
-    ensures { λ r. ⌜ r ≡ surveyStart (now (t .entry)) inits invs ⌝ }
+fn start(t: &[u32], inits: Functions, starts: Starts, invs: Functions) -> Survey
+    ensures { λ r. ⌜ r ≡ surveyStart (now (t .entry)) inits starts invs ⌝ }
 {
-    let init = predicate(t, inits);
-    let inv = predicate(t, invs);
+    let init = predicate(t, inits, starts);
+    let inv = predicate(t, invs, merge_predicates::no_starts());
     Survey {
         deep: init.deep | inv.deep,
         nodes: merge_append::add(init.nodes, inv.nodes),
@@ -65,5 +70,5 @@ fn start(t: &[u32], inits: Functions, invs: Functions) -> Survey
 pub fn whole(t: &[u32], g: Gathered, takers: &[u32; Model::WORDS]) -> Survey
     ensures { λ r. ⌜ r ≡ surveyWhole (now (t .entry)) g (now (takers .entry)) ⌝ }
 {
-    with_edges(t, takers, g.edges, start(t, g.inits, g.invs))
+    with_edges(t, takers, g.edges, start(t, g.inits, g.starts, g.invs))
 }

@@ -9,12 +9,13 @@ use lib.IntN.{ℤ}
 use lib.ListN.{length}
 use lib.Dec.{eqb}
 use Rattle.model.specs.Basic.{eqZ, every, exists, countUp}
-use Rattle.model.specs.Composition.{Tree, par, syn, leaf, leaves}
+use Rattle.model.specs.Predicate.{Pred}
+use Rattle.model.specs.Composition.{Tree, par, syn, ini, leaf, leaves, starts}
 use Rattle.model.specs.Model.{Model, automaton, location, inSet}
 use Rattle.model.specs.Lawful.{Lawful}
-use Rattle.model.specs.Rules.{Phase, start, running, State, reached, at, val, holdsIn, Taker, mentioned, Rests, rule-2, rule-5, rule-7, Moves, rule-1, rule-3, rule-4-left, rule-4-right, rule-6, Step, Environment, changed}
+use Rattle.model.specs.Rules.{Phase, start, running, State, reached, at, val, holdsIn, Starts, Taker, mentioned, Rests, rule-2, rule-5, rule-7, ini-rests, Moves, rule-1, rule-3, rule-4-left, rule-4-right, rule-6, ini-moves, Step, Environment, changed}
 use Rattle.model.specs.Moves.{under, sides, alone, moves}
-use Rattle.model.specs.Judge.{inits, invs, initial, settled, isTaker, updated, led, kept, framed, fits, stepHolds, Answer, marked, yes, no, refused, row21, row22, row23, row24, judgeTo, judgeStep, judgeEnvironment, StepPasses, EnvironmentPasses}
+use Rattle.model.specs.Judge.{inits, invs, startsHold, initial, settled, isTaker, updated, led, kept, framed, fits, stepHolds, Answer, marked, yes, no, refused, row21, row22, row23, row24, judgeTo, judgeStep, judgeEnvironment, StepPasses, EnvironmentPasses}
 use Rattle.model.proofs.Tests.{and-intro, and-left, and-right, or-right, or-other, or-intro, or-less-left, or-less-right, or-cases, or-more-left, or-more-right, eq-of, eq-self, of-eq, eqZ-of, of-eqZ, each-intro, each-elim, exists-intro, exists-elim, exists-append, every-append}
 use Rattle.model.proofs.Takers.{under-in, under-out, pairs-in, Sides, both, left-one, right-one, sides-out, sides-left, sides-right, within}
 use Rattle.model.proofs.Numbered.{size, Numbered, numbered, size-is, Leaves, leaves-map, leaves-in, leaves-out}
@@ -34,6 +35,35 @@ initial-intro : (p : Phase) (b : Bool) → (p ≡ start → b ≡ true) → init
 unfolding initial
 initial-intro start b h = h refl
 initial-intro running b h = refl
+
+-- in phase 0 every P of a composition holds
+module _ (s : State) where
+  abbrev Started : Tree → Type 0
+  Started c = s .phase ≡ start → every (holdsIn s) (starts c) ≡ true
+
+  started-both : (c d : Tree) → Started c → Started d → Started (par c d)
+  unfolding starts
+  started-both c d g h e = every-append (holdsIn s) (starts c) (starts d) ∙ and-intro (g e) (h e)
+
+  started-left : (c d : Tree) → Started (par c d) → Started c
+  unfolding starts
+  started-left c d h e = and-left (every (holdsIn s) (starts c)) _ (sym (every-append (holdsIn s) (starts c) (starts d)) ∙ h e)
+
+  started-right : (c d : Tree) → Started (par c d) → Started d
+  unfolding starts
+  started-right c d h e = and-right (every (holdsIn s) (starts c)) _ (sym (every-append (holdsIn s) (starts c) (starts d)) ∙ h e)
+
+  started-in : (p : Pred) (c : Tree) → Starts s p → Started c → Started (ini p c)
+  unfolding starts every
+  started-in p c g h e = and-intro (g .condition e) (h e)
+
+  started-here : (p : Pred) (c : Tree) → Started (ini p c) → Starts s p
+  unfolding starts every
+  started-here p c h = record { condition = λ e. and-left (holdsIn s p) (every (holdsIn s) (starts c)) (h e) }
+
+  started-below : (p : Pred) (c : Tree) → Started (ini p c) → Started c
+  unfolding starts every
+  started-below p c h e = and-right (holdsIn s p) (every (holdsIn s) (starts c)) (h e)
 
 module _ (m : Model) (s t : State) where
   -- what a taking and a still automaton have in common
@@ -58,18 +88,28 @@ module _ (m : Model) (s t : State) where
   }
   rests-ready (rule-5 g h) = (rests-ready g, rests-ready h)
   rests-ready (rule-7 h) = rests-ready h
+  rests-ready (ini-rests g h) = rests-ready h
 
   rests-stays : {c : Tree} → Rests m s t c → Leaves Stays c
   unfolding Leaves
   rests-stays (rule-2 h) = h .stays
   rests-stays (rule-5 g h) = (rests-stays g, rests-stays h)
   rests-stays (rule-7 h) = rests-stays h
+  rests-stays (ini-rests g h) = rests-stays h
 
-  rests-in : (c : Tree) → Leaves Ready c → Leaves Stays c → Rests m s t c
-  unfolding Leaves
-  rests-in (par c d) r h = rule-5 (rests-in c (r .0) (h .0)) (rests-in d (r .1) (h .1))
-  rests-in (syn list c) r h = rule-7 (rests-in c r h)
-  rests-in (leaf k) r h = rule-2 (record {
+  rests-started : {c : Tree} → Rests m s t c → Started s c
+  unfolding starts every
+  rests-started (rule-2 h) = λ e. refl
+  rests-started (rule-5 {c = c} {d = d} g h) = started-both s c d (rests-started g) (rests-started h)
+  rests-started (rule-7 h) = rests-started h
+  rests-started (ini-rests {p = p} {c = c} g h) = started-in s p c g (rests-started h)
+
+  rests-in : (c : Tree) → Started s c → Leaves Ready c → Leaves Stays c → Rests m s t c
+  unfolding Leaves starts
+  rests-in (par c d) b r h = rule-5 (rests-in c (started-left s c d b) (r .0) (h .0)) (rests-in d (started-right s c d b) (r .1) (h .1))
+  rests-in (syn list c) b r h = rule-7 (rests-in c b r h)
+  rests-in (ini p c) b r h = ini-rests (started-here s p c b) (rests-in c (started-below s p c b) r h)
+  rests-in (leaf k) b r h = rule-2 (record {
     stays = h;
     init = r .init;
     inv = r .inv;
@@ -94,8 +134,8 @@ module _ (m : Model) (s t : State) where
       go (inr q) = eq-of _ _ q
 
   -- a composition none of whose leaves takes rests
-  rests : (c : Tree) (i : ℕ) → Numbered i c → (x : List Taker) → ((k : ℕ) → i ≤ k → k < i + size c → isTaker k x ≡ true → ⊥) → Leaves Ready c → Leaves (Kept x) c → Rests m s t c
-  rests c i w x h r p = rests-in c r (leaves-in c i w (λ k u z. not-taker x k (h k u z) (leaves-out (Kept x) c i w p k u z)))
+  rests : (c : Tree) (i : ℕ) → Numbered i c → (x : List Taker) → ((k : ℕ) → i ≤ k → k < i + size c → isTaker k x ≡ true → ⊥) → Started s c → Leaves Ready c → Leaves (Kept x) c → Rests m s t c
+  rests c i w x h b r p = rests-in c b r (leaves-in c i w (λ k u z. not-taker x k (h k u z) (leaves-out (Kept x) c i w p k u z)))
 
   -- what a side keeps by its own takers
   kept-of-left : (c : Tree) (i : ℕ) → Numbered i c → (x y : List Taker) → ((k : ℕ) → i ≤ k → k < i + size c → isTaker k y ≡ true → ⊥) → Leaves (Kept (x ++ y)) c → Leaves (Kept x) c
@@ -104,37 +144,47 @@ module _ (m : Model) (s t : State) where
   kept-of-right : (c : Tree) (i : ℕ) → Numbered i c → (x y : List Taker) → ((k : ℕ) → i ≤ k → k < i + size c → isTaker k x ≡ true → ⊥) → Leaves (Kept (x ++ y)) c → Leaves (Kept y) c
   kept-of-right c i w x y h p = leaves-in c i w (λ k u z. or-less-right (isTaker k x) (isTaker k y) _ (h k u z) (rw (taker-append k x y) at (leaves-out (Kept (x ++ y)) c i w p k u z)))
 
+  -- what is tested at the start, in phase 0
+  begun : settled m s t ≡ true → s .phase ≡ start → (inits m s && startsHold m s) ≡ true
+  unfolding settled
+  begun h e = initial-elim (s .phase) (inits m s && startsHold m s) (and-left (initial (s .phase) (inits m s && startsHold m s)) _ h) e
+
+  settled-started : settled m s t ≡ true → Started s (m .tree)
+  unfolding startsHold
+  settled-started h e = and-right (inits m s) _ (begun h e)
+
   -- the tests of every automaton say that each is ready
   settled-ready : settled m s t ≡ true → (k : ℕ) → k < length (m .automata) → Ready k
   unfolding settled inits invs
   settled-ready h k l =
-      let i = and-left (initial (s .phase) (inits m s)) (invs m s && invs m t) h in
-      let j = and-right (initial (s .phase) (inits m s)) (invs m s && invs m t) h in
+      let j = and-right (initial (s .phase) (inits m s && startsHold m s)) (invs m s && invs m t) h in
       record {
-        init = λ e. each-elim _ _ (initial-elim (s .phase) (inits m s) i e) k l;
+        init = λ e. each-elim _ _ (and-left (inits m s) _ (begun h e)) k l;
         inv = each-elim _ _ (and-left (invs m s) (invs m t) j) k l;
         inv' = each-elim _ _ (and-right (invs m s) (invs m t) j) k l;
       }
 
-  ready-settled : ((k : ℕ) → k < length (m .automata) → Ready k) → settled m s t ≡ true
-  unfolding settled inits invs
-  ready-settled h =
-      and-intro (initial-intro (s .phase) (inits m s) (λ e. each-intro _ _ (λ k l. h k l .init e)))
+  ready-settled : Started s (m .tree) → ((k : ℕ) → k < length (m .automata) → Ready k) → settled m s t ≡ true
+  unfolding settled inits invs startsHold
+  ready-settled b h =
+      and-intro (initial-intro (s .phase) (inits m s && startsHold m s) (λ e. and-intro (each-intro _ _ (λ k l. h k l .init e)) (b e)))
       (and-intro (each-intro _ _ (λ k l. h k l .inv)) (each-intro _ _ (λ k l. h k l .inv')))
 
 module _ (m : Model) (s : State) (a : ℕ) (t : State) where
   -- the rules, flat: the takers are listed, and the rest is said leaf by leaf
   record Flat (c : Tree) (x : List Taker) : Type 0 where
     listed : List·Memᴰ x (moves m a c)
+    started : Started s c
     ready : Leaves (Ready m s t) c
     updated-all : every (updated s t) x ≡ true
     led-all : every (led s t) x ≡ true
     kept-all : Leaves (Kept m s t x) c
 
   flat : {c : Tree} {x : List Taker} → Moves m s a t c x → Flat c x
-  unfolding Leaves moves every isTaker exists sides updated led
+  unfolding Leaves moves every isTaker exists sides updated led starts
   flat (rule-1 {k = k} {e = e} h) = record {
     listed = Memᴰ·map (alone k) (under-in a (h .listed) (h .action));
+    started = λ e. refl;
     ready = record { init = h .init; inv = h .inv; inv' = h .inv' };
     updated-all = and-intro (h .update) refl;
     led-all = and-intro (and-intro (of-eq _ _ (h .from)) (of-eq _ _ (h .to))) refl;
@@ -145,6 +195,7 @@ module _ (m : Model) (s : State) (a : ℕ) (t : State) where
       let w = flat h in
       record {
         listed = rw (p, q, sides) (pairs-in (u .listed) (w .listed));
+        started = started-both s c d (u .started) (w .started);
         ready = (u .ready, w .ready);
         updated-all = every-append (updated s t) x y ∙ and-intro (u .updated-all) (w .updated-all);
         led-all = every-append (led s t) x y ∙ and-intro (u .led-all) (w .led-all);
@@ -154,6 +205,7 @@ module _ (m : Model) (s : State) (a : ℕ) (t : State) where
       let u = flat g in
       record {
         listed = rw q (sides-left (inSet m a c) (moves m a d) (u .listed));
+        started = started-both s c d (u .started) (rests-started m s t r);
         ready = (u .ready, rests-ready m s t r);
         updated-all = u .updated-all;
         led-all = u .led-all;
@@ -163,6 +215,7 @@ module _ (m : Model) (s : State) (a : ℕ) (t : State) where
       let w = flat h in
       record {
         listed = rw q (sides-right (inSet m a d) (moves m a c) (w .listed));
+        started = started-both s c d (rests-started m s t r) (w .started);
         ready = (rests-ready m s t r, w .ready);
         updated-all = w .updated-all;
         led-all = w .led-all;
@@ -170,11 +223,14 @@ module _ (m : Model) (s : State) (a : ℕ) (t : State) where
       }
   flat (rule-6 h) =
       let u = flat h in
-      record { listed = u .listed; ready = u .ready; updated-all = u .updated-all; led-all = u .led-all; kept-all = u .kept-all }
+      record { listed = u .listed; started = u .started; ready = u .ready; updated-all = u .updated-all; led-all = u .led-all; kept-all = u .kept-all }
+  flat (ini-moves {p = p} {c = c} g h) =
+      let u = flat h in
+      record { listed = u .listed; started = started-in s p c g (u .started); ready = u .ready; updated-all = u .updated-all; led-all = u .led-all; kept-all = u .kept-all }
 
   -- and back
   allowed : (c : Tree) (i : ℕ) → Numbered i c → {x : List Taker} → Flat c x → Moves m s a t c x
-  unfolding Leaves Numbered size moves every updated led
+  unfolding Leaves Numbered size moves every updated led starts
   allowed (par c d) i w {x} f =
       go
       (λ y g. allowed c i (w .0) {x = y} g)
@@ -202,6 +258,7 @@ module _ (m : Model) (s : State) (a : ℕ) (t : State) where
           subst (λ (w : List Taker). Moves m s a t (par c d) w) (sym (r .whole)) (rule-3 b e
           (on-c y (record {
             listed = r .in-left;
+            started = started-left s c d (f .started);
             ready = f .ready .0;
             updated-all = and-left (every (updated s t) y) (every (updated s t) z) u;
             led-all = and-left (every (led s t) y) (every (led s t) z) l;
@@ -209,6 +266,7 @@ module _ (m : Model) (s : State) (a : ℕ) (t : State) where
           }))
           (on-d z (record {
             listed = r .in-right;
+            started = started-right s c d (f .started);
             ready = f .ready .1;
             updated-all = and-right (every (updated s t) y) (every (updated s t) z) u;
             led-all = and-right (every (led s t) y) (every (led s t) z) l;
@@ -216,15 +274,16 @@ module _ (m : Model) (s : State) (a : ℕ) (t : State) where
           })))
       go on-c on-d (left-one e r) =
           rule-4-left
-          (on-c x (record { listed = r; ready = f .ready .0; updated-all = f .updated-all; led-all = f .led-all; kept-all = f .kept-all .0 }))
-          (rests m s t d (i + size c) (w .1) x (not-right r) (f .ready .1) (f .kept-all .1))
+          (on-c x (record { listed = r; started = started-left s c d (f .started); ready = f .ready .0; updated-all = f .updated-all; led-all = f .led-all; kept-all = f .kept-all .0 }))
+          (rests m s t d (i + size c) (w .1) x (not-right r) (started-right s c d (f .started)) (f .ready .1) (f .kept-all .1))
           e
       go on-c on-d (right-one b r) =
           rule-4-right
-          (rests m s t c i (w .0) x (not-left r) (f .ready .0) (f .kept-all .0))
-          (on-d x (record { listed = r; ready = f .ready .1; updated-all = f .updated-all; led-all = f .led-all; kept-all = f .kept-all .1 }))
+          (rests m s t c i (w .0) x (not-left r) (started-left s c d (f .started)) (f .ready .0) (f .kept-all .0))
+          (on-d x (record { listed = r; started = started-right s c d (f .started); ready = f .ready .1; updated-all = f .updated-all; led-all = f .led-all; kept-all = f .kept-all .1 }))
           b
-  allowed (syn list c) i w f = rule-6 (allowed c i w (record { listed = f .listed; ready = f .ready; updated-all = f .updated-all; led-all = f .led-all; kept-all = f .kept-all }))
+  allowed (syn list c) i w f = rule-6 (allowed c i w (record { listed = f .listed; started = f .started; ready = f .ready; updated-all = f .updated-all; led-all = f .led-all; kept-all = f .kept-all }))
+  allowed (ini p c) i w f = ini-moves (started-here s p c (f .started)) (allowed c i w (record { listed = f .listed; started = started-below s p c (f .started); ready = f .ready; updated-all = f .updated-all; led-all = f .led-all; kept-all = f .kept-all }))
   allowed (leaf k) i w {x} f =
       let r = Memᴰ·of-map (alone k) (under a (automaton m k .edges)) (f .listed) in
       let e = r .0 in
@@ -266,6 +325,7 @@ module _ (m : Model) (ordered : leaves (m .tree) ≡ countUp 0 (length (m .autom
         ended = e;
         moves = allowed m s a t (m .tree) 0 (numbered (m .tree) _ ordered) (record {
           listed = f .1;
+          started = settled-started m s t (and-left (settled m s t) _ h);
           ready = on-leaves m ordered r;
           updated-all = and-left (every (updated s t) x) _ (f .2);
           led-all = and-left (every (led s t) x) _ f1;
@@ -280,7 +340,7 @@ module _ (m : Model) (ordered : leaves (m .tree) ≡ countUp 0 (length (m .autom
   step-holds q =
       let f = flat m s a t (q .moves) in
       and-intro
-      (ready-settled m s t (on-automata m ordered (Ready m s t) (f .ready)))
+      (ready-settled m s t (f .started) (on-automata m ordered (Ready m s t) (f .ready)))
       (exists-intro (fits m s t) (f .listed) (
       and-intro (f .updated-all) (
       and-intro (f .led-all) (
@@ -292,12 +352,12 @@ module _ (m : Model) (ordered : leaves (m .tree) ≡ countUp 0 (length (m .autom
   pub settled-environment : settled m s (changed s values) ≡ true → Environment m s values
   settled-environment h =
       let t = changed s values in
-      record { still = rests-in m s t (m .tree) (on-leaves m ordered (settled-ready m s t h)) (on-leaves m ordered (λ k l. refl)) }
+      record { still = rests-in m s t (m .tree) (settled-started m s t h) (on-leaves m ordered (settled-ready m s t h)) (on-leaves m ordered (λ k l. refl)) }
 
   pub environment-settled : Environment m s values → settled m s (changed s values) ≡ true
   environment-settled h =
       let t = changed s values in
-      ready-settled m s t (on-automata m ordered (Ready m s t) (rests-ready m s t (h .still)))
+      ready-settled m s t (rests-started m s t (h .still)) (on-automata m ordered (Ready m s t) (rests-ready m s t (h .still)))
 
 -- what a yes says of the rows before it
 not-refused : (b : Bool) (row : ℕ) (x y : Answer) → cond b (refused row) x ≡ y → ((j : ℕ) → refused j ≡ y → ⊥) → (b ≡ false) × (x ≡ y)

@@ -6,7 +6,7 @@ use mathlib.Core.List.{List, [], _∷_, _++_, map, flatMap}
 use native.Mathlib.Nat.{zero-mul, suc-mul, add-comm}
 use lib.ListN.{length, length-append, length-map}
 use Rattle.model.specs.Basic.{sum, countUp}
-use Rattle.model.specs.Composition.{Tree, par, syn, leaf}
+use Rattle.model.specs.Composition.{Tree, par, syn, ini, leaf}
 use Rattle.model.specs.Model.{Model, automaton, inSet}
 use Rattle.model.specs.Rules.{Taker}
 use Rattle.model.specs.Moves.{pairs, sides, under, alone, moves, sidesCount, moveCount}
@@ -32,6 +32,7 @@ pub moves-length : (m : Model) (a : ℕ) (c : Tree) → length (moves m a c) ≡
 unfolding moves moveCount
 moves-length m a (par c d) = sides-length (inSet m a c) (inSet m a d) (moves m a c) (moves m a d) ∙ rw (moves-length m a c, moves-length m a d)
 moves-length m a (syn list c) = moves-length m a c
+moves-length m a (ini p c) = moves-length m a c
 moves-length m a (leaf k) = length-map (under a (automaton m k .edges)) (alone k)
 
 edges-length : (m : Model) (l : List ℕ) → length (flatMap (λ a. map (mergedEdge m a) (moves m a (m .tree))) l) ≡ sum (map (λ a. moveCount m a (m .tree)) l)

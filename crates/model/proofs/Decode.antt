@@ -2,7 +2,7 @@
 use Prim.Native.Nat.{ℕ, zero, suc, _+_, _-_, _*_, _/_, _%_, _≤_, _<_}
 use mathlib.Core.Path.{_≡_, refl, sym, ap, ap₂, _∙_}
 use mathlib.Core.Bool.{Bool, true, false, not, _&&_, true≢false}
-use mathlib.Core.List.{List, [], _∷_, _++_, append-assoc, map, flatMap}
+use mathlib.Core.List.{List, [], _∷_, _++_, append-assoc, map, flatMap, List·Memᴰ, List·Memᴰ·head, List·Memᴰ·tail}
 use mathlib.Core.Option.{Option, none, some}
 use native.Mathlib.Omega.{arith}
 use lib.Dec.{leb}
@@ -10,18 +10,19 @@ use lib.IntN.{ℤ, pos, negsuc}
 use lib.ListN.{length, getD, length-map}
 use lib.Seq.{take-at, drop-at}
 use borrow.Author.Tests.{leb-true, le-leb, lt-leb, not-false}
-use Rattle.model.specs.Basic.{between, every, lacks, onSome}
+use Rattle.model.specs.Basic.{between, every, exists, keep, countUp, lacks, onSome}
 use Rattle.model.specs.Bounds.{maxActions, leastNumber, greatestNumber, bias}
-use Rattle.model.specs.Predicate.{Pred, Word, words, nodeCount, range, allOf, anyOf, notWord, impWord, eqWord, leWord, numWord, oldWord, newWord, addWord, subWord, mulWord, ifWord, stray}
-use Rattle.model.specs.Composition.{Tree, Node, nodes, treeSize, par, syn, leaf, parNode, synNode, leafNode, strayNode}
+use Rattle.model.specs.Predicate.{Pred, Word, words, nodeCount, namesOutside, namesNew, range, allOf, anyOf, notWord, impWord, eqWord, leWord, numWord, oldWord, newWord, addWord, subWord, mulWord, ifWord, stray}
+use Rattle.model.specs.Composition.{Tree, Node, nodes, starts, treeSize, par, syn, ini, leaf, parNode, synNode, iniNode, leafNode, strayNode}
 use Rattle.model.specs.Model.{Model}
 use Rattle.model.specs.Lines.{Key, Entry, formatLine, actionsLine, variablesLine, variableLine, automataLine, syncLine, locationsLine, initLine, invLine, edgesLine, edgeLine, composeLine, keyOf, thenDue, Reading, noted}
-use Rattle.model.specs.Limits.{inRange, treeInRange, numbersInRange, rises, treeRises, broken, contentFault, faultOf, withinLimits}
-use Rattle.model.specs.Table.{biased, unbiased, nodeWord, kindOf, argumentOf, code, kinds, wordOf, setWords, predWords, nodeWords, lineWords, split, splitNumber, splitPair, splitPred, edgeTo, splitEdge, andNode, splitNodes, splitTree, splitEntry, decode}
+use Rattle.model.specs.Limits.{inRange, treeInRange, numbersInRange, rises, treeRises, listsFilled, isTooDeep, exceedsSpan, passesNodes, variableCount, broken, startsFault, contentFault, faultOf, withinLimits}
+use Rattle.model.specs.Table.{biased, unbiased, nodeWord, kindOf, argumentOf, code, kinds, wordOf, setWords, predWords, nodeWords, startWords, lineWords, lowBits, highBits, bit, setOf, split, splitNumber, splitPair, splitPred, edgeTo, splitEdge, andNode, overNode, splitNodes, andPred, splitPreds, splitStarts, treeWith, splitTree, splitEntry, decode}
 use Rattle.model.proofs.Tests.{and-intro, and-left, and-right, every-append}
-use Rattle.model.proofs.Parsing.{none-some, read-words-of, read-nodes-of}
+use Rattle.model.proofs.Parsing.{none-some, read-words-of, read-nodes-of, bare, given-back}
 use Rattle.model.proofs.LinesLaws.{Follows}
 use Rattle.model.proofs.Bits.{set-back}
+use Rattle.model.proofs.LimitLines.{starts-ranged}
 
 -- numbers
 pub number-back : (z : ℤ) → between leastNumber greatestNumber z ≡ true → unbiased (biased z) ≡ z
@@ -80,35 +81,56 @@ pred-back f p rest h =
 -- nodes of trees
 good : ℕ → Node → Bool
 good A parNode = true
-good A (synNode list) = rises A 0 list && every (λ k. leb k maxActions) list
+good A (synNode []) = false
+good A (synNode (k ∷ ks)) = rises A 0 (k ∷ ks) && every (λ k. leb k maxActions) (k ∷ ks)
+good A (iniNode p) = true
 good A (leafNode k) = true
 good A strayNode = false
 
-all-good : (A : ℕ) (c : Tree) → treeRises A c ≡ true → treeInRange c ≡ true → every (good A) (nodes c) ≡ true
-unfolding every good nodes treeRises treeInRange
-all-good A (par c d) r h =
+all-good : (A : ℕ) (c : Tree) → treeRises A c ≡ true → listsFilled c ≡ true → treeInRange c ≡ true → every (good A) (nodes c) ≡ true
+unfolding every good nodes treeRises listsFilled treeInRange
+all-good A (par c d) r f h =
     rw (every-append (good A) (nodes c) (nodes d))
-    (and-intro (all-good A c (and-left (treeRises A c) _ r) (and-left (treeInRange c) _ h)) (all-good A d (and-right (treeRises A c) _ r) (and-right (treeInRange c) _ h)))
-all-good A (syn list c) r h =
-    let ranged = every (λ k. leb k maxActions) list in
-    and-intro (and-intro (and-left (rises A 0 list) _ r) (and-left ranged _ h)) (all-good A c (and-right (rises A 0 list) _ r) (and-right ranged _ h))
-all-good A (leaf k) r h = refl
+    (and-intro (all-good A c (and-left (treeRises A c) _ r) (and-left (listsFilled c) _ f) (and-left (treeInRange c) _ h)) (all-good A d (and-right (treeRises A c) _ r) (and-right (listsFilled c) _ f) (and-right (treeInRange c) _ h)))
+all-good A (syn [] c) r f h = absurd (true≢false (sym f))
+all-good A (syn (k ∷ ks) c) r f h =
+    let ranged = every (λ k. leb k maxActions) (k ∷ ks) in
+    and-intro (and-intro (and-left (rises A 0 (k ∷ ks)) _ r) (and-left ranged _ h)) (all-good A c (and-right (rises A 0 (k ∷ ks)) _ r) f (and-right ranged _ h))
+all-good A (ini p c) r f h = all-good A c r f (and-right (every inRange (words p)) _ h)
+all-good A (leaf k) r f h = refl
 
-list-back : (A : ℕ) (ns : List Node) (rest : List ℕ) → every (good A) ns ≡ true → splitNodes (length ns) (flatMap nodeWords ns ++ rest) ≡ split ns rest
-unfolding splitNodes flatMap nodeWords setWords andNode onSome every good split
+none-set : setOf (lowBits []) (highBits []) ≡ []
+unfolding lowBits highBits setOf keep bit countUp
+none-set = refl
+
+list-back : (A : ℕ) (ns : List Node) (rest : List ℕ) → every (good A) ns ≡ true → splitNodes (length ns) (flatMap nodeWords ns ++ rest) ≡ split (map bare ns) rest
+unfolding splitNodes flatMap nodeWords setWords andNode overNode onSome every good split bare
 list-back A [] rest h = refl
 list-back A (parNode ∷ ns) rest h = rw (list-back A ns rest h)
-list-back A (synNode list ∷ ns) rest h =
+list-back A (synNode [] ∷ ns) rest h = absurd (true≢false (sym h))
+list-back A (synNode (k ∷ ks) ∷ ns) rest h =
+    let list = k ∷ ks in
     let e = and-left (rises A 0 list && every (λ k. leb k maxActions) list) _ h in
     rw (list-back A ns rest (and-right (rises A 0 list && every (λ k. leb k maxActions) list) _ h), set-back A list (and-left (rises A 0 list) _ e) (and-right (rises A 0 list) _ e))
+list-back A (iniNode p ∷ ns) rest h = rw (list-back A ns rest h, none-set)
 list-back A (leafNode k ∷ ns) rest h =
     let e : 2 + k ≡ suc (suc k) = omega arith in
     rw (e, list-back A ns rest h)
 list-back A (strayNode ∷ ns) rest h = absurd (true≢false (sym h))
 
-pub nodes-back : (A : ℕ) (c : Tree) (rest : List ℕ) → treeRises A c ≡ true → treeInRange c ≡ true → splitNodes (treeSize c) (flatMap nodeWords (nodes c) ++ rest) ≡ split (nodes c) rest
+pub nodes-back : (A : ℕ) (c : Tree) (rest : List ℕ) → treeRises A c ≡ true → listsFilled c ≡ true → treeInRange c ≡ true → splitNodes (treeSize c) (flatMap nodeWords (nodes c) ++ rest) ≡ split (map bare (nodes c)) rest
 unfolding treeSize
-nodes-back A c rest r h = list-back A (nodes c) rest (all-good A c r h)
+nodes-back A c rest r f h = list-back A (nodes c) rest (all-good A c r f h)
+
+-- the P behind the tree
+preds-back : (ps : List Pred) (rest : List ℕ) → ((p : Pred) → List·Memᴰ p ps → every inRange (words p) ≡ true) → splitPreds (length ps) (flatMap predWords ps ++ rest) ≡ split ps rest
+unfolding splitPreds andPred flatMap predWords nodeCount onSome split
+preds-back [] rest h = refl
+preds-back (p ∷ ps) rest h =
+    let more = flatMap predWords ps ++ rest in
+    let n = length-map (words p) code in
+    let e = append-assoc (map code (words p)) (flatMap predWords ps) rest in
+    rw (e, take-at (map code (words p)) more (nodeCount p) n, drop-at (map code (words p)) more (nodeCount p) n, words-back (words p) (h p (List·Memᴰ·head refl)), read-words-of p, preds-back ps rest (λ q i. h q (List·Memᴰ·tail i)))
 
 -- where no row is broken, the first is not, and none after it
 pub unbroken : (row : ℕ) (b : Bool) (rest : Option ℕ) → broken row b rest ≡ none → (b ≡ false) × (rest ≡ none)
@@ -134,9 +156,27 @@ pub unsaid : (r : Reading) (e : Entry) (row : ℕ) (b : Bool) (rest : Option ℕ
 unfolding faultOf
 unsaid r e row b rest h s = not-false b (unbroken row (not b) rest (sym s ∙ unbroken 3 (not (numbersInRange e)) (contentFault r e) h .1) .0)
 
+-- no row of the P after `ini` is broken, and none after these
+past-starts : (r : Reading) (ps : List Pred) (rest : Option ℕ) → startsFault r ps rest ≡ none → rest ≡ none
+unfolding startsFault
+past-starts r ps rest h =
+    let a = unbroken 7 (exists (λ p. namesOutside (variableCount r) (words p)) ps) _ h .1 in
+    let b = unbroken 8 (exists (λ p. namesNew (words p)) ps) _ a .1 in
+    let c = unbroken 9 (exists isTooDeep ps) _ b .1 in
+    let d = unbroken 10 (exists (exceedsSpan (r .model .variables)) ps) _ c .1 in
+    unbroken 11 (passesNodes (r .nodes) (flatMap words ps)) rest d .1
+
+-- so the lists after `syn` are not empty
+pub lists-filled : (r : Reading) (c : Tree) → faultOf r (composeLine c) ≡ none → listsFilled c ≡ true
+unfolding faultOf contentFault
+lists-filled r c h =
+    let a = unbroken 3 (not (numbersInRange (composeLine c))) _ h .1 in
+    let b = unbroken 5 (not (treeRises (r .model .actions) c)) _ a .1 in
+    not-false _ (unbroken 13 (not (listsFilled c)) _ (past-starts r (starts c) _ b) .0)
+
 -- each line's entry
 pub entry-back : (r : Reading) (e : Entry) (rest : List ℕ) → faultOf r e ≡ none → splitEntry (keyOf e) (lineWords e ++ rest) ≡ split e rest
-unfolding splitEntry keyOf lineWords splitNumber splitPair splitEdge splitTree edgeTo setWords numbersInRange contentFault onSome split range
+unfolding splitEntry keyOf lineWords startWords splitNumber splitPair splitEdge splitTree splitStarts treeWith edgeTo setWords numbersInRange contentFault onSome split range
 entry-back r (formatLine n) rest h = refl
 entry-back r (actionsLine n) rest h = refl
 entry-back r (variablesLine n) rest h = refl
@@ -155,7 +195,9 @@ entry-back r (edgeLine e) rest h =
     pred-back (edgeTo (e .from) (e .action) (e .to)) (e .update) rest (and-right (leb (e .to) 31) _ (and-right (leb (e .action) 63) _ (and-right (leb (e .from) 31) _ z)))
 entry-back r (composeLine c) rest h =
     let up : treeRises (r .model .actions) c ≡ true = unsaid r (composeLine c) 5 (treeRises (r .model .actions) c) _ h refl in
-    rw (nodes-back (r .model .actions) c rest up (in-range r (composeLine c) h), read-nodes-of c)
+    let ranged = in-range r (composeLine c) h in
+    let words = nodes-back (r .model .actions) c (startWords c ++ rest) up (lists-filled r c h) ranged in
+    rw (append-assoc (flatMap nodeWords (nodes c)) (startWords c) rest, words, preds-back (starts c) rest (starts-ranged c ranged), given-back c, read-nodes-of c)
 
 -- all lines, as far as the fuel goes
 pub none-lacks : (o : Option ℕ) → lacks o ≡ true → o ≡ none

@@ -9,7 +9,7 @@ use Rattle.model.specs.Predicate.{Pred, all, preds, nodeCount}
 use Rattle.model.specs.Model.{Model, Location, Edge, Automaton, inSet, edgeTotal}
 use Rattle.model.specs.Lawful.{automatonNodes, nodeTotal, LawfulAutomaton, Lawful}
 use Rattle.model.specs.Rules.{Taker}
-use Rattle.model.specs.Composition.{Tree, par, syn, leaf}
+use Rattle.model.specs.Composition.{Tree, par, syn, ini, leaf, starts}
 use Rattle.model.specs.Equal.{sameEdge}
 use Rattle.model.specs.Moves.{moveCount, distinctCount}
 use Rattle.model.specs.Linear.{pointerRange, pointer, atLocations, atAutomata, mergedInit, mergedInv, pointerMoves, mergedEdge, edgesWithRepeats, mergedEdges, mergedCount, linear, mergedPreds, row31, row32, row33, row34, mergeFault}
@@ -62,6 +62,7 @@ lawful-distinct m h =
           subst (LawfulAutomaton (m .variables) (m .actions)) (r .2) (lawful-automaton m (r .0) (h .automata (r .0) (r .1)));
       few-edges = omega (arith, h .few-edges, edges-fewer (m .automata));
       few-nodes = omega (arith, h .few-nodes, nodes-fewer (m .automata));
+      starts = h .starts;
       tree = rw n (h .tree);
     }
 
@@ -79,7 +80,7 @@ module _ (m : Model) where
 
   inits-distinct : mergedInit (distinct m) ≡ mergedInit m
   unfolding mergedInit distinct
-  inits-distinct = ap (λ (l : List Pred). all (preds l)) (automata-same (λ l. l .init) 0 (m .automata))
+  inits-distinct = ap (λ (l : List Pred). all (preds (l ++ starts (m .tree)))) (automata-same (λ l. l .init) 0 (m .automata))
 
   invs-distinct : mergedInv (distinct m) ≡ mergedInv m
   unfolding mergedInv distinct
@@ -107,6 +108,7 @@ counts-distinct : (m : Model) (a : ℕ) (c : Tree) → distinctCount m a c ≡ m
 unfolding distinctCount moveCount
 counts-distinct m a (par c d) = rw (set-distinct m a c, set-distinct m a d, counts-distinct m a c, counts-distinct m a d)
 counts-distinct m a (syn list c) = counts-distinct m a c
+counts-distinct m a (ini p c) = counts-distinct m a c
 counts-distinct m a (leaf k) = ap (length {A = Edge}) (under-distinct m a k)
 
 module _ (m : Model) (lawful : Lawful m) where

@@ -2,22 +2,22 @@
 use Prim.Native.Nat.{ℕ, zero, suc, _+_, _≤_, _<_}
 use mathlib.Core.Path.{_≡_, refl, sym}
 use mathlib.Core.Bool.{Bool, true, false, not, _&&_, _||_, true≢false, and-eq-true-iff}
-use mathlib.Core.List.{List, [], _∷_}
-use mathlib.Core.Logic.{_↔_}
+use mathlib.Core.List.{List, [], _∷_, _++_, List·Memᴰ, List·Memᴰ·head, List·Memᴰ·tail, Memᴰ·append-left, Memᴰ·append-right, List·Memᴰ·append-cases, List·Memᴰ·not-nil}
+use mathlib.Core.Logic.{_↔_, _⊎_, inl, inr}
 use mathlib.Core.Option.{Option}
 use native.Mathlib.Omega.{arith}
 use borrow.Author.Tests.{leb-true, leb-false, le-leb, lt-leb, not-false}
 use lib.ListN.{length}
 use lib.Dec.{leb, ltb, eqb}
-use Rattle.model.specs.Basic.{every, lacks, same, countUp}
-use Rattle.model.specs.Bounds.{firstFormat, lastFormat, maxNodes, maxActions, maxLocations, maxEdges, maxAutomata, maxVariables, lastAutomaton}
-use Rattle.model.specs.Predicate.{Pred, Range, words, namesNew, nodeCount}
-use Rattle.model.specs.Composition.{Tree, par, syn, leaf, leaves}
+use Rattle.model.specs.Basic.{every, exists, lacks, same, countUp}
+use Rattle.model.specs.Bounds.{firstFormat, lastFormat, maxDepth, maxNodes, maxActions, maxLocations, maxEdges, maxAutomata, maxVariables, lastAutomaton}
+use Rattle.model.specs.Predicate.{Pred, Range, words, depth, namesOutside, namesNew, nodeCount}
+use Rattle.model.specs.Composition.{Tree, par, syn, ini, leaf, leaves, starts, startNodes}
 use Rattle.model.specs.Model.{Edge, edgeTotal}
 use Rattle.model.specs.Lines.{formatLine, actionsLine, variablesLine, variableLine, automataLine, syncLine, locationsLine, initLine, edgesLine, edgeLine, composeLine, Reading}
-use Rattle.model.specs.Limits.{numbersInRange, treeInRange, isCrossed, rises, treeRises, isTooDeep, exceedsSpan, passesNodes, variableCount, locationCount, isAstray, isDisordered, isTooLarge, passesEdges, broken, predFault, locationFault, contentFault, faultOf}
-use Rattle.model.specs.Lawful.{LawfulRange, LawfulPred, LawfulEdge, LawfulTree}
-use Rattle.model.proofs.Tests.{and-intro, and-right, every-append}
+use Rattle.model.specs.Limits.{inRange, numbersInRange, treeInRange, isCrossed, rises, treeRises, isTooDeep, exceedsSpan, passesNodes, variableCount, locationCount, isAstray, isDisordered, isTooLarge, passesEdges, broken, predFault, locationFault, startsFault, contentFault, faultOf}
+use Rattle.model.specs.Lawful.{LawfulRange, LawfulPred, LawfulStart, LawfulEdge, LawfulTree}
+use Rattle.model.proofs.Tests.{le-of, and-intro, and-right, every-append, exists-none, none-exists}
 use Rattle.model.proofs.Lists.{same-of, same-self}
 
 -- a row that is not broken, and its tests as facts
@@ -59,17 +59,41 @@ unfolding every countUp
 counted-ranged n zero h = refl
 counted-ranged n (suc count) h = and-intro (le-leb n lastAutomaton (omega arith)) (counted-ranged (suc n) count (omega arith))
 
-nodes-ranged : (A : ℕ) (c : Tree) → A ≤ maxActions → treeRises A c ≡ true → every (λ k. leb k lastAutomaton) (leaves c) ≡ true → treeInRange c ≡ true
-unfolding treeRises treeInRange leaves every
-nodes-ranged A (par c d) a h l =
+-- the numbers of every P after `ini`
+abbrev StartsRanged : Tree → Type 0
+StartsRanged c = (p : Pred) → List·Memᴰ p (starts c) → every inRange (words p) ≡ true
+
+nodes-ranged : (A : ℕ) (c : Tree) → A ≤ maxActions → treeRises A c ≡ true → every (λ k. leb k lastAutomaton) (leaves c) ≡ true → StartsRanged c → treeInRange c ≡ true
+unfolding treeRises treeInRange leaves every starts
+nodes-ranged A (par c d) a h l s =
     let g = simp and-eq-true-iff at h in
     let k = simp (every-append (λ k. leb k lastAutomaton) (leaves c) (leaves d), and-eq-true-iff) at l in
-    and-intro (nodes-ranged A c a (g .0) (k .0)) (nodes-ranged A d a (g .1) (k .1))
-nodes-ranged A (syn list c) a h l = let g = simp and-eq-true-iff at h in and-intro (rises-ranged A 0 list a (g .0)) (nodes-ranged A c a (g .1) l)
-nodes-ranged A (leaf k) a h l = let g = simp and-eq-true-iff at l in g .0
+    and-intro (nodes-ranged A c a (g .0) (k .0) (λ p i. s p (Memᴰ·append-left (starts d) i))) (nodes-ranged A d a (g .1) (k .1) (λ p i. s p (Memᴰ·append-right (starts c) i)))
+nodes-ranged A (syn list c) a h l s = let g = simp and-eq-true-iff at h in and-intro (rises-ranged A 0 list a (g .0)) (nodes-ranged A c a (g .1) l s)
+nodes-ranged A (ini p c) a h l s = and-intro (s p (List·Memᴰ·head refl)) (nodes-ranged A c a h l (λ q i. s q (List·Memᴰ·tail i)))
+nodes-ranged A (leaf k) a h l s = let g = simp and-eq-true-iff at l in g .0
 
-pub tree-ranged : (A N : ℕ) (c : Tree) → A ≤ maxActions → N ≤ maxAutomata → LawfulTree A N c → treeInRange c ≡ true
-tree-ranged A N c a n h = nodes-ranged A c a (h .lists) (rw (h .in-order) (counted-ranged 0 N (omega arith)))
+pub tree-ranged : (A N : ℕ) (c : Tree) → A ≤ maxActions → N ≤ maxAutomata → LawfulTree A N c → StartsRanged c → treeInRange c ≡ true
+tree-ranged A N c a n h s = nodes-ranged A c a (h .lists) (rw (h .in-order) (counted-ranged 0 N (omega arith))) s
+
+pub starts-ranged : (c : Tree) → treeInRange c ≡ true → StartsRanged c
+unfolding treeInRange starts
+starts-ranged (par c d) h p i =
+    let g = simp and-eq-true-iff at h in
+    go (starts-ranged c (g .0) p) (starts-ranged d (g .1) p) (List·Memᴰ·append-cases (starts c) i)
+  where
+    go : (List·Memᴰ p (starts c) → every inRange (words p) ≡ true) → (List·Memᴰ p (starts d) → every inRange (words p) ≡ true) → List·Memᴰ p (starts c) ⊎ List·Memᴰ p (starts d) → every inRange (words p) ≡ true
+    go f g (inl j) = f j
+    go f g (inr j) = g j
+starts-ranged (syn list c) h p i = let g = simp and-eq-true-iff at h in starts-ranged c (g .1) p i
+starts-ranged (ini q c) h p i =
+    let g = simp and-eq-true-iff at h in
+    go i (g .0) (starts-ranged c (g .1) p)
+  where
+    go : List·Memᴰ p (q ∷ starts c) → every inRange (words q) ≡ true → (List·Memᴰ p (starts c) → every inRange (words p) ≡ true) → every inRange (words p) ≡ true
+    go (List·Memᴰ·head e) f g = rw e f
+    go (List·Memᴰ·tail j) f g = g j
+starts-ranged (leaf k) h p i = absurd (List·Memᴰ·not-nil i)
 
 -- the lines of counts
 pub format-line : (r : Reading) (n : ℕ) → (lacks (faultOf r (formatLine n)) ≡ true) ↔ ((firstFormat ≤ n) × (n ≤ lastFormat))
@@ -139,12 +163,55 @@ edge-line r e a l = (
   ),
 )
 
-pub tree-line : (r : Reading) (c : Tree) → r .model .actions ≤ maxActions → length (r .model .automata) ≤ maxAutomata → (lacks (faultOf r (composeLine c)) ≡ true) ↔ LawfulTree (r .model .actions) (length (r .model .automata)) c
+-- the rows of all P after `ini`
+abbrev LawfulStarts : Reading → Tree → Type 0
+LawfulStarts r c = ((p : Pred) → List·Memᴰ p (starts c) → LawfulStart (r .model .variables) p) × (r .nodes + startNodes c ≤ maxNodes)
+
+pub starts-clear : (r : Reading) (c : Tree) (rest : Option ℕ) → (lacks (startsFault r (starts c) rest) ≡ true) ↔
+    ((exists (λ p. namesOutside (variableCount r) (words p)) (starts c) ≡ false) × (exists (λ p. namesNew (words p)) (starts c) ≡ false) × (exists isTooDeep (starts c) ≡ false) × (exists (exceedsSpan (r .model .variables)) (starts c) ≡ false) × (r .nodes + startNodes c ≤ maxNodes) × (lacks rest ≡ true))
+unfolding startsFault passesNodes startNodes
+starts-clear r c rest = (λ h. let g = simp (clear, above) at h in (g .0, g .1 .0, g .1 .1 .0, g .1 .1 .1 .0, omega (arith, g .1 .1 .1 .1 .0), g .1 .1 .1 .1 .1), λ h. simp (clear, above) (h .0, (h .1, (h .2, (h .3, (omega (arith, h .4), h .5))))))
+
+starts-lawful : (r : Reading) (c : Tree) (rest : Option ℕ) → treeInRange c ≡ true → lacks (startsFault r (starts c) rest) ≡ true → LawfulStarts r c × (lacks rest ≡ true)
+unfolding isTooDeep exceedsSpan variableCount
+starts-lawful r c rest k h =
+    let g = starts-clear r c rest .0 h in (
+      (
+        λ p i. record {
+          pred = record {
+            ranged = starts-ranged c k p i;
+            named = exists-none (λ p. namesOutside (variableCount r) (words p)) (starts c) (g .0) p i;
+            shallow = le-of maxDepth (depth p) (exists-none isTooDeep (starts c) (g .2) p i);
+            spanned = not-false _ (exists-none (exceedsSpan (r .model .variables)) (starts c) (g .3) p i);
+          };
+          old = exists-none (λ p. namesNew (words p)) (starts c) (g .1) p i;
+        },
+        g .4,
+      ),
+      g .5,
+    )
+
+lawful-starts : (r : Reading) (c : Tree) (rest : Option ℕ) → LawfulStarts r c → lacks rest ≡ true → lacks (startsFault r (starts c) rest) ≡ true
+unfolding isTooDeep exceedsSpan variableCount
+lawful-starts r c rest h k = starts-clear r c rest .1 (
+  none-exists (λ p. namesOutside (variableCount r) (words p)) (starts c) (λ p i. h .0 p i .pred .named),
+  none-exists (λ p. namesNew (words p)) (starts c) (λ p i. h .0 p i .old),
+  none-exists isTooDeep (starts c) (λ p i. let l = h .0 p i .pred .shallow in lt-leb (suc maxDepth) (depth p) (omega arith)),
+  none-exists (exceedsSpan (r .model .variables)) (starts c) (λ p i. rw (h .0 p i .pred .spanned)),
+  h .1,
+  k,
+)
+
+pub tree-line : (r : Reading) (c : Tree) → r .model .actions ≤ maxActions → length (r .model .automata) ≤ maxAutomata → (lacks (faultOf r (composeLine c)) ≡ true) ↔ (LawfulTree (r .model .actions) (length (r .model .automata)) c × LawfulStarts r c)
 unfolding faultOf numbersInRange contentFault isDisordered isTooLarge lacks
 tree-line r c a n = (
-  λ h. let g = simp rows at h in record { lists = g .1 .0; filled = g .1 .1 .0; in-order = g .1 .1 .1 .0; size = omega (arith, g .1 .1 .1 .1 .0) },
+  λ h.
+      let g = simp rows at h in
+      let s = starts-lawful r c _ (g .0) (g .1 .1) in
+      let k = simp rows at (s .1) in
+      (record { lists = g .1 .0; filled = k .0; in-order = k .1 .0; size = omega (arith, k .1 .1 .0) }, s .0),
   λ h. simp rows (
-    tree-ranged (r .model .actions) (length (r .model .automata)) c a n h,
-    (h .lists, (h .filled, (h .in-order, (omega (arith, h .size), refl)))),
+    tree-ranged (r .model .actions) (length (r .model .automata)) c a n (h .0) (λ p i. h .1 .0 p i .pred .ranged),
+    (h .0 .lists, lawful-starts r c _ (h .1) (simp rows (h .0 .filled, (h .0 .in-order, (omega (arith, h .0 .size), refl))))),
   ),
 )

@@ -187,6 +187,14 @@ within-automata (x ∷ xs) r a =
           (omega (arith, h .1), (omega (arith, h .2), simp (and-eq-true-iff, split) (p .1, w .1 .1))),
     )
 
+nodes-automata : (xs : List Automaton) (r : Reading) → notedAll r (flatMap automatonLines xs) .nodes ≡ r .nodes + nodeTotal xs
+unfolding flatMap nodeTotal sum
+nodes-automata [] r = omega arith
+nodes-automata (x ∷ xs) r =
+    let ih = nodes-automata xs (notedAll r (automatonLines x)) in
+    let n = nodes-automaton x r in
+    rw (noted-append r (automatonLines x) (flatMap automatonLines xs)) (omega arith)
+
 pub lawful-is : (m : Model) → (limits m ≡ true) ↔ Lawful m
 unfolding limits lines withinLimits noted withModel atFirst edgeTotal
 lawful-is m =
@@ -202,13 +210,15 @@ lawful-is m =
     let e : edgeTotal (r₂ .model .automata) ≡ 0 = ap (λ (q : Model). edgeTotal (q .automata)) h₂ in
     let block = within-variables (m .variables) r₁ in
     let parts = rw (ap (λ (q : Model). q .variables) h₂, ap (λ (q : Model). q .actions) h₂) at (within-automata (m .automata) r₂) in
-    let whole = rw (ap (λ (q : Model). q .actions) h₃, ap (λ (q : Model). q .automata) h₃) at (tree-line r₃ (m .tree)) in (
+    let n₃ = nodes-automata (m .automata) r₂ in
+    let whole = rw (ap (λ (q : Model). q .actions) h₃, ap (λ (q : Model). q .automata) h₃, ap (λ (q : Model). q .variables) h₃) at (tree-line r₃ (m .tree)) in (
       λ h.
           let g = simp (and-eq-true-iff, split, split₂) at h in
           let f = format-line atFirst (m .format) .0 (g .0) in
           let a = actions-line r₀ (m .actions) .0 (g .1 .0) in
           let n = automata-line r₂ (length (m .automata)) .0 (g .1 .1 .1 .1 .0) in
           let p = parts a .0 (omega arith, (omega arith, g .1 .1 .1 .1 .1 .0)) in
+          let t = whole a (n .1) .0 (g .1 .1 .1 .1 .1 .1 .0) in
           record {
             format-from = f .0;
             format-to = f .1;
@@ -219,8 +229,9 @@ lawful-is m =
             few-automata = n .1;
             automata = p .0;
             few-edges = omega (arith, p .1);
-            few-nodes = omega (arith, p .2);
-            tree = whole a (n .1) .0 (g .1 .1 .1 .1 .1 .1 .0);
+            few-nodes = omega (arith, t .1 .1);
+            starts = t .1 .0;
+            tree = t .0;
           },
       λ h.
           let p = parts (h .few-actions) .1 (h .automata, omega (arith, h .few-edges), omega (arith, h .few-nodes)) in
@@ -234,7 +245,7 @@ lawful-is m =
                   block .1 (h .ranges),
                   (
                     automata-line r₂ (length (m .automata)) .1 (h .some-automaton, h .few-automata),
-                    (p .1 .1, (whole (h .few-actions) (h .few-automata) .1 (h .tree), refl)),
+                    (p .1 .1, (whole (h .few-actions) (h .few-automata) .1 (h .tree, (h .starts, omega (arith, h .few-nodes))), refl)),
                   ),
                 ),
               ),

@@ -15,16 +15,16 @@ use Rattle.model.specs.Basic.{between, every, exists, keep, sum, countUp
 use Rattle.model.specs.Bounds.{maxVariables, maxLocations, maxEdges, maxOperands, maxDepth, maxNodes, lastVariable, lastLocation, leastNumber, greatestNumber, leastValue, greatestValue}
 use Rattle.model.specs.Predicate as P
 use Rattle.model.specs.Predicate.{Pred, Preds, Expr, all, any, negate, imp, eq, le, more, num, old, new, add, sub, mul, choose, preds, operands, Word, words, wordsAll, wordsOf, nodeCount, Named, nothing, theOld, theNew, named, isOutside, isNew, namesOutside, namesNew, depth, Range, range, interval, stays, allStay, allStayAll, allStayIn}
-use Rattle.model.specs.Composition.{Tree, par, syn, leaf, leaves, nodes, treeSize}
+use Rattle.model.specs.Composition.{Tree, par, syn, ini, leaf, leaves, starts, startNodes, nodes, treeSize}
 use Rattle.model.specs.Model.{Model, Location, Edge, Automaton, automaton, edgeTotal, inSet}
 use Rattle.model.specs.Limits.{inRange, isTooDeep, rises, treeRises, listsFilled, limits, broken}
-use Rattle.model.specs.Lawful.{locationNodes, automatonNodes, nodeTotal, LawfulRange, LawfulPred, LawfulLocation, LawfulEdge, LawfulAutomaton, Lawful}
+use Rattle.model.specs.Lawful.{locationNodes, automatonNodes, nodeTotal, LawfulRange, LawfulPred, LawfulStart, LawfulLocation, LawfulEdge, LawfulAutomaton, Lawful}
 use Rattle.model.specs.Rules.{Taker}
 use Rattle.model.specs.Moves.{under, alone, moves}
 use Rattle.model.specs.Linear.{pointerRange, pointer, atLocations, atAutomata, mergedInit, mergedInv, pointerMoves, mergedEdge, edgesWithRepeats, mergedEdges, sheetWith, predsWith, linear, mergedPreds, row31, row32, row33, row34, mergeFault}
 use Rattle.model.specs.Repeats.{linearWithRepeats, predsWithRepeats, row32WithRepeats, row33WithRepeats, row34WithRepeats, faultWithRepeats}
 use Rattle.model.specs.Equal.{sameEdge}
-use Rattle.model.proofs.Tests.{and-intro, and-left, and-right, and-same, or-none, or-none-left, below-of, of-lt, le-of, exists-intro, exists-append, every-append}
+use Rattle.model.proofs.Tests.{and-intro, and-left, and-right, and-same, or-none, or-none-left, below-of, of-lt, le-of, exists-none, exists-append, every-append}
 use Rattle.model.proofs.Lists.{none-left, none-right, none-narrower, all-at, keep-first, keep-skip}
 use Rattle.model.proofs.Once.{once-out}
 use Rattle.model.proofs.LimitsLaws.{Members, members, no-members, lawful-is}
@@ -37,6 +37,7 @@ use Rattle.model.proofs.Merged.{automaton-at}
 use Rattle.model.proofs.Alike.{merged-size}
 use Rattle.model.proofs.Count.{repeats-counted}
 use Rattle.model.proofs.Distinct.{count-is}
+use Rattle.model.proofs.Sizes.{starts-few}
 
 -- what holds of every item, of two lists joined and of a map
 members-append : {A : Type 0} (P : A → Type 0) (k l : List A) → Members P k → Members P l → Members P (k ++ l)
@@ -242,15 +243,8 @@ takers-few m a (par c d) x h = go (λ y i. takers-few m a c y i) (λ y i. takers
     go f g (left-one e r) = let p = f x r in omega arith
     go f g (right-one b r) = let p = g x r in omega arith
 takers-few m a (syn list c) x h = takers-few m a c x h
+takers-few m a (ini p c) x h = takers-few m a c x h
 takers-few m a (leaf k) x h = let r = Memᴰ·of-map (alone k) (under a (automaton m k .edges)) h in omega (arith, ap (length {A = Taker}) (r .2))
-
--- f holds nowhere in a list, so of none of its items
-none-of : {A : Type 0} (f : A → Bool) (l : List A) → exists f l ≡ false → Members (λ x. f x ≡ false) l
-none-of f l h x i = go (f x) refl
-  where
-    go : (b : Bool) → f x ≡ b → b ≡ false
-    go true e = sym (exists-intro f i e) ∙ h
-    go false e = refl
 
 -- how many predicates the merged init, inv and updates join
 module _ (m : Model) (part : Location → Pred) where
@@ -266,6 +260,71 @@ module _ (m : Model) (part : Location → Pred) where
       let few = h x (List·Memᴰ·head refl) in
       let ih = automata-length (suc i) xs (λ y k. h y (List·Memᴰ·tail k)) in
       omega (arith, length-append (atLocations m part i 0 (x .locations)) (atAutomata m part (suc i) xs), locations-length i 0 (x .locations))
+
+-- every predicate has a word, and an implication five; so these are few where the merged nodes are
+some-word : (p : Pred) → 1 ≤ nodeCount p
+unfolding nodeCount words
+some-word (all ps) = omega arith
+some-word (any ps) = omega arith
+some-word (negate p) = omega arith
+some-word (imp p q) = omega arith
+some-word (eq x y) = omega arith
+some-word (le x y) = omega arith
+
+abbrev wordCount : List Pred → ℕ
+wordCount l = length (wordsAll (preds l))
+
+words-joined : (k l : List Pred) → wordCount (k ++ l) ≡ wordCount k + wordCount l
+unfolding preds wordsAll
+words-joined [] l = omega arith
+words-joined (p ∷ k) l = omega (arith, length-append (words p) (wordsAll (preds (k ++ l))), length-append (words p) (wordsAll (preds k)), words-joined k l)
+
+module _ (m : Model) (part : Location → Pred) where
+  locations-words : (i j : ℕ) (ls : List Location) → 5 * length ls ≤ wordCount (atLocations m part i j ls)
+  unfolding atLocations preds wordsAll words nodeCount
+  locations-words i j [] = omega arith
+  locations-words i j (l ∷ ls) =
+      let q = imp (eq (old (pointer m i)) (num (pos j))) (part l) in
+      omega (arith, length-append (words q) (wordsAll (preds (atLocations m part i (suc j) ls))), some-word (part l), locations-words i (suc j) ls)
+
+  automata-words : (i : ℕ) (xs : List Automaton) → 5 * length (atAutomata m part i xs) ≤ wordCount (atAutomata m part i xs)
+  unfolding atAutomata
+  automata-words i [] = omega arith
+  automata-words i (x ∷ xs) =
+      let k = atLocations m part i 0 (x .locations) in
+      let l = atAutomata m part (suc i) xs in
+      omega (arith, length-append k l, words-joined k l, locations-length m part i 0 (x .locations), locations-words i 0 (x .locations), automata-words (suc i) xs)
+
+-- the merged init and the merged inv join as many implications
+parts-length : (m : Model) (part other : Location → Pred) (i : ℕ) (xs : List Automaton) → length (atAutomata m part i xs) ≡ length (atAutomata m other i xs)
+unfolding atAutomata
+parts-length m part other i [] = refl
+parts-length m part other i (x ∷ xs) =
+    omega (
+      arith,
+      length-append (atLocations m part i 0 (x .locations)) (atAutomata m part (suc i) xs),
+      length-append (atLocations m other i 0 (x .locations)) (atAutomata m other (suc i) xs),
+      locations-length m part i 0 (x .locations),
+      locations-length m other i 0 (x .locations),
+      parts-length m part other (suc i) xs,
+    )
+
+-- with a tree of at most 64 nodes, the merged init has no more operands than `all` may have
+init-few : (m : Model) → Lawful m → nodeCount (mergedInit m) + nodeCount (mergedInv m) ≤ maxNodes → length (atAutomata m (λ l. l .init) 0 (m .automata) ++ starts (m .tree)) ≤ maxOperands
+unfolding mergedInit mergedInv nodeCount words
+init-few m lawful h =
+    let inits = atAutomata m (λ l. l .init) 0 (m .automata) in
+    let invs = atAutomata m (λ l. l .inv) 0 (m .automata) in
+    let few = starts-few (m .tree) in
+    omega (
+      arith,
+      length-append inits (starts (m .tree)),
+      words-joined inits (starts (m .tree)),
+      automata-words m (λ l. l .init) 0 (m .automata),
+      automata-words m (λ l. l .inv) 0 (m .automata),
+      parts-length m (λ l. l .init) (λ l. l .inv) 0 (m .automata),
+      lawful .tree .size,
+    )
 
 module _ (m : Model) (lawful : Lawful m) (few : length (m .variables) + length (m .automata) ≤ maxVariables) where
   -- the merged automaton's ranges: the model's, then the pointers'
@@ -310,14 +369,33 @@ module _ (m : Model) (lawful : Lawful m) (few : length (m .variables) + length (
         (locations-good i 0 (omega arith) (x .locations) (omega arith) (p .locations))
         (automata-good (suc i) xs (omega arith) (λ y k. h y (List·Memᴰ·tail k)))
 
-    part-lawful : let p = all (preds (atAutomata m part 0 (m .automata))) in depth p ≤ maxDepth → LawfulPred merged p × (namesNew (words p) ≡ false)
-    part-lawful shallow =
-        let l = atAutomata m part 0 (m .automata) in
-        let good : Members Good l = automata-good 0 (m .automata) (omega arith) (lawful .automata) in
-        let count = automata-length m part 0 (m .automata) (λ x i. lawful .automata x i .few-locations) in
-        let n = lawful .few-automata in
-        let f = all-fine merged l (omega arith) (λ p i. good p i .0) in
-        (record { ranged = f .ranged; named = f .named; shallow = shallow; spanned = f .spanned }, all-old l (λ p i. good p i .1))
+    parts-good : Members Good (atAutomata m part 0 (m .automata))
+    parts-good = automata-good 0 (m .automata) (omega arith) (lawful .automata)
+
+  starts-good : Members Good (starts (m .tree))
+  starts-good p i = let h = lawful .starts p i in (widened (m .variables) (map pointerRange (m .automata)) p (h .pred), h .old)
+
+  -- `all` of good ones
+  joined-lawful : (l : List Pred) → Members Good l → length l ≤ maxOperands → depth (all (preds l)) ≤ maxDepth → LawfulPred merged (all (preds l)) × (namesNew (words (all (preds l))) ≡ false)
+  joined-lawful l good count shallow =
+      let f = all-fine merged l count (λ p i. good p i .0) in
+      (record { ranged = f .ranged; named = f .named; shallow = shallow; spanned = f .spanned }, all-old l (λ p i. good p i .1))
+
+  init-lawful : nodeCount (mergedInit m) + nodeCount (mergedInv m) ≤ maxNodes → depth (mergedInit m) ≤ maxDepth → LawfulPred merged (mergedInit m) × (namesNew (words (mergedInit m)) ≡ false)
+  unfolding mergedInit
+  init-lawful h shallow =
+      let l = atAutomata m (λ l. l .init) 0 (m .automata) in
+      joined-lawful (l ++ starts (m .tree))
+      (members-append Good l (starts (m .tree)) (parts-good (λ l. l .init) (λ l h. (h .init, h .init-old))) starts-good)
+      (init-few m lawful h) shallow
+
+  inv-lawful : depth (mergedInv m) ≤ maxDepth → LawfulPred merged (mergedInv m) × (namesNew (words (mergedInv m)) ≡ false)
+  unfolding mergedInv
+  inv-lawful shallow =
+      let l = atAutomata m (λ l. l .inv) 0 (m .automata) in
+      let count = automata-length m (λ l. l .inv) 0 (m .automata) (λ x i. lawful .automata x i .few-locations) in
+      let n = lawful .few-automata in
+      joined-lawful l (parts-good (λ l. l .inv) (λ l h. (h .inv, h .inv-old))) (omega arith) shallow
 
   -- a taker is an automaton of the model with an edge of its own
   record Taken (y : Taker) : Type 0 where
@@ -394,17 +472,17 @@ rows-ask m edges h =
     record {
       few-variables = le-of maxVariables _ (r31 .0);
       few-edges = le-of maxEdges _ (r32 .0);
-      shallow = λ p i. le-of maxDepth (depth p) (none-of isTooDeep (predsWith m edges) (r33 .0) p i);
+      shallow = λ p i. le-of maxDepth (depth p) (exists-none isTooDeep (predsWith m edges) (r33 .0) p i);
       few-nodes = le-of maxNodes _ (r34 .0);
     }
 
 -- the merged sheet with some of the merged edges is lawful
 sheet-lawful : (m : Model) → Lawful m → (es : List Edge) → ((e : Edge) → List·Memᴰ e es → List·Memᴰ e (edgesWithRepeats m)) → Unrefused m es → Lawful (sheetWith m es)
-unfolding mergedInit mergedInv edgesWithRepeats edgeTotal nodeTotal automatonNodes locationNodes sum treeRises listsFilled leaves countUp treeSize nodes
+unfolding edgesWithRepeats edgeTotal nodeTotal automatonNodes locationNodes sum treeRises listsFilled leaves starts startNodes flatMap countUp treeSize nodes
 sheet-lawful m lawful es listed u =
     let vs = m .variables ++ map pointerRange (m .automata) in
-    let init = part-lawful m lawful (u .few-variables) (λ l. l .init) (λ l h. (h .init, h .init-old)) (u .shallow (mergedInit m) (List·Memᴰ·head refl)) in
-    let inv = part-lawful m lawful (u .few-variables) (λ l. l .inv) (λ l h. (h .inv, h .inv-old)) (u .shallow (mergedInv m) (List·Memᴰ·tail (List·Memᴰ·head refl))) in
+    let init = init-lawful m lawful (u .few-variables) (omega (arith, u .few-nodes)) (u .shallow (mergedInit m) (List·Memᴰ·head refl)) in
+    let inv = inv-lawful m lawful (u .few-variables) (u .shallow (mergedInv m) (List·Memᴰ·tail (List·Memᴰ·head refl))) in
     let location : Location = record { init = mergedInit m; inv = mergedInv m } in
     let merged-automaton : Automaton = record { sync = keep (λ a. inSet m a (m .tree)) (countUp 1 (m .actions)); locations = location ∷ []; edges = es } in
     let allowed = edges-allowed m lawful (u .few-variables) (countUp 0 (suc (m .actions))) (λ a i. let l = counted 0 (suc (m .actions)) a i in omega arith) in
@@ -426,6 +504,7 @@ sheet-lawful m lawful es listed u =
       automata = members (LawfulAutomaton vs (m .actions)) merged-automaton [] lawful-automaton (no-members (LawfulAutomaton vs (m .actions)));
       few-edges = omega (arith, u .few-edges);
       few-nodes = let e = ap sum (map-map nodeCount (λ (d : Edge). d .update) es) in omega (arith, u .few-nodes);
+      starts = no-members (LawfulStart vs);
       tree = record { lists = refl; filled = refl; in-order = refl; size = omega arith };
     }
 

@@ -6,7 +6,7 @@ use lib.ListN.{length}
 use Rattle.model.specs.Predicate.{Pred, Range, nodeCount}
 use Rattle.model.specs.Composition.{Tree, leaf}
 use Rattle.model.specs.Model.{Location, Edge, Automaton, Model}
-use Rattle.model.specs.Lines.{Key, format, actions, variables, variable, automata, sync, locations, init, inv, edges, edge, compose, Entry, formatLine, actionsLine, variablesLine, variableLine, automataLine, syncLine, locationsLine, initLine, invLine, edgesLine, edgeLine, composeLine, keyOf, locationLines, automatonLines, lines, dueAtFirst, repeat, thenDue, Reading, atFirst, withModel, withAutomata, withPred, onLast, addLocation, addEdge, noted}
+use Rattle.model.specs.Lines.{Key, format, actions, variables, variable, automata, sync, locations, init, inv, edges, edge, compose, Entry, formatLine, actionsLine, variablesLine, variableLine, automataLine, syncLine, locationsLine, initLine, invLine, edgesLine, edgeLine, composeLine, keyOf, locationLines, automatonLines, lines, dueAtFirst, repeat, thenDue, Reading, atFirst, withModel, withAutomata, withPred, withNodes, onLast, addLocation, addEdge, noted}
 
 -- the lines of a block, and what they are taken to
 abbrev pub notedAll : Reading → List Entry → Reading
@@ -74,7 +74,7 @@ noted-automata (x ∷ xs) r f a rs done c h =
     ap (λ q. sheet f a rs q c) (append-assoc done (x ∷ []) xs)
 
 pub noted-lines : (m : Model) → notedAll atFirst (lines m) .model ≡ m
-unfolding lines noted withModel atFirst
+unfolding lines noted withModel withNodes atFirst
 noted-lines m =
     let r₂ = noted (noted atFirst (formatLine (m .format))) (actionsLine (m .actions)) in
     let h₁ : notedAll r₂ (map variableLine (m .variables)) .model ≡ sheet (m .format) (m .actions) (m .variables) [] (leaf 0) = noted-ranges (m .variables) r₂ (m .format) (m .actions) [] [] (leaf 0) refl in

@@ -11,7 +11,7 @@ use lib.ListN.{length, getD, length-append, length-map, List·getD-append}
 use lib.Dec.{eqb, leb, ltb}
 use Rattle.model.specs.Basic.{eqZ, each, every, exists, keep, once, member, countUp}
 use Rattle.model.specs.Predicate.{Pred, all, preds, holds, words, named, isOutside, namesOutside, mentions}
-use Rattle.model.specs.Composition.{Tree, par, syn, leaf, leaves}
+use Rattle.model.specs.Composition.{Tree, par, syn, ini, leaf, leaves, starts}
 use Rattle.model.specs.Model.{Model, Location, Edge, Automaton, automaton, location, nobody, nowhere, inSet}
 use Rattle.model.specs.Limits.{rises, treeRises}
 use Rattle.model.specs.Lawful.{Lawful, LawfulAutomaton}
@@ -19,7 +19,7 @@ use Rattle.model.specs.Rules.{State, at, val, holdsIn, Taker, mentioned,
 use Rattle.model.specs.Moves.{under, alone, moves}
 use Rattle.model.specs.Linear.{pointer, pointerRange, atAutomata, pointerMoves, mergedInit, mergedInv, mergedEdge, edgesWithRepeats, mergedEdges, linear}
 use Rattle.model.specs.Equal.{sameEdge}
-use Rattle.model.specs.Judge.{hasValues, row21, row22, inits, invs, settled, isTaker, updated, led, kept, framed, fits, stepHolds}
+use Rattle.model.specs.Judge.{hasValues, row21, row22, inits, startsHold, invs, settled, isTaker, updated, led, kept, framed, fits, stepHolds}
 use Rattle.model.specs.Runs.{beside}
 use Rattle.model.proofs.Tests.{not-false, each-elim, and-left, and-right, and-same, or-none, eq-of, of-eq, not-eq, eq-self, lt-of, each-ext, each-add, exists-append, exists-map, exists-ext, every-append, every-ext}
 use Rattle.model.proofs.Lists.{keep-append, keep-all, keep-none, all-at, every-map, member-keep, member-count}
@@ -107,11 +107,10 @@ module _ (m : Model) where
 
   -- the merged init and inv mean each automaton's at its location
   wrapped : (part : Location → Pred) → ((k j : ℕ) → Named (part (location m k j))) → (s : State) → Shaped m s
-      → holdsIn (beside s) (all (preds (atAutomata m part 0 (m .automata)))) ≡ each (length (m .automata)) (λ k. holdsIn s (part (location m k (at s k))))
+      → every (holdsIn (beside s)) (atAutomata m part 0 (m .automata)) ≡ each (length (m .automata)) (λ k. holdsIn s (part (location m k (at s k))))
   unfolding beside
   wrapped part names s g =
-      preds-hold (beside s .values) (beside s .values) (atAutomata m part 0 (m .automata))
-      ∙ automata-hold m (beside s .values) (beside s .values) part 0 (m .automata) (at s) (λ k l. rw (zero-add k) (pointer-value m (s .values) (s .locations) (g .values-are) k)) (g .placed)
+      automata-hold m (beside s .values) (beside s .values) part 0 (m .automata) (at s) (λ k l. rw (zero-add k) (pointer-value m (s .values) (s .locations) (g .values-are) k)) (g .placed)
       ∙ each-ext _ _ _ (λ k l. same-p (s .values) (s .values) (map pos (s .locations)) (map pos (s .locations)) (length (m .variables)) (g .values-are) (g .values-are) (part (location m k (at s k))) (names k (at s k)))
 
   -- a merged edge's update means its takers' updates, and their pointers' moves
@@ -213,18 +212,33 @@ module _ (m : Model) (lawful : Lawful m) where
   updates-named : (k : ℕ) (e : Edge) → List·Memᴰ e (automaton m k .edges) → Named m (e .update)
   updates-named k e = automaton-at (λ x. List·Memᴰ e (x .edges) → Named m (e .update)) (λ i. absurd (List·Memᴰ·not-nil i)) (λ x h i. h .edges e i .update .named) k
 
-  -- the tests of every automaton are the same
-  inits-same : (s : State) → Shaped m s → inits (linear m) (beside s) ≡ inits m s
-  unfolding inits linear mergedInit each beside
-  inits-same s g = and-true _ ∙ wrapped m (λ l. l .init) inits-named s g
+  -- the P of every `ini` is the same, where pointers follow
+  starts-same : (s : State) → Shaped m s → every (holdsIn (beside s)) (starts (m .tree)) ≡ startsHold m s
+  unfolding startsHold beside
+  starts-same s g =
+      every-ext _ _ (starts (m .tree)) (λ p i.
+      same-p (s .values) (s .values) (map pos (s .locations)) (map pos (s .locations)) (length (m .variables)) (g .values-are) (g .values-are) p (lawful .starts p i .pred .named))
+
+  -- the tests of every automaton, and of the start, are the same
+  begun-same : (s : State) → Shaped m s → (inits (linear m) (beside s) && startsHold (linear m) (beside s)) ≡ (inits m s && startsHold m s)
+  unfolding inits linear mergedInit each startsHold starts every beside
+  begun-same s g =
+      and-true _
+      ∙ and-true _
+      ∙ preds-hold (beside s .values) (beside s .values) (atAutomata m (λ l. l .init) 0 (m .automata) ++ starts (m .tree))
+      ∙ every-append _ (atAutomata m (λ l. l .init) 0 (m .automata)) (starts (m .tree))
+      ∙ and-same (wrapped m (λ l. l .init) inits-named s g) (starts-same s g)
 
   invs-same : (s : State) → Shaped m s → invs (linear m) (beside s) ≡ invs m s
   unfolding invs linear mergedInv each beside
-  invs-same s g = and-true _ ∙ wrapped m (λ l. l .inv) invs-named s g
+  invs-same s g =
+      and-true _
+      ∙ preds-hold (beside s .values) (beside s .values) (atAutomata m (λ l. l .inv) 0 (m .automata))
+      ∙ wrapped m (λ l. l .inv) invs-named s g
 
   pub settled-same : (s t : State) → Shaped m s → Shaped m t → settled (linear m) (beside s) (beside t) ≡ settled m s t
   unfolding settled beside
-  settled-same s t g h = rw (inits-same s g, invs-same s g, invs-same t h)
+  settled-same s t g h = rw (begun-same s g, invs-same s g, invs-same t h)
 
   -- and so are the tests of a step
   pub step-same : (s t : State) → Shaped m s → Shaped m t → (a : ℕ) → a ≤ m .actions → stepHolds (linear m) (beside s) a (beside t) ≡ stepHolds m s a t
@@ -245,6 +259,7 @@ module _ (m : Model) (lawful : Lawful m) where
       or-none
       (rises-above (m .actions) 0 list (and-left (rises (m .actions) 0 list) (treeRises (m .actions) c) h) 0 (omega arith))
       (silent-free c (and-right (rises (m .actions) 0 list) (treeRises (m .actions) c) h))
+  silent-free (ini p c) h = silent-free c h
   silent-free (leaf k) h = automaton-at (λ x. member 0 (x .sync) ≡ false) refl (λ x p. rises-above (m .actions) 0 (x .sync) (p .sync) 0 (omega arith)) k
 
   -- the merged automaton's set is the composition's

@@ -9,7 +9,7 @@ use borrow.Author.Tests.{le-ltb}
 use lib.ListN.{List·getD-map}
 use lib.Dec.{eqb, ltb}
 use Rattle.model.specs.Basic.{keep, once, member}
-use Rattle.model.specs.Composition.{Tree, par, syn, leaf}
+use Rattle.model.specs.Composition.{Tree, par, syn, ini, leaf}
 use Rattle.model.specs.Model.{Model, Edge, Automaton, automaton, nobody, inSet}
 use Rattle.model.specs.Rules.{Taker}
 use Rattle.model.specs.Moves.{under, pairs, sides, alone, moves}
@@ -126,6 +126,7 @@ module _ (m : Model) where
   unfolding inSet distinctEdges
   set-distinct a (par c d) = or-same (set-distinct a c) (set-distinct a d)
   set-distinct a (syn list c) = or-same {a = member a list} refl (set-distinct a c)
+  set-distinct a (ini p c) = set-distinct a c
   set-distinct a (leaf k) = ap (λ (x : Automaton). member a (x .sync)) (automaton-distinct k)
 
   module _ (a : ℕ) (c d : Tree) (i : ℕ) (w : Numbered i c) (v : Numbered (i + size c) d) where
@@ -161,6 +162,7 @@ module _ (m : Model) where
       once-sides (inSet m a c) (inSet m a d) (moves m a c) (moves m a d) (tells-left a c d i (w .0) (w .1)) (apart a c d i (w .0) (w .1))
       ∙ rw (set-distinct a c, set-distinct a d, moves-distinct a c i (w .0), moves-distinct a d (i + size c) (w .1))
   moves-distinct a (syn list c) i w = moves-distinct a c i w
+  moves-distinct a (ini p c) i w = moves-distinct a c i w
   moves-distinct a (leaf k) i w =
       once-map sameEdge sameTakers (alone k) (under a (automaton m k .edges)) (λ e f p q. alone-same k e f)
       ∙ ap (map (alone k)) (under-distinct a k)

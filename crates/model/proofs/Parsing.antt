@@ -1,14 +1,14 @@
 -- Words and predicates are one to one, and so are nodes and trees: what is written is read, and nothing else.
 use mathlib.Core.Path.{_≡_, refl, sym, ap, _∙_}
-use mathlib.Core.List.{List, [], _∷_, _++_, append-assoc, append-nil}
+use mathlib.Core.List.{List, [], _∷_, _++_, map, map-append, append-assoc, append-nil}
 use mathlib.Core.Option.{Option, none, some}
 use Prim.Native.Nat.{ℕ, zero, suc}
 use native.Mathlib.Omega.{arith}
 use Rattle.model.specs.Predicate as P
 use Rattle.model.specs.Predicate.{Pred, Preds, Expr, Word, words, wordsAll, wordsOf, operands, all, any, negate, imp, eq, le, more, num, old, new, add, sub, mul, choose, allOf, anyOf, notWord, impWord, eqWord, leWord, numWord, oldWord, newWord, addWord, subWord, mulWord, ifWord, stray}
 use Rattle.model.specs.Basic.{onSome}
-use Rattle.model.specs.Composition.{Tree, Node, nodes, par, syn, leaf, parNode, synNode, leafNode, strayNode}
-use Rattle.model.specs.Parse.{Item, predicate, expression, Stack, popPred, popExpr, popPreds, push, stack, solePred, readPred, popTree, pushNode, treeStack, soleTree, readTree}
+use Rattle.model.specs.Composition.{Tree, Node, nodes, starts, par, syn, ini, leaf, parNode, synNode, iniNode, leafNode, strayNode}
+use Rattle.model.specs.Parse.{Item, predicate, expression, Stack, popPred, popExpr, popPreds, push, stack, solePred, readPred, popTree, pushNode, treeStack, soleTree, readTree, iniAlone, withStarts}
 
 -- an option has one value
 pub none-some : {A : Type 0} (a : A) → none ≡ some a → ⊥
@@ -144,6 +144,7 @@ read-tree-in : (c : Tree) (ns : List Node) (s : List Tree) → treeStack ns ≡ 
 unfolding treeStack nodes onSome pushNode popTree
 read-tree-in (par c d) ns s e = rw (append-assoc (nodes c) (nodes d) ns, read-tree-in c (nodes d ++ ns) (d ∷ s) (read-tree-in d ns s e))
 read-tree-in (syn l c) ns s e = rw (read-tree-in c ns s e)
+read-tree-in (ini p c) ns s e = rw (read-tree-in c ns s e)
 read-tree-in (leaf k) ns s e = rw e
 
 pub read-nodes-of : (c : Tree) → readTree (nodes c) ≡ some c
@@ -160,7 +161,9 @@ tree-push-flat parNode [] t e = absurd (none-some t e)
 tree-push-flat parNode (c ∷ []) t e = absurd (none-some t e)
 tree-push-flat parNode (c ∷ d ∷ s) t e = rw (← got _ _ e, append-assoc (nodes c) (nodes d) (tree-flat s))
 tree-push-flat (synNode l) [] t e = absurd (none-some t e)
+tree-push-flat (iniNode p) [] t e = absurd (none-some t e)
 tree-push-flat (synNode l) (c ∷ s) t e = ap tree-flat (got _ _ e)
+tree-push-flat (iniNode p) (c ∷ s) t e = ap tree-flat (got _ _ e)
 tree-push-flat (leafNode k) s t e = ap tree-flat (got _ _ e)
 tree-push-flat strayNode s t e = absurd (none-some t e)
 
@@ -186,3 +189,23 @@ nodes-of-read ns c e = go (treeStack ns) refl e
     go : (o : Option (List Tree)) → treeStack ns ≡ o → onSome soleTree o ≡ some c → ns ≡ nodes c
     go none h k = absurd (none-some c k)
     go (some s) h k = tree-stack-flat ns s h ∙ tree-sole-flat s c k
+
+-- a node as it is read before the P's are known; with them it is as it was
+unfoldable pub bare : Node → Node
+bare parNode = parNode
+bare (synNode list) = synNode list
+bare (iniNode p) = iniAlone
+bare (leafNode k) = leafNode k
+bare strayNode = strayNode
+
+given-in : (c : Tree) (ps : List Pred) (ns : List Node) → withStarts (starts c ++ ps) (map bare (nodes c) ++ ns) ≡ nodes c ++ withStarts ps ns
+unfolding withStarts starts nodes bare
+given-in (par c d) ps ns =
+    rw (append-assoc (starts c) (starts d) ps, map-append bare (nodes c) (nodes d), append-assoc (map bare (nodes c)) (map bare (nodes d)) ns, append-assoc (nodes c) (nodes d) (withStarts ps ns), given-in c (starts d ++ ps) (map bare (nodes d) ++ ns), given-in d ps ns)
+given-in (syn l c) ps ns = rw (given-in c ps ns)
+given-in (ini p c) ps ns = rw (given-in c ps ns)
+given-in (leaf k) ps ns = refl
+
+pub given-back : (c : Tree) → withStarts (starts c) (map bare (nodes c)) ≡ nodes c
+unfolding withStarts
+given-back c = rw (append-nil (starts c), append-nil (map bare (nodes c)), append-nil (nodes c)) at (given-in c [] [])

@@ -7,11 +7,11 @@ use lib.ListN.{length, length-append, length-map}
 use Rattle.model.specs.Basic.{sum}
 use Rattle.model.specs.Bounds.{maxLocations, tableWords}
 use Rattle.model.specs.Predicate.{Pred, Range, words, nodeCount}
-use Rattle.model.specs.Composition.{Node, nodes, treeSize, parNode, synNode, leafNode, strayNode}
+use Rattle.model.specs.Composition.{Tree, par, syn, ini, leaf, starts, startNodes, Node, nodes, treeSize, parNode, synNode, iniNode, leafNode, strayNode}
 use Rattle.model.specs.Model.{Location, Edge, Automaton, Model, edgeTotal}
 use Rattle.model.specs.Lines.{Entry, formatLine, actionsLine, variablesLine, variableLine, automataLine, syncLine, locationsLine, initLine, invLine, edgesLine, edgeLine, composeLine, locationLines, automatonLines, lines}
 use Rattle.model.specs.Lawful.{Lawful, locationNodes, automatonNodes, nodeTotal}
-use Rattle.model.specs.Table.{code, setWords, predWords, nodeWords, lineWords, sheetWords}
+use Rattle.model.specs.Table.{code, setWords, predWords, nodeWords, startWords, lineWords, sheetWords}
 
 -- how many words lines have
 size : List Entry → ℕ
@@ -72,6 +72,7 @@ size-node : (n : Node) → length (nodeWords n) ≤ 3
 unfolding nodeWords setWords
 size-node parNode = omega arith
 size-node (synNode list) = omega arith
+size-node (iniNode p) = omega arith
 size-node (leafNode k) = omega arith
 size-node strayNode = omega arith
 
@@ -79,6 +80,26 @@ size-nodes : (ns : List Node) → length (flatMap nodeWords ns) ≤ 3 * length n
 unfolding flatMap
 size-nodes [] = omega arith
 size-nodes (n ∷ ns) = omega (arith, length-append (nodeWords n) (flatMap nodeWords ns), size-node n, size-nodes ns)
+
+-- the P of every `ini`, each with its count; there are no more than nodes
+size-preds : (ps : List Pred) → length (flatMap predWords ps) ≡ length ps + length (flatMap words ps)
+unfolding flatMap nodeCount
+size-preds [] = refl
+size-preds (p ∷ ps) = omega (arith, length-append (predWords p) (flatMap predWords ps), length-append (words p) (flatMap words ps), size-pred p, size-preds ps)
+
+pub starts-few : (c : Tree) → suc (length (starts c)) ≤ treeSize c
+unfolding starts treeSize nodes
+starts-few (par c d) = omega (arith, length-append (starts c) (starts d), length-append (nodes c) (nodes d), starts-few c, starts-few d)
+starts-few (syn list c) = let l = starts-few c in omega arith
+starts-few (ini p c) = let l = starts-few c in omega arith
+starts-few (leaf k) = omega arith
+
+size-tree : (c : Tree) → length (lineWords (composeLine c)) ≤ 2 + 4 * treeSize c + startNodes c
+unfolding lineWords startWords startNodes treeSize
+size-tree c =
+    let a = length-append (flatMap nodeWords (nodes c)) (startWords c) in
+    let f = starts-few c in
+    omega (arith, a, size-nodes (nodes c), size-preds (starts c))
 
 lines-fit : (m : Model) → Lawful m → size (lines m) ≤ tableWords
 unfolding lines lineWords treeSize
@@ -97,7 +118,7 @@ lines-fit m w =
     let g = size-append automataPart (composeLine (m .tree) ∷ []) in
     let h = size-automata (m .automata) (λ x i. w .automata x i .few-locations) in
     let j = size-cons (composeLine (m .tree)) [] in
-    let k = size-nodes (nodes (m .tree)) in
+    let k = size-tree (m .tree) in
     let l = w .tree .size in
     omega (arith, size-none, w .few-variables, w .few-automata, w .few-edges, w .few-nodes, a, b, c, d, e, f, g, h, j, k, l)
 

@@ -7,7 +7,7 @@ use Prim.Native.Nat.{ℕ}
 use Rattle.model.specs.Basic.{member}
 use Rattle.model.specs.Composition.{Tree}
 use Rattle.model.specs.Model.{Model, inSet}
-use Rattle.model.specs.Rules.{State, Taker, Moves, rule-1, rule-3, rule-4-left, rule-4-right, rule-6, MarkedMoves, marked-1, marked-3, marked-4-left, marked-4-right, marked-6}
+use Rattle.model.specs.Rules.{State, Taker, Moves, rule-1, rule-3, rule-4-left, rule-4-right, rule-6, ini-moves, MarkedMoves, marked-1, marked-3, marked-4-left, marked-4-right, marked-6, marked-ini}
 
 module _ (m : Model) (s : State) (a : ℕ) (t : State) where
   -- the printed mark is whether the action is in the composition's set
@@ -18,6 +18,7 @@ module _ (m : Model) (s : State) (a : ℕ) (t : State) where
   mark-is (marked-4-left g r q) = mark-is g ∙ rw (q, or-false)
   mark-is (marked-4-right r h q) = mark-is h ∙ rw q
   mark-is (marked-6 {list = list} {b = b} h) = or-comm b (member a list) ∙ rw (mark-is h)
+  mark-is (marked-ini g h) = mark-is h
 
   unmarked : {c : Tree} {b : Bool} {x : List Taker} → MarkedMoves m s a t c b x → Moves m s a t c x
   unmarked (marked-1 h) = rule-1 h
@@ -25,6 +26,7 @@ module _ (m : Model) (s : State) (a : ℕ) (t : State) where
   unmarked (marked-4-left g r q) = rule-4-left (unmarked g) r q
   unmarked (marked-4-right r h q) = rule-4-right r (unmarked h) q
   unmarked (marked-6 h) = rule-6 (unmarked h)
+  unmarked (marked-ini g h) = ini-moves g (unmarked h)
 
   marked-by : {c : Tree} {b b' : Bool} {x : List Taker} → b ≡ b' → MarkedMoves m s a t c b x → MarkedMoves m s a t c b' x
   marked-by {c} {x = x} e h = subst (λ (b : Bool). MarkedMoves m s a t c b x) e h
@@ -36,6 +38,7 @@ module _ (m : Model) (s : State) (a : ℕ) (t : State) where
   with-mark (rule-4-left g r q) = marked-by (sym (rw (q, or-false))) (marked-4-left (with-mark g) r q)
   with-mark (rule-4-right r h q) = marked-by (sym (rw q)) (marked-4-right r (with-mark h) q)
   with-mark (rule-6 {list = list} {c = c} h) = marked-by (or-comm (inSet m a c) (member a list)) (marked-6 (with-mark h))
+  with-mark (ini-moves g h) = marked-ini g (with-mark h)
 
   -- Table 1 as printed is `Moves` with the mark of the whole
   pub table-1-is : (c : Tree) (b : Bool) (x : List Taker) → MarkedMoves m s a t c b x ↔ (Moves m s a t c x × (b ≡ inSet m a c))

@@ -7,7 +7,7 @@ use Prim.Native.Nat.{ℕ, _+_, _≤_, _<_}
 use native.Mathlib.Omega.{arith}
 use lib.ListN.{length, length-append}
 use lib.Dec.{eqb}
-use Rattle.model.specs.Composition.{Tree, par, syn, leaf}
+use Rattle.model.specs.Composition.{Tree, par, syn, ini, leaf}
 use Rattle.model.specs.Model.{Model, Edge, automaton, inSet}
 use Rattle.model.specs.Rules.{Taker}
 use Rattle.model.specs.Moves.{under, pairs, sides, alone, moves}
@@ -99,6 +99,7 @@ takers-under m a P (par c d) h {x} g y p =
     go f f' (left-one e r) = f x r p
     go f f' (right-one b r) = f' x r p
 takers-under m a P (syn list c) h g y p = takers-under m a P c h g y p
+takers-under m a P (ini q c) h g y p = takers-under m a P c h g y p
 takers-under m a P (leaf k) h g y p =
     let r = Memᴰ·of-map (alone k) (under a (automaton m k .edges)) g in
     let e : y ≡ record { automaton = k; edge = r .0 } = List·Memᴰ·eq-of-singleton (subst (λ (z : List Taker). List·Memᴰ y z) (sym (r .2)) p) in
@@ -121,6 +122,7 @@ some-taker m a (par c d) x h = go (λ y i. some-taker m a c y i) (λ y i. some-t
     go f g (left-one e r) = f x r
     go f g (right-one b r) = g x r
 some-taker m a (syn list c) x h = some-taker m a c x h
+some-taker m a (ini p c) x h = some-taker m a c x h
 some-taker m a (leaf k) x h = let r = Memᴰ·of-map (alone k) (under a (automaton m k .edges)) h in omega (arith, ap (length {A = Taker}) (r .2))
 
 -- k is one of `count` numbers from i on

@@ -207,6 +207,19 @@ module _ {A : Type 0} where
       go true e ih = (x, List·Memᴰ·head refl, e)
       go false e ih = let r = ih (or-other h e) in (r .0, List·Memᴰ·tail (r .1), r .2)
 
+  -- f holds of no item, and back
+  pub exists-none : (f : A → Bool) (l : List A) → exists f l ≡ false → (x : A) → List·Memᴰ x l → f x ≡ false
+  exists-none f l h x i = go (f x) refl
+    where
+      go : (b : Bool) → f x ≡ b → b ≡ false
+      go true e = sym (exists-intro f i e) ∙ h
+      go false e = refl
+
+  pub none-exists : (f : A → Bool) (l : List A) → ((x : A) → List·Memᴰ x l → f x ≡ false) → exists f l ≡ false
+  unfolding exists
+  none-exists f [] h = refl
+  none-exists f (x ∷ l) h = or-none (h x (List·Memᴰ·head refl)) (none-exists f l (λ y i. h y (List·Memᴰ·tail i)))
+
   pub exists-append : (f : A → Bool) (k l : List A) → exists f (k ++ l) ≡ (exists f k || exists f l)
   unfolding exists
   exists-append f [] l = refl

@@ -9,6 +9,7 @@ use lib.ListN.{length, getD}
 use lib.Dec.{eqb, ltb}
 use Rattle.model.specs.Basic.{eqZ, between, each, every, exists}
 use Rattle.model.specs.Predicate.{Range, range, holds}
+use Rattle.model.specs.Composition.{starts}
 use Rattle.model.specs.Model.{Model, automaton, location, inSet}
 use Rattle.model.specs.Table.{Opened, unopened, opened, openTable}
 use Rattle.model.specs.Rules.{Phase, start, running, State, reached, at, val, holdsIn, Taker, mentioned, changed}
@@ -56,12 +57,16 @@ inits m s = each (length (m .automata)) (λ k. holdsIn s (location m k (at s k) 
 unfoldable pub invs : Model → State → Bool
 invs m s = each (length (m .automata)) (λ k. holdsIn s (location m k (at s k) .inv))
 
+-- and of the composition, whoever takes an edge: every P of an `ini`, in phase 0
+unfoldable pub startsHold : Model → State → Bool
+startsHold m s = every (holdsIn s) (starts (m .tree))
+
 unfoldable pub initial : Phase → Bool → Bool
 initial start b = b
 initial running b = true
 
 unfoldable pub settled : Model → State → State → Bool
-settled m s t = initial (s .phase) (inits m s) && (invs m s && invs m t)
+settled m s t = initial (s .phase) (inits m s && startsHold m s) && (invs m s && invs m t)
 
 -- What holds of the takers: their updates hold, and their edges lead from the old locations to the new; every other
 -- automaton keeps its location, and every variable that none of them mentions its value.

@@ -9,7 +9,7 @@ use Rattle.model.specs.Basic.{between, every, sum, countUp}
 use Rattle.model.specs.Bounds.{firstFormat, lastFormat, maxActions, maxVariables, maxAutomata, maxLocations}
 use Rattle.model.specs.Bounds.{maxEdges, maxDepth, maxNodes, maxTreeNodes, leastNumber, greatestNumber}
 use Rattle.model.specs.Predicate.{Pred, Range, words, depth, allStay, namesOutside, namesNew, nodeCount}
-use Rattle.model.specs.Composition.{Tree, leaves, treeSize}
+use Rattle.model.specs.Composition.{Tree, leaves, starts, startNodes, treeSize}
 use Rattle.model.specs.Model.{Location, Edge, Automaton, Model, edgeTotal}
 use Rattle.model.specs.Limits.{inRange, rises, treeRises, listsFilled}
 
@@ -42,6 +42,11 @@ pub record LawfulLocation (declared : List Range) (l : Location) : Type 0 where
   pub init-old : namesNew (words (l .init)) ≡ false
   pub inv : LawfulPred declared (l .inv)
   pub inv-old : namesNew (words (l .inv)) ≡ false
+
+-- row 8 for the P of an `ini`
+pub record LawfulStart (declared : List Range) (p : Pred) : Type 0 where
+  pub pred : LawfulPred declared p
+  pub old : namesNew (words p) ≡ false
 
 -- row 12; A actions, L locations
 pub record LawfulEdge (declared : List Range) (A L : ℕ) (e : Edge) : Type 0 where
@@ -76,5 +81,6 @@ pub record Lawful (m : Model) : Type 0 where
   pub few-automata : length (m .automata) ≤ maxAutomata
   pub automata : (x : Automaton) → List·Memᴰ x (m .automata) → LawfulAutomaton (m .variables) (m .actions) x
   pub few-edges : edgeTotal (m .automata) ≤ maxEdges
-  pub few-nodes : nodeTotal (m .automata) ≤ maxNodes
+  pub few-nodes : nodeTotal (m .automata) + startNodes (m .tree) ≤ maxNodes
+  pub starts : (p : Pred) → List·Memᴰ p (starts (m .tree)) → LawfulStart (m .variables) p
   pub tree : LawfulTree (m .actions) (length (m .automata)) (m .tree)

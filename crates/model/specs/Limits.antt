@@ -3,20 +3,20 @@
 -- Predicate.)
 use Prim.Native.Nat.{ℕ, _+_}
 use mathlib.Core.Bool.{Bool, true, false, not, _&&_, _||_}
-use mathlib.Core.List.{List, [], _∷_}
+use mathlib.Core.List.{List, [], _∷_, flatMap}
 use mathlib.Core.Option.{Option, none, some}
 use lib.ListN.{length}
 use lib.IntN.{ℤ}
 use lib.Signed.{leZ}
 use lib.Dec.{eqb, leb, ltb}
-use Rattle.model.specs.Basic.{between, every, same, countUp, lacks}
+use Rattle.model.specs.Basic.{between, every, exists, same, countUp, lacks}
 use Rattle.model.specs.Bounds.{firstFormat, lastFormat, maxActions, maxVariables, maxAutomata, maxLocations}
 use Rattle.model.specs.Bounds.{maxEdges, maxOperands, maxDepth, maxNodes, maxTreeNodes, lastVariable}
 use Rattle.model.specs.Bounds.{lastLocation, lastAutomaton, leastNumber, greatestNumber}
 use Rattle.model.specs.Predicate.{Pred, Word, Range, words, depth, allStay, namesOutside, namesNew, allOf, anyOf}
 use Rattle.model.specs.Predicate.{notWord, impWord, eqWord, leWord, numWord, oldWord, newWord, addWord, subWord}
 use Rattle.model.specs.Predicate.{mulWord, ifWord, stray}
-use Rattle.model.specs.Composition.{Tree, par, syn, leaf, leaves, treeSize}
+use Rattle.model.specs.Composition.{Tree, par, syn, ini, leaf, leaves, starts, treeSize}
 use Rattle.model.specs.Model.{Edge, Model, edgeTotal}
 use Rattle.model.specs.Lines.{Entry, formatLine, actionsLine, variablesLine, variableLine, automataLine, syncLine}
 use Rattle.model.specs.Lines.{locationsLine, initLine, invLine, edgesLine, edgeLine, composeLine, lines, Reading}
@@ -42,6 +42,7 @@ inRange stray = false
 unfoldable pub treeInRange : Tree → Bool
 treeInRange (par c d) = treeInRange c && treeInRange d
 treeInRange (syn list c) = every (λ k. leb k maxActions) list && treeInRange c
+treeInRange (ini p c) = every inRange (words p) && treeInRange c
 treeInRange (leaf k) = leb k lastAutomaton
 
 unfoldable pub numbersInRange : Entry → Bool
@@ -73,6 +74,7 @@ rises A last (k ∷ ks) = elim (ltb last k && leb k A) [ true ↦ rises A k ks |
 unfoldable pub treeRises : ℕ → Tree → Bool
 treeRises A (par c d) = treeRises A c && treeRises A d
 treeRises A (syn list c) = rises A 0 list && treeRises A c
+treeRises A (ini p c) = treeRises A c
 treeRises A (leaf k) = true
 
 -- Row 9: too deep. Row 10: an interval leaves the span. Row 11: the nodes so far and these are too many.
@@ -102,6 +104,7 @@ unfoldable pub listsFilled : Tree → Bool
 listsFilled (par c d) = listsFilled c && listsFilled d
 listsFilled (syn [] c) = false
 listsFilled (syn (k ∷ ks) c) = listsFilled c
+listsFilled (ini p c) = listsFilled c
 listsFilled (leaf k) = true
 
 -- Row 14: each automaton is to stand in the tree once, in order. Row 16: how many nodes it may have.
@@ -134,6 +137,16 @@ locationFault r p =
     (broken 8 (namesNew (words p))
     (predFault r p none))
 
+-- the same of all P after `ini` together: a row's condition is that one of them breaks it, and their nodes are added up
+unfoldable pub startsFault : Reading → List Pred → Option ℕ → Option ℕ
+startsFault r ps rest =
+    broken 7 (exists (λ p. namesOutside (variableCount r) (words p)) ps)
+    (broken 8 (exists (λ p. namesNew (words p)) ps)
+    (broken 9 (exists isTooDeep ps)
+    (broken 10 (exists (exceedsSpan (r .model .variables)) ps)
+    (broken 11 (passesNodes (r .nodes) (flatMap words ps))
+    rest))))
+
 unfoldable pub contentFault : Reading → Entry → Option ℕ
 contentFault r (formatLine n) = none
 contentFault r (actionsLine n) = none
@@ -152,10 +165,11 @@ contentFault r (edgeLine e) =
     none))
 contentFault r (composeLine c) =
     broken 5 (not (treeRises (r .model .actions) c))
+    (startsFault r (starts c)
     (broken 13 (not (listsFilled c))
     (broken 14 (isDisordered (length (r .model .automata)) c)
     (broken 16 (isTooLarge (treeSize c))
-    none)))
+    none))))
 
 unfoldable pub faultOf : Reading → Entry → Option ℕ
 faultOf r e = broken 3 (not (numbersInRange e)) (contentFault r e)

@@ -10,7 +10,7 @@ use lib.Dec.{ltb}
 use Rattle.model.specs.Basic.{exists, keep, once, sum, countUp}
 use Rattle.model.specs.Bounds.{maxVariables, maxEdges, maxNodes}
 use Rattle.model.specs.Predicate.{Pred, all, imp, eq, num, old, new, preds, Range, range, nodeCount}
-use Rattle.model.specs.Composition.{leaf}
+use Rattle.model.specs.Composition.{leaf, starts}
 use Rattle.model.specs.Model.{Model, Location, Edge, Automaton, inSet}
 use Rattle.model.specs.Limits.{isTooDeep, broken}
 use Rattle.model.specs.Rules.{Taker}
@@ -35,8 +35,9 @@ module _ (m : Model) where
   atAutomata part i [] = []
   atAutomata part i (x ∷ xs) = atLocations part i 0 (x .locations) ++ atAutomata part (suc i) xs
 
+  -- the implications, and after them the P of each `ini` (request (a))
   unfoldable pub mergedInit : Pred
-  mergedInit = all (preds (atAutomata (λ l. l .init) 0 (m .automata)))
+  mergedInit = all (preds (atAutomata (λ l. l .init) 0 (m .automata) ++ starts (m .tree)))
 
   unfoldable pub mergedInv : Pred
   mergedInv = all (preds (atAutomata (λ l. l .inv) 0 (m .automata)))

@@ -4,7 +4,7 @@ use Prim.Native.Nat.{ℕ, zero, suc, _+_}
 use mathlib.Core.List.{List, [], _∷_, _++_, map, flatMap}
 use lib.ListN.{length}
 use Rattle.model.specs.Predicate.{Pred, all, none, Range, nodeCount}
-use Rattle.model.specs.Composition.{Tree, leaf}
+use Rattle.model.specs.Composition.{Tree, leaf, startNodes}
 use Rattle.model.specs.Model.{Location, Edge, Automaton, Model, nobody}
 
 -- the twelve keys
@@ -121,6 +121,9 @@ withAutomata r xs = withModel r (r .model .format) (r .model .actions) (r .model
 unfoldable pub withPred : Reading → Pred → Reading
 withPred r p = record { model = r .model; latest = p; nodes = r .nodes + nodeCount p }
 
+unfoldable pub withNodes : Reading → ℕ → Reading
+withNodes r n = record { model = r .model; latest = r .latest; nodes = r .nodes + n }
+
 -- what a line adds
 unfoldable pub noted : Reading → Entry → Reading
 noted r (formatLine n) = withModel r n (r .model .actions) (r .model .variables) (r .model .automata) (r .model .tree)
@@ -138,4 +141,5 @@ noted r (invLine p) =
 noted r (edgesLine n) = r
 noted r (edgeLine e) = withAutomata (withPred r (e .update)) (onLast (addEdge e) (r .model .automata))
 noted r (composeLine c) =
-    withModel r (r .model .format) (r .model .actions) (r .model .variables) (r .model .automata) c
+    withNodes (withModel r (r .model .format) (r .model .actions) (r .model .variables) (r .model .automata) c)
+    (startNodes c)

@@ -6,7 +6,7 @@ use mathlib.Core.List.{List, [], _∷_}
 use lib.ListN.{length, getD}
 use Rattle.model.specs.Basic.{member}
 use Rattle.model.specs.Predicate.{Pred, all, none, Range}
-use Rattle.model.specs.Composition.{Tree, par, syn, leaf}
+use Rattle.model.specs.Composition.{Tree, par, syn, ini, leaf}
 
 -- `init=P` and `inv=P`
 pub record Location : Type 0 where
@@ -51,6 +51,7 @@ location m k j = getD (automaton m k .locations) j nowhere
 unfoldable pub inSet : Model → ℕ → Tree → Bool
 inSet m a (par c d) = inSet m a c || inSet m a d
 inSet m a (syn list c) = member a list || inSet m a c
+inSet m a (ini p c) = inSet m a c
 inSet m a (leaf k) = member a (automaton m k .sync)
 
 -- all edges of some automata (row 15)

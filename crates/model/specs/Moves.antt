@@ -6,7 +6,7 @@ use mathlib.Core.List.{List, [], _∷_, _++_, map}
 use lib.ListN.{length}
 use lib.Dec.{eqb}
 use Rattle.model.specs.Basic.{keep, once}
-use Rattle.model.specs.Composition.{Tree, par, syn, leaf}
+use Rattle.model.specs.Composition.{Tree, par, syn, ini, leaf}
 use Rattle.model.specs.Model.{Model, Edge, automaton, inSet}
 use Rattle.model.specs.Equal.{sameEdge}
 use Rattle.model.specs.Rules.{Taker}
@@ -34,6 +34,7 @@ alone k e = record { automaton = k; edge = e } ∷ []
 unfoldable pub moves : Model → ℕ → Tree → List (List Taker)
 moves m a (par c d) = sides (inSet m a c) (inSet m a d) (moves m a c) (moves m a d)
 moves m a (syn list c) = moves m a c
+moves m a (ini p c) = moves m a c
 moves m a (leaf k) = map (alone k) (under a (automaton m k .edges))
 
 -- how many they are, without listing them
@@ -46,10 +47,12 @@ sidesCount false false left right = left + right
 unfoldable pub moveCount : Model → ℕ → Tree → ℕ
 moveCount m a (par c d) = sidesCount (inSet m a c) (inSet m a d) (moveCount m a c) (moveCount m a d)
 moveCount m a (syn list c) = moveCount m a c
+moveCount m a (ini p c) = moveCount m a c
 moveCount m a (leaf k) = length (under a (automaton m k .edges))
 
 -- how many different ones: two are equal exactly if the same automata take equal edges
 unfoldable pub distinctCount : Model → ℕ → Tree → ℕ
 distinctCount m a (par c d) = sidesCount (inSet m a c) (inSet m a d) (distinctCount m a c) (distinctCount m a d)
 distinctCount m a (syn list c) = distinctCount m a c
+distinctCount m a (ini p c) = distinctCount m a c
 distinctCount m a (leaf k) = length (once sameEdge (under a (automaton m k .edges)))

@@ -8,7 +8,8 @@ use Rattle.model.specs.Predicate as P
 use Rattle.model.specs.Predicate.{Pred, Preds, Expr, Word, all, any, negate, imp, eq, le, more, num, old, new}
 use Rattle.model.specs.Predicate.{add, sub, mul, choose, allOf, anyOf, notWord, impWord, eqWord, leWord, numWord}
 use Rattle.model.specs.Predicate.{oldWord, newWord, addWord, subWord, mulWord, ifWord, stray}
-use Rattle.model.specs.Composition.{Tree, Node, par, syn, leaf, parNode, synNode, leafNode, strayNode}
+use Rattle.model.specs.Composition.{Tree, Node, par, syn, ini, leaf, parNode, synNode, iniNode, leafNode}
+use Rattle.model.specs.Composition.{strayNode}
 
 pub data Item : Type 0 where
   predicate : Pred → Item
@@ -69,6 +70,7 @@ popTree (c ∷ s) next = next c s
 unfoldable pub pushNode : Node → List Tree → Option (List Tree)
 pushNode parNode s = popTree s (λ c s₁. popTree s₁ (λ d s₂. some (par c d ∷ s₂)))
 pushNode (synNode list) s = popTree s (λ c s₁. some (syn list c ∷ s₁))
+pushNode (iniNode p) s = popTree s (λ c s₁. some (ini p c ∷ s₁))
 pushNode (leafNode k) s = some (leaf k ∷ s)
 pushNode strayNode s = none
 
@@ -83,3 +85,17 @@ soleTree (c ∷ d ∷ s) = none
 
 unfoldable pub readTree : List Node → Option Tree
 readTree ns = onSome soleTree (treeStack ns)
+
+-- Where an `ini` is read apart from its P, it has no P of its own yet; the P's are put in afterwards, in order. One for
+-- which there is none is stray.
+abbrev pub iniAlone : Node
+iniAlone = iniNode (all P.none)
+
+unfoldable pub withStarts : List Pred → List Node → List Node
+withStarts ps [] = []
+withStarts ps (parNode ∷ ns) = parNode ∷ withStarts ps ns
+withStarts ps (synNode list ∷ ns) = synNode list ∷ withStarts ps ns
+withStarts [] (iniNode q ∷ ns) = strayNode ∷ withStarts [] ns
+withStarts (p ∷ ps) (iniNode q ∷ ns) = iniNode p ∷ withStarts ps ns
+withStarts ps (leafNode k ∷ ns) = leafNode k ∷ withStarts ps ns
+withStarts ps (strayNode ∷ ns) = strayNode ∷ withStarts ps ns

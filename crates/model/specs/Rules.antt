@@ -1,4 +1,5 @@
--- "Steps": the rules of Table 1 of source document 003, with the frame rule that the format puts in place of Table 1's.
+-- "Steps": the rules of Table 1 of source document 003, with the frame rule that the format puts in place of Table 1's;
+-- and for `ini` (request (a)) the initialization operator of source document 000.
 use mathlib.Core.Path.{_≡_}
 use mathlib.Core.Bool.{Bool, true, false, _||_}
 use mathlib.Core.List.{List, [], _∷_, _++_, List·Memᴰ}
@@ -7,7 +8,7 @@ use lib.IntN.{ℤ, pos}
 use lib.ListN.{length, getD}
 use Rattle.model.specs.Basic.{member, exists}
 use Rattle.model.specs.Predicate.{Pred, holds, mentions}
-use Rattle.model.specs.Composition.{Tree, par, syn, leaf}
+use Rattle.model.specs.Composition.{Tree, par, syn, ini, leaf}
 use Rattle.model.specs.Model.{Model, Edge, automaton, location, inSet}
 
 -- phase 0 is start, phase 1 running
@@ -34,6 +35,10 @@ val s k = getD (s .values) k (pos 0)
 -- P holds of a state's values; init and inv mention no new value (row 8), so the second list plays no part
 abbrev pub holdsIn : State → Pred → Bool
 holdsIn s p = holds (s .values) (s .values) p
+
+-- `ini P C` is as C, where P holds: P is asked of the old values in phase 0, and afterwards it plays no part
+pub record Starts (s : State) (p : Pred) : Type 0 where
+  pub condition : s .phase ≡ start → holdsIn s p ≡ true
 
 -- an automaton, by its number, and the edge that it takes
 pub record Taker : Type 0 where
@@ -65,15 +70,17 @@ module _ (m : Model) (s t : State) where
     pub inv : holdsIn s (location m k (at s k) .inv) ≡ true
     pub inv' : holdsIn t (location m k (at s k) .inv) ≡ true
 
-  -- rules 2, 5 and 7: every automaton of a composition is still. (Their label, the synchronising set, is `inSet`.)
+  -- rules 2, 5 and 7, and that of `ini`: every automaton of a composition is still. (Their label, the synchronising
+  -- set, is `inSet`.)
   pub data Rests : Tree → Type 0 where
     rule-2 : {k : ℕ} → Still k → Rests (leaf k)
     rule-5 : {c d : Tree} → Rests c → Rests d → Rests (par c d)
     rule-7 : {list : List ℕ} {c : Tree} → Rests c → Rests (syn list c)
+    ini-rests : {p : Pred} {c : Tree} → Starts s p → Rests c → Rests (ini p c)
 
 module _ (m : Model) (s : State) (a : ℕ) (t : State) where
-  -- rules 1, 3, 4 and 6: the takers by whom a composition takes the action. Rule 3 is for an action that both sides of
-  -- a `par` synchronise on; rule 4 leaves the side at rest that does not.
+  -- rules 1, 3, 4 and 6, and that of `ini`: the takers by whom a composition takes the action. Rule 3 is for an action
+  -- that both sides of a `par` synchronise on; rule 4 leaves the side at rest that does not.
   pub data Moves : Tree → List Taker → Type 0 where
     rule-1 : {k : ℕ} {e : Edge} → Takes m s a t k e → Moves (leaf k) (record { automaton = k; edge = e } ∷ [])
     rule-3 : {c d : Tree} {x y : List Taker} → inSet m a c ≡ true → inSet m a d ≡ true → Moves c x → Moves d y
@@ -81,6 +88,7 @@ module _ (m : Model) (s : State) (a : ℕ) (t : State) where
     rule-4-left : {c d : Tree} {x : List Taker} → Moves c x → Rests m s t d → inSet m a d ≡ false → Moves (par c d) x
     rule-4-right : {c d : Tree} {y : List Taker} → Rests m s t c → Moves d y → inSet m a c ≡ false → Moves (par c d) y
     rule-6 : {list : List ℕ} {c : Tree} {x : List Taker} → Moves c x → Moves (syn list c) x
+    ini-moves : {p : Pred} {c : Tree} {x : List Taker} → Starts s p → Moves c x → Moves (ini p c) x
 
   -- the same rules with the marks that Table 1 gives them; the law table-1-is says that both state the same
   pub data MarkedMoves : Tree → Bool → List Taker → Type 0 where
@@ -94,6 +102,8 @@ module _ (m : Model) (s : State) (a : ℕ) (t : State) where
         → MarkedMoves (par c d) b y
     marked-6 : {list : List ℕ} {c : Tree} {b : Bool} {x : List Taker} → MarkedMoves c b x
         → MarkedMoves (syn list c) (b || member a list) x
+    marked-ini : {p : Pred} {c : Tree} {b : Bool} {x : List Taker} → Starts s p → MarkedMoves c b x
+        → MarkedMoves (ini p c) b x
 
   pub record Step (mark : Bool) : Type 0 where
     pub takers : List Taker

@@ -11,9 +11,9 @@ use Rattle.model.specs.Bounds.{tableWords, bias}
 use Rattle.model.specs.Predicate.{Pred, Range, range, Word, words, nodeCount, allOf, anyOf, notWord, impWord}
 use Rattle.model.specs.Predicate.{eqWord, leWord, numWord, oldWord, newWord, addWord, subWord, mulWord, ifWord}
 use Rattle.model.specs.Predicate.{stray}
-use Rattle.model.specs.Composition.{Tree, Node, nodes, treeSize, parNode, synNode, leafNode}
+use Rattle.model.specs.Composition.{Tree, Node, nodes, starts, treeSize, parNode, synNode, iniNode, leafNode}
 use Rattle.model.specs.Composition as C
-use Rattle.model.specs.Parse.{readPred, readTree}
+use Rattle.model.specs.Parse.{readPred, readTree, iniAlone, withStarts}
 use Rattle.model.specs.Model.{Edge, Model}
 use Rattle.model.specs.Lines.{Key, Entry, format, actions, variables, variable, automata, sync, locations, init}
 use Rattle.model.specs.Lines.{inv, edges, edge, compose, formatLine, actionsLine, variablesLine, variableLine}
@@ -68,12 +68,19 @@ code stray = nodeWord 15 0
 unfoldable pub predWords : Pred → List ℕ
 predWords p = nodeCount p ∷ map code (words p)
 
--- a node of the tree: `par` is 0; `syn` is 1 and its set in two words; leaf K is 2 + K
+-- A node of the tree: `par` is 0; `syn` is 1 and its set in two words; leaf K is 2 + K. An `ini` adds no action to the
+-- set of what it stands over, and its words are those of a `syn` with no action, which no sheet has (row 13): so
+-- whoever asks for sets and edges need not know of it. Its P stands behind the tree.
 unfoldable pub nodeWords : Node → List ℕ
 nodeWords parNode = 0 ∷ []
 nodeWords (synNode list) = 1 ∷ setWords list
+nodeWords (iniNode p) = 1 ∷ setWords []
 nodeWords (leafNode k) = (2 + k) ∷ []
 nodeWords C.strayNode = []
+
+-- behind the tree: how many `ini` it has, and their P's in tree order
+unfoldable pub startWords : Tree → List ℕ
+startWords c = length (starts c) ∷ flatMap predWords (starts c)
 
 unfoldable pub lineWords : Entry → List ℕ
 lineWords (formatLine n) = n ∷ []
@@ -87,7 +94,7 @@ lineWords (initLine p) = predWords p
 lineWords (invLine p) = predWords p
 lineWords (edgesLine n) = n ∷ []
 lineWords (edgeLine e) = e .from ∷ e .action ∷ e .to ∷ predWords (e .update)
-lineWords (composeLine c) = treeSize c ∷ flatMap nodeWords (nodes c)
+lineWords (composeLine c) = treeSize c ∷ flatMap nodeWords (nodes c) ++ startWords c
 
 unfoldable pub sheetWords : Model → List ℕ
 sheetWords m = flatMap lineWords (lines m)
@@ -147,18 +154,38 @@ splitEdge (a ∷ b ∷ c ∷ ws) = splitPred (edgeTo a b c) ws
 unfoldable pub andNode : Node → Option (Split (List Node)) → Option (Split (List Node))
 andNode node others = onSome (λ t. split (node ∷ t .item) (t .rest)) others
 
+-- an `ini`, whose P is not known yet, or a `syn`
+unfoldable pub overNode : List ℕ → Node
+overNode [] = iniAlone
+overNode (k ∷ ks) = synNode (k ∷ ks)
+
 unfoldable pub splitNodes : ℕ → List ℕ → Option (Split (List Node))
 splitNodes zero ws = split [] ws
 splitNodes (suc n) [] = none
 splitNodes (suc n) (zero ∷ ws) = andNode parNode (splitNodes n ws)
 splitNodes (suc n) (suc zero ∷ []) = none
 splitNodes (suc n) (suc zero ∷ a ∷ []) = none
-splitNodes (suc n) (suc zero ∷ a ∷ b ∷ ws) = andNode (synNode (setOf a b)) (splitNodes n ws)
+splitNodes (suc n) (suc zero ∷ a ∷ b ∷ ws) = andNode (overNode (setOf a b)) (splitNodes n ws)
 splitNodes (suc n) (suc (suc k) ∷ ws) = andNode (leafNode k) (splitNodes n ws)
+
+unfoldable pub andPred : Pred → Option (Split (List Pred)) → Option (Split (List Pred))
+andPred p others = onSome (λ t. split (p ∷ t .item) (t .rest)) others
+
+unfoldable pub splitPreds : ℕ → List ℕ → Option (Split (List Pred))
+splitPreds zero ws = split [] ws
+splitPreds (suc k) [] = none
+splitPreds (suc k) (n ∷ ws) = onSome (λ p. andPred p (splitPreds k (drop n ws))) (readPred (map wordOf (take n ws)))
+
+unfoldable pub splitStarts : List ℕ → Option (Split (List Pred))
+splitStarts [] = none
+splitStarts (k ∷ ws) = splitPreds k ws
+
+unfoldable pub treeWith : List Node → Split (List Pred) → Option (Split Entry)
+treeWith ns s = onSome (λ c. split (composeLine c) (s .rest)) (readTree (withStarts (s .item) ns))
 
 unfoldable pub splitTree : List ℕ → Option (Split Entry)
 splitTree [] = none
-splitTree (n ∷ ws) = onSome (λ t. onSome (λ c. split (composeLine c) (t .rest)) (readTree (t .item))) (splitNodes n ws)
+splitTree (n ∷ ws) = onSome (λ t. onSome (λ s. treeWith (t .item) s) (splitStarts (t .rest))) (splitNodes n ws)
 
 unfoldable pub splitEntry : Key → List ℕ → Option (Split Entry)
 splitEntry format ws = splitNumber formatLine ws

@@ -13,12 +13,12 @@ use Rattle.format.specs.Bytes.{Bytes, parts, comma, space}
 use Rattle.format.specs.Number.{naturalOf}
 use Rattle.read_composition.specs.declared.list.Listed.{Listed}
 use Rattle.read_composition.specs.List.{listOf}
-use Rattle.format.specs.Tokens.{tokens}
+use Rattle.format.specs.Tokens.{tokens, outside}
 use Rattle.read_composition.specs.declared.token.Kind.{Kind}
-use Rattle.read_composition.specs.declared.token.Kind.the-variants.{Par, Syn, Set, Leaf, Stray}
+use Rattle.read_composition.specs.declared.token.Kind.the-variants.{Par, Syn, Set, Ini, Leaf, Stray}
 use Rattle.read_composition.specs.declared.compose.Composition.{Composition}
 use Rattle.read_composition.specs.declared.compose.Walk.{Walk}
-use Rattle.model.proofs.Tests.{or-none-left}
+use Rattle.model.proofs.Tests.{or-none-left, or-none-right}
 use Rattle.format.proofs.ReadLaws.{number-of}
 use Rattle.text_numbers.specs.declared.answer.Natural.{Natural}
 use Rattle.text_numbers.specs.declared.answer.Natural.the-variants as N
@@ -30,7 +30,8 @@ use Rattle.model.specs.Basic.{same}
 use Rattle.format.specs.Bytes.{bytes}
 use Rattle.read_composition.specs.Token.{startsNumber, leafOf, leafKind, wordKind, setKind, kindOf, isSyn, isStray, kindsOf}
 use Rattle.text_bytes.proofs.Parting.{partsFrom, from-past, from-start, from-step}
-use Rattle.read_composition.specs.Read.{kindWords, IsSmall, placed, nextAfter, putAfter, stepped, atFirst, illFormed, ending, Outcome, walk, outcome, compositionOf, memoryOf}
+use Rattle.read_composition.specs.Read.{kindWords, IsSmall, placed, nextAfter, putAfter, stepped, placeBeyond, atFirst, illFormed, ending, Outcome, walk, outcome, compositionOf, memoryOf}
+use Rattle.read_composition.proofs.Beyond.{beyond-bounds, further, outside-first, further-from}
 
 -- `put`
 module _ (k : Kind) (nodes next : ℕ) (out : List ℕ) where
@@ -78,6 +79,16 @@ module _ (k : Kind) (nodes next : ℕ) (out : List ℕ) where
         let two : next + 1 + 1 ≡ next + 2 = omega arith in
         sym (put-by ∙ rw (e, two))
 
+    pub next-ini : k ≡ Ini → next + 3 ≡ nextAfter k nodes next
+    unfolding kindWords
+    next-ini e = sym (next-by ∙ rw e)
+
+    pub put-ini : k ≡ Ini → set (set (set out next 1) (next + 1) 0) (next + 2) 0 ≡ putAfter k nodes next out
+    unfolding kindWords placed
+    put-ini e =
+        let two : next + 1 + 1 ≡ next + 2 = omega arith in
+        sym (put-by ∙ rw (e, two))
+
     pub next-leaf : (a : ℕ) → k ≡ Leaf a → next + 1 ≡ nextAfter k nodes next
     unfolding kindWords
     next-leaf a e = sym (next-by ∙ rw e)
@@ -100,7 +111,7 @@ leaf-fits k a e h =
     let l : a ≤ 15 = rw e at h in
     record { fits = omega arith }
 
-pub ruleset put-laws = (next-full, put-full, next-par, put-par, next-syn, put-syn, next-set, put-set, next-leaf, put-leaf, next-stray, put-stray, leaf-fits)
+pub ruleset put-laws = (next-full, put-full, next-par, put-par, next-syn, put-syn, next-set, put-set, next-ini, put-ini, next-leaf, put-leaf, next-stray, put-stray, leaf-fits)
 
 -- `step`
 module _ (k : Kind) (next : ℕ) (w : Walk) where
@@ -118,6 +129,11 @@ module _ (k : Kind) (next : ℕ) (w : Walk) where
   unfolding stepped
   step-set a b e = rw e
 
+  pub step-ini : k ≡ Ini
+      → record { owed = w .owed; leaves = w .leaves; ordered = w .ordered; nodes = w .nodes + 1; next = next } ≡ stepped k next w
+  unfolding stepped
+  step-ini e = rw e
+
   pub step-leaf : (a i : ℕ) → k ≡ Leaf a → i ≡ a
       → record { owed = w .owed - 1; leaves = w .leaves + 1; ordered = w .ordered && eqb i (w .leaves); nodes = w .nodes + 1; next = next }
       ≡ stepped k next w
@@ -128,7 +144,7 @@ module _ (k : Kind) (next : ℕ) (w : Walk) where
   unfolding stepped
   step-stray e = rw e
 
-pub ruleset step-laws = (step-par, step-syn, step-set, step-leaf, step-stray)
+pub ruleset step-laws = (step-par, step-syn, step-set, step-ini, step-leaf, step-stray)
 
 -- `ended`
 module _ (N : ℕ) (w : Walk) where
@@ -162,12 +178,13 @@ small-leaf (b ∷ t) = go (eqb b 97)
 
 small-word : (t : Bytes) → IsSmall (wordKind t)
 unfolding IsSmall wordKind
-small-word t = go (same t (bytes "syn")) (same t (bytes "par"))
+small-word t = go (same t (bytes "syn")) (same t (bytes "par")) (same t (bytes "ini"))
   where
-    go : (v w : Bool) → IsSmall (elim v [ true ↦ Syn | false ↦ elim w [ true ↦ Par | false ↦ leafKind t ] ])
-    go true w = tt
-    go false true = tt
-    go false false = small-leaf t
+    go : (v w x : Bool) → IsSmall (elim v [ true ↦ Syn | false ↦ elim w [ true ↦ Par | false ↦ elim x [ true ↦ Ini | false ↦ leafKind t ] ] ])
+    go true w x = tt
+    go false true x = tt
+    go false false true = tt
+    go false false false = small-leaf t
 
 small-set : (t : Bytes) → IsSmall (setKind t)
 unfolding IsSmall setKind
@@ -194,6 +211,7 @@ unfolding kindWords
 words-few Par = omega arith
 words-few Syn = omega arith
 words-few (Set a b) = omega arith
+words-few Ini = omega arith
 words-few (Leaf a) = omega arith
 words-few Stray = omega arith
 
@@ -210,6 +228,7 @@ unfolding stepped
 step-within w at to next b h l Par = record { owed-in = omega arith; leaves-in = omega arith; next-in = omega arith; nodes-in = omega arith }
 step-within w at to next b h l Syn = record { owed-in = omega arith; leaves-in = omega arith; next-in = omega arith; nodes-in = omega arith }
 step-within w at to next b h l (Set x y) = record { owed-in = omega arith; leaves-in = omega arith; next-in = omega arith; nodes-in = omega arith }
+step-within w at to next b h l Ini = record { owed-in = omega arith; leaves-in = omega arith; next-in = omega arith; nodes-in = omega arith }
 step-within w at to next b h l (Leaf x) = record { owed-in = omega arith; leaves-in = omega arith; next-in = omega arith; nodes-in = omega arith }
 step-within w at to next b h l Stray = record { owed-in = omega arith; leaves-in = omega arith; next-in = omega arith; nodes-in = omega arith }
 
@@ -229,16 +248,21 @@ pub next-go : (N : ℕ) (w : Walk) (out : List ℕ) (k : Kind) (ks : List Kind) 
 unfolding walk
 next-go N w out k ks h = rw (h, walk)
 
-module _ (s : Bytes) (N : ℕ) (first : List ℕ) where
-  pub read-start : outcome N s first ≡ walk N atFirst first (kindsOf false (partsFrom space s 0))
-  unfolding outcome tokens
-  read-start = ap (λ ts. walk N atFirst first (kindsOf false ts)) (sym (from-start space s))
+-- where the walk goes on, the token is not stray
+stray-not : (owed : ℕ) (k : Kind) (p : Bool) → p ≡ isStray k → (eqb owed 0 || p) ≡ false → isStray k ≡ false
+stray-not owed k p z g = sym z ∙ or-none-right (eqb owed 0) p g
 
-  module _ (at : ℕ) (due : Bool) (w : Walk) (out : List ℕ) (inv : outcome N s first ≡ walk N w out (kindsOf due (partsFrom space s at))) where
+module _ (s : Bytes) (N : ℕ) (first : List ℕ) where
+  pub read-start : outcome N s first ≡ walk N atFirst first (kindsOf false (outside 0 [] (partsFrom space s 0)))
+  unfolding outcome tokens
+  read-start = ap (λ ts. walk N atFirst first (kindsOf false (outside 0 [] ts))) (sym (from-start space s))
+
+  module _ (at : ℕ) (due : Bool) (w : Walk) (out : List ℕ)
+      (inv : outcome N s first ≡ walk N w out (kindsOf due (outside 0 [] (partsFrom space s at)))) where
     module _ (h : length s < at) where
       ends : outcome N s first ≡ record { answer = ending N w; memory = out }
-      unfolding kindsOf walk
-      ends = inv ∙ ap (λ ts. walk N w out (kindsOf due ts)) (from-past space s at h)
+      unfolding kindsOf walk outside
+      ends = inv ∙ ap (λ ts. walk N w out (kindsOf due (outside 0 [] ts))) (from-past space s at h)
 
       pub read-answer : (r : Composition) → r ≡ ending N w → r ≡ compositionOf N s first
       read-answer r e = e ∙ sym (ap (λ (o : Outcome). o .answer) ends)
@@ -248,11 +272,15 @@ module _ (s : Bytes) (N : ℕ) (first : List ℕ) where
 
     module _ (r : ℕ) (k : Kind) (p : Bool) (h : at ≤ length s) (e : r ≡ firstFrom s at 32) (l : r ≤ length s)
         (q : k ≡ kindOf due (take (r - at) (drop at s))) (z : p ≡ isStray k) where
-      here : outcome N s first ≡ walk N w out (k ∷ kindsOf (isSyn k) (partsFrom space s (r + 1)))
+      abbrev token : Bytes
+      token = take (r - at) (drop at s)
+
+      here : outcome N s first ≡ walk N w out (k ∷ kindsOf (isSyn k) (further token (partsFrom space s (r + 1))))
       unfolding kindsOf
       here =
-          inv ∙ ap (λ ts. walk N w out (kindsOf due ts)) (from-step space s at r h e) ∙
-          ap (λ x. walk N w out (x ∷ kindsOf (isSyn x) (partsFrom space s (r + 1)))) (sym q)
+          inv ∙ ap (λ ts. walk N w out (kindsOf due (outside 0 [] ts))) (from-step space s at r h e) ∙
+          ap (λ ts. walk N w out (kindsOf due ts)) (outside-first token (partsFrom space s (r + 1))) ∙
+          ap (λ x. walk N w out (x ∷ kindsOf (isSyn x) (further token (partsFrom space s (r + 1))))) (sym q)
 
       module _ (g : (eqb (w .owed) 0 || p) ≡ true) where
         stops : outcome N s first ≡ record { answer = illFormed; memory = out }
@@ -265,14 +293,33 @@ module _ (s : Bytes) (N : ℕ) (first : List ℕ) where
         stop-memory = sym (ap (λ (o : Outcome). o .memory) stops)
 
       module _ (next : ℕ) (g : (eqb (w .owed) 0 || p) ≡ false) (x : Walk) (y : next ≡ nextAfter k (w .nodes) (w .next))
-          (v : x ≡ stepped k next w) where
-        pub read-go : (new : List ℕ) (d : Bool) → new ≡ putAfter k (w .nodes) (w .next) out → d ≡ isSyn k
-            → outcome N s first ≡ walk N x new (kindsOf d (partsFrom space s (r + 1)))
-        read-go new d a b = here ∙ next-go N w out k _ (ap (λ u. eqb (w .owed) 0 || u) (sym z) ∙ g) ∙ rw (v, y, a, b)
+          (v : x ≡ stepped k next w) (to : ℕ) (t : to ≡ placeBeyond s (r + 1) k) where
+        later : further token (partsFrom space s (r + 1)) ≡ outside 0 [] (partsFrom space s to)
+        later =
+            let n : isStray (kindOf due token) ≡ false = ap isStray (sym q) ∙ stray-not (w .owed) k p z g in
+            further-from s (r + 1) (omega arith) due token n ∙
+            ap (λ j. outside 0 [] (partsFrom space s j)) (ap (placeBeyond s (r + 1)) (sym q) ∙ sym t)
 
-        pub read-within : Within w at → Within x (r + 1)
+        pub read-go : (new : List ℕ) (d : Bool) → new ≡ putAfter k (w .nodes) (w .next) out → d ≡ isSyn k
+            → outcome N s first ≡ walk N x new (kindsOf d (outside 0 [] (partsFrom space s to)))
+        read-go new d a b =
+            here ∙ next-go N w out k _ (ap (λ u. eqb (w .owed) 0 || u) (sym z) ∙ g) ∙
+            ap (λ ts. walk N (stepped k (nextAfter k (w .nodes) (w .next)) w) (putAfter k (w .nodes) (w .next) out) (kindsOf (isSyn k) ts)) later ∙
+            rw (v, y, a, b)
+
+        pub read-within : Within w at → Within x to
         read-within i =
             let b : next ≤ w .next + 3 = omega (arith, next-bound k (w .nodes) (w .next)) in
-            rw v (step-within w at (r + 1) next i (omega (arith, find-after s at 32 r h e)) b k)
+            let far = beyond-bounds s (r + 1) k (omega arith) in
+            let m : at < placeBeyond s (r + 1) k = omega (arith, far .0, find-after s at 32 r h e) in
+            rw (v, t) (step-within w at (placeBeyond s (r + 1) k) next i m b k)
 
-pub ruleset read-laws = (kind-small, still-owed, read-start, read-answer, read-memory, stop-answer, stop-memory, read-go, read-within)
+-- the next turn begins later, and not far past the end
+module _ (s : Bytes) (at r to : ℕ) (k : Kind) (h : at ≤ length s) (e : r ≡ firstFrom s at 32) (l : r ≤ length s) (t : to ≡ placeBeyond s (r + 1) k) where
+  pub turn-in : to ≤ length s + 1
+  turn-in = let far = beyond-bounds s (r + 1) k (omega arith) in omega (arith, far .1)
+
+  pub turn-beyond : length s + 1 - to < length s + 1 - at
+  turn-beyond = let far = beyond-bounds s (r + 1) k (omega arith) in omega (arith, far .0, find-after s at 32 r h e)
+
+pub ruleset read-laws = (kind-small, still-owed, read-start, read-answer, read-memory, stop-answer, stop-memory, read-go, read-within, turn-in, turn-beyond)

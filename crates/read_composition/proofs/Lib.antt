@@ -1,6 +1,7 @@
 pub mod ListLaws
 pub mod TokenLaws
 pub mod ListsLaws
+pub mod Beyond
 pub mod ComposeLaws
 pub mod Numbers
 pub mod AfterSyn

@@ -8,7 +8,7 @@ use native.Mathlib.Omega.{arith}
 use borrow.Author.Tests.{eq-eqb, ne-eqb}
 use lib.Dec.{eqb}
 use Rattle.model.specs.Basic.{lacks, onSome, same, countUp}
-use Rattle.model.specs.Composition.{Tree, par, syn, leaf, Node, parNode, synNode, leafNode, strayNode, nodes, leaves}
+use Rattle.model.specs.Composition.{Tree, par, syn, ini, leaf, Node, parNode, synNode, iniNode, leafNode, strayNode, nodes, leaves}
 use Rattle.model.specs.Parse.{popTree, pushNode, treeStack, soleTree, readTree}
 
 -- do the nodes make up so many trees, and nothing more?
@@ -18,6 +18,7 @@ owes (suc o) [] = false
 owes zero (n ∷ ns) = false
 owes (suc o) (parNode ∷ ns) = owes (suc (suc o)) ns
 owes (suc o) (synNode list ∷ ns) = owes (suc o) ns
+owes (suc o) (iniNode p ∷ ns) = owes (suc o) ns
 owes (suc o) (leafNode k ∷ ns) = owes o ns
 owes (suc o) (strayNode ∷ ns) = false
 
@@ -39,11 +40,12 @@ push-par o (some []) = refl
 push-par o (some (c ∷ [])) = refl
 push-par o (some (c ∷ d ∷ s)) = refl
 
-push-syn : (o : ℕ) (list : List ℕ) (s : Option (List Tree)) → counts (suc o) s ≡ counts (suc o) (onSome (pushNode (synNode list)) s)
-unfolding counts holds onSome pushNode popTree
-push-syn o list none = refl
-push-syn o list (some []) = refl
-push-syn o list (some (c ∷ s)) = refl
+-- a node over one tree, which is a `syn` or an `ini`
+push-over : (o : ℕ) (f : Tree → Tree) (s : Option (List Tree)) → counts (suc o) s ≡ counts (suc o) (onSome (λ l. popTree l (λ c r. some (f c ∷ r))) s)
+unfolding counts holds onSome popTree
+push-over o f none = refl
+push-over o f (some []) = refl
+push-over o f (some (c ∷ s)) = refl
 
 push-leaf : (o k : ℕ) (s : Option (List Tree)) → counts o s ≡ counts (suc o) (onSome (pushNode (leafNode k)) s)
 unfolding counts holds onSome pushNode popTree
@@ -64,16 +66,19 @@ push-some parNode (some (c ∷ [])) = refl
 push-some parNode (some (c ∷ d ∷ s)) = refl
 push-some (synNode list) (some []) = refl
 push-some (synNode list) (some (c ∷ s)) = refl
+push-some (iniNode p) (some []) = refl
+push-some (iniNode p) (some (c ∷ s)) = refl
 push-some (leafNode k) (some s) = refl
 push-some strayNode (some s) = refl
 
 owes-counts : (o : ℕ) (ns : List Node) → owes o ns ≡ counts o (treeStack ns)
-unfolding owes treeStack
+unfolding owes treeStack pushNode
 owes-counts zero [] = unfold counts holds in refl
 owes-counts (suc o) [] = unfold counts holds in refl
 owes-counts zero (n ∷ ns) = sym (push-some n (treeStack ns))
 owes-counts (suc o) (parNode ∷ ns) = owes-counts (suc (suc o)) ns ∙ push-par o (treeStack ns)
-owes-counts (suc o) (synNode list ∷ ns) = owes-counts (suc o) ns ∙ push-syn o list (treeStack ns)
+owes-counts (suc o) (synNode list ∷ ns) = owes-counts (suc o) ns ∙ push-over o (syn list) (treeStack ns)
+owes-counts (suc o) (iniNode p ∷ ns) = owes-counts (suc o) ns ∙ push-over o (ini p) (treeStack ns)
 owes-counts (suc o) (leafNode k ∷ ns) = owes-counts o ns ∙ push-leaf o k (treeStack ns)
 owes-counts (suc o) (strayNode ∷ ns) = sym (push-stray (suc o) (treeStack ns))
 
@@ -93,6 +98,7 @@ unfoldable pub leavesIn : List Node → List ℕ
 leavesIn [] = []
 leavesIn (parNode ∷ ns) = leavesIn ns
 leavesIn (synNode list ∷ ns) = leavesIn ns
+leavesIn (iniNode p ∷ ns) = leavesIn ns
 leavesIn (leafNode k ∷ ns) = k ∷ leavesIn ns
 leavesIn (strayNode ∷ ns) = leavesIn ns
 
@@ -101,6 +107,7 @@ unfolding leavesIn
 leaves-append [] ns = refl
 leaves-append (parNode ∷ ms) ns = leaves-append ms ns
 leaves-append (synNode list ∷ ms) ns = leaves-append ms ns
+leaves-append (iniNode p ∷ ms) ns = leaves-append ms ns
 leaves-append (leafNode k ∷ ms) ns = ap (λ l. k ∷ l) (leaves-append ms ns)
 leaves-append (strayNode ∷ ms) ns = leaves-append ms ns
 
@@ -108,6 +115,7 @@ pub leaves-of : (c : Tree) → leavesIn (nodes c) ≡ leaves c
 unfolding leavesIn nodes leaves
 leaves-of (par c d) = leaves-append (nodes c) (nodes d) ∙ rw (leaves-of c, leaves-of d)
 leaves-of (syn list c) = leaves-of c
+leaves-of (ini p c) = leaves-of c
 leaves-of (leaf k) = refl
 
 -- from the leaf `next` on: each is the next number, and at the end they are N

@@ -16,9 +16,9 @@ use Rattle.text_numbers.specs.declared.answer.Natural.the-variants as N
 use Rattle.text_bytes.proofs.Places.{take-rest}
 use Rattle.read_composition.specs.declared.list.Listed.{Listed}
 use Rattle.read_composition.specs.declared.token.Kind.{Kind}
-use Rattle.read_composition.specs.declared.token.Kind.the-variants.{Par, Syn, Set, Leaf, Stray}
+use Rattle.read_composition.specs.declared.token.Kind.the-variants.{Par, Syn, Set, Ini, Leaf, Stray}
 use Rattle.read_composition.specs.List.{listOf}
-use Rattle.read_composition.specs.Token.{startsNumber, leafOf, leafKind, wordKind, setKind, kindOf, isSyn, isStray}
+use Rattle.read_composition.specs.Token.{startsNumber, leafOf, leafKind, wordKind, setKind, kindOf, isSyn, isIni, isStray}
 
 -- `starts_number`
 pub starts-none : (t : Bytes) → length t ≡ 0 → false ≡ startsNumber t
@@ -74,11 +74,16 @@ module _ (t : Bytes) (p : Bool) (e : p ≡ same t (bytes "syn")) where
     unfolding wordKind
     word-par g = rw (sym e ∙ h, wordKind, sym f ∙ g, wordKind)
 
-    pub word-leaf : (r : Kind) → q ≡ false → r ≡ leafKind t → r ≡ wordKind t
-    unfolding wordKind
-    word-leaf r g z = rw (sym e ∙ h, wordKind, sym f ∙ g, wordKind) z
+    module _ (g : q ≡ false) (o : Bool) (i : o ≡ same t (bytes "ini")) where
+      pub word-ini : o ≡ true → Ini ≡ wordKind t
+      unfolding wordKind
+      word-ini j = rw (sym e ∙ h, wordKind, sym f ∙ g, wordKind, sym i ∙ j, wordKind)
 
-pub ruleset word-laws = (word-syn, word-par, word-leaf)
+      pub word-leaf : (r : Kind) → o ≡ false → r ≡ leafKind t → r ≡ wordKind t
+      unfolding wordKind
+      word-leaf r j z = rw (sym e ∙ h, wordKind, sym f ∙ g, wordKind, sym i ∙ j, wordKind) z
+
+pub ruleset word-laws = (word-syn, word-par, word-ini, word-leaf)
 
 -- `set`
 module _ (t : Bytes) (p : Bool) (e : p ≡ startsNumber t) where
@@ -92,7 +97,7 @@ module _ (t : Bytes) (p : Bool) (e : p ≡ startsNumber t) where
 
 pub ruleset set-laws = (set-none, set-some, not-true, not-false)
 
--- `kind_of`, `is_syn` and `is_stray`
+-- `kind_of`, `is_syn`, `is_ini` and `is_stray`
 pub kind-due : (t : Bytes) (due : Bool) (r : Kind) → due ≡ true → r ≡ setKind t → r ≡ kindOf due t
 unfolding kindOf
 kind-due t due r h e = rw h e
@@ -116,6 +121,10 @@ module _ (k : Kind) where
   unfolding isSyn
   syn-set a b e = rw e
 
+  pub syn-ini : k ≡ Ini → false ≡ isSyn k
+  unfolding isSyn
+  syn-ini e = rw e
+
   pub syn-leaf : (a : ℕ) → k ≡ Leaf a → false ≡ isSyn k
   unfolding isSyn
   syn-leaf a e = rw e
@@ -123,6 +132,30 @@ module _ (k : Kind) where
   pub syn-stray : k ≡ Stray → false ≡ isSyn k
   unfolding isSyn
   syn-stray e = rw e
+
+  pub ini-par : k ≡ Par → false ≡ isIni k
+  unfolding isIni
+  ini-par e = rw e
+
+  pub ini-syn : k ≡ Syn → false ≡ isIni k
+  unfolding isIni
+  ini-syn e = rw e
+
+  pub ini-set : (a b : ℕ) → k ≡ Set a b → false ≡ isIni k
+  unfolding isIni
+  ini-set a b e = rw e
+
+  pub ini-ini : k ≡ Ini → true ≡ isIni k
+  unfolding isIni
+  ini-ini e = rw e
+
+  pub ini-leaf : (a : ℕ) → k ≡ Leaf a → false ≡ isIni k
+  unfolding isIni
+  ini-leaf a e = rw e
+
+  pub ini-stray : k ≡ Stray → false ≡ isIni k
+  unfolding isIni
+  ini-stray e = rw e
 
   pub stray-par : k ≡ Par → false ≡ isStray k
   unfolding isStray
@@ -136,6 +169,10 @@ module _ (k : Kind) where
   unfolding isStray
   stray-set a b e = rw e
 
+  pub stray-ini : k ≡ Ini → false ≡ isStray k
+  unfolding isStray
+  stray-ini e = rw e
+
   pub stray-leaf : (a : ℕ) → k ≡ Leaf a → false ≡ isStray k
   unfolding isStray
   stray-leaf a e = rw e
@@ -144,4 +181,4 @@ module _ (k : Kind) where
   unfolding isStray
   stray-stray e = rw e
 
-pub ruleset is-laws = (syn-par, syn-syn, syn-set, syn-leaf, syn-stray, stray-par, stray-syn, stray-set, stray-leaf, stray-stray)
+pub ruleset is-laws = (syn-par, syn-syn, syn-set, syn-ini, syn-leaf, syn-stray, ini-par, ini-syn, ini-set, ini-ini, ini-leaf, ini-stray, stray-par, stray-syn, stray-set, stray-ini, stray-leaf, stray-stray)

@@ -1,5 +1,5 @@
 -- Where rows 3 and 5 are not broken, the kinds of the tokens are those of the nodes that they spell.
-use Prim.Native.Nat.{ℕ, _<_}
+use Prim.Native.Nat.{ℕ, _≤_, _<_}
 use mathlib.Core.Path.{_≡_, refl, sym, _∙_, ap, ap₂}
 use mathlib.Core.Bool.{Bool, true, false, _||_}
 use mathlib.Core.List.{[], _∷_}
@@ -10,16 +10,17 @@ use lib.Dec.{eqb}
 use lib.IntN.{pos}
 use Rattle.model.specs.Basic.{same}
 use Rattle.model.specs.Bounds.{lastAutomaton, maxActions}
-use Rattle.model.specs.Composition.{Node, parNode, synNode, leafNode, strayNode}
+use Rattle.model.specs.Composition.{Node, parNode, synNode, iniNode, leafNode, strayNode}
 use Rattle.model.specs.Limits.{rises}
+use Rattle.model.specs.Parse.{iniAlone}
 use Rattle.model.specs.Table.{lowBits, highBits, setWords}
-use Rattle.model.proofs.Tests.{or-cases}
+use Rattle.model.proofs.Tests.{or-cases, both-ways}
 use Rattle.model.proofs.Lists.{same-self}
 use Rattle.format.specs.Bytes.{Bytes, bytes, parts, comma, minus, 'a}
 use Rattle.format.specs.Number.{digit, natural, within, naturalOf}
 use Rattle.format.specs.Tokens.{Numeral, bare, lettered, unjudged, numeral, find, items, lastAfter, leafOf, node, synOf, sound, listSound}
 use Rattle.format.proofs.BytesLaws.{same-is, differ-first}
-use Rattle.format.proofs.NumberLaws.{digit-is, false-true}
+use Rattle.format.proofs.NumberLaws.{digit-is}
 use Rattle.format.proofs.ReadLaws.{bare-is, lettered-is}
 use Rattle.format.proofs.TokenLaws.{Plain, judged-plain, sound-lettered}
 use Rattle.format.proofs.TreeRead.{numeral-a}
@@ -27,7 +28,7 @@ use Rattle.format.proofs.TreeText.{node-case, syn-case}
 use Rattle.text_numbers.specs.Number.{naturalIn, upTo}
 use Rattle.text_numbers.proofs.NumberLaws.{natural-in, natural-none}
 use Rattle.read_composition.specs.declared.token.Kind.{Kind}
-use Rattle.read_composition.specs.declared.token.Kind.the-variants.{Par, Syn, Set, Leaf, Stray}
+use Rattle.read_composition.specs.declared.token.Kind.the-variants.{Par, Syn, Set, Ini, Leaf, Stray}
 use Rattle.read_composition.specs.List.{listOf}
 use Rattle.read_composition.specs.Token as T
 use Rattle.read_composition.specs.Token.{startsNumber, leafKind, wordKind, setKind}
@@ -37,6 +38,7 @@ use Rattle.read_composition.proofs.AfterSyn.{isBare, starts-by, syn-sou
 unfoldable pub nodeKind : Node → Kind
 nodeKind parNode = Par
 nodeKind (synNode list) = Set (lowBits list) (highBits list)
+nodeKind (iniNode p) = Ini
 nodeKind (leafNode k) = Leaf k
 nodeKind strayNode = Stray
 
@@ -73,37 +75,47 @@ leaf-no : (b : ℕ) (s : Bytes) → eqb b 'a ≡ false → leafKind (b ∷ s) �
 unfolding leafKind
 leaf-no b s h = rw (h, leafKind)
 
+same-turned : (s t : Bytes) → same s t ≡ same t s
+same-turned s t = both-ways (same s t) (same t s) (there s t) (there t s)
+  where
+    there : (u v : Bytes) → same u v ≡ true → same v u ≡ true
+    there u v h = ap (same v) (same-is u v h) ∙ same-self v
+
 -- a word other than `syn`, by its tests
 module _ (t : Bytes) (n : same t (bytes "syn") ≡ false) where
-  word-case : (v : Bool) → same t (bytes "par") ≡ v → wordKind t ≡ elim v [ true ↦ Par | false ↦ leafKind t ]
+  word-case : (v w : Bool) → same (bytes "par") t ≡ v → same (bytes "ini") t ≡ w
+      → wordKind t ≡ elim v [ true ↦ Par | false ↦ elim w [ true ↦ Ini | false ↦ leafKind t ] ]
   unfolding wordKind
-  word-case v e =
-      ap (λ (b : Bool). elim b as (λ q. Kind) [ true ↦ Syn | false ↦ elim (same t (bytes "par")) as (λ q. Kind) [ true ↦ Par | false ↦ leafKind t ] ]) n ∙
-      ap (λ (b : Bool). elim b as (λ q. Kind) [ true ↦ Par | false ↦ leafKind t ]) e
-
-  word-unjudged : numeral t ≡ unjudged → wordKind t ≡ nodeKind (find strayNode ((bytes "par", parNode) ∷ []) t)
-  unfolding nodeKind find
-  word-unjudged e = go (same t (bytes "par")) refl (same (bytes "par") t) refl
+  word-case v w e f =
+      ap (λ (b : Bool). elim b as (λ q. Kind) [ true ↦ Syn | false ↦ other (same t (bytes "par")) (same t (bytes "ini")) ]) n ∙
+      ap₂ other (same-turned t (bytes "par") ∙ e) (same-turned t (bytes "ini") ∙ f)
     where
-      go : (v : Bool) → same t (bytes "par") ≡ v → (w : Bool) → same (bytes "par") t ≡ w
-          → wordKind t ≡ nodeKind (elim w [ true ↦ parNode | false ↦ strayNode ])
-      go true q true r = word-case true q
-      go true q false r = absurd (false-true (sym r ∙ ap (same (bytes "par")) (same-is t (bytes "par") q) ∙ same-self (bytes "par")))
-      go false q true r = absurd (false-true (sym q ∙ ap (λ u. same u (bytes "par")) (sym (same-is (bytes "par") t r)) ∙ same-self (bytes "par")))
-      go false q false r = word-case false q ∙ no-leaf t e
+      other : Bool → Bool → Kind
+      other x y = elim x as (λ q. Kind) [ true ↦ Par | false ↦ elim y as (λ q. Kind) [ true ↦ Ini | false ↦ leafKind t ] ]
+
+  -- a token with no number
+  word-unjudged : numeral t ≡ unjudged → wordKind t ≡ nodeKind (find strayNode ((bytes "par", parNode) ∷ (bytes "ini", iniAlone) ∷ []) t)
+  unfolding nodeKind find
+  word-unjudged e = word-case (same (bytes "par") t) (same (bytes "ini") t) refl refl ∙ go (same (bytes "par") t) (same (bytes "ini") t)
+    where
+      go : (v w : Bool) → elim v as (λ q. Kind) [ true ↦ Par | false ↦ elim w as (λ q. Kind) [ true ↦ Ini | false ↦ leafKind t ] ]
+          ≡ nodeKind (elim v as (λ q. Node) [ true ↦ parNode | false ↦ elim w as (λ q. Node) [ true ↦ iniAlone | false ↦ strayNode ] ])
+      go true w = refl
+      go false true = refl
+      go false false = no-leaf t e
 
   -- a bare number is no node
   word-bare : startsNumber t ≡ true → wordKind t ≡ Stray
-  word-bare h = word-case false (differs t h) ∙ other t h
+  word-bare h = word-case false false (differs 112 (97 ∷ 114 ∷ []) (omega arith) t h) (differs 105 (110 ∷ 105 ∷ []) (omega arith) t h) ∙ other t h
     where
       low : (b : ℕ) → digit b || eqb b minus ≡ true → b < 97
       low b k = ⊎-elim (λ i. let j = digit-is b i in omega arith) (λ i. let j = eqb-true b 45 i in omega arith) (or-cases (digit b) (eqb b 45) k)
 
-      differs : (u : Bytes) → startsNumber u ≡ true → same u (bytes "par") ≡ false
-      differs [] k = unfold same in refl
-      differs (b ∷ u) k =
+      differs : (c : ℕ) (s : Bytes) → 97 ≤ c → (u : Bytes) → startsNumber u ≡ true → same (c ∷ s) u ≡ false
+      differs c s g [] k = unfold same in refl
+      differs c s g (b ∷ u) k =
           let l = low b (unfold startsNumber in k) in
-          differ-first b 112 u (97 ∷ 114 ∷ []) (λ z. omega arith)
+          differ-first c b s u (λ z. omega arith)
 
       other : (u : Bytes) → startsNumber u ≡ true → leafKind u ≡ Stray
       other [] k = unfold leafKind in refl
@@ -115,14 +127,15 @@ module _ (t : Bytes) (n : same t (bytes "syn") ≡ false) where
   word-lettered : (b : ℕ) (s : Bytes) → numeral t ≡ lettered b s → within (pos 0) (lastAfter b) s ≡ true
       → wordKind t ≡ nodeKind (leafOf b (naturalOf s))
   unfolding nodeKind leafOf
-  word-lettered b s e h = word-case false (differs (same t (bytes "par")) refl) ∙ ap leafKind (lettered-is t s b e) ∙ go (eqb b 'a) refl
+  word-lettered b s e h =
+      word-case false false (differs (bytes "par") (unfold numeral digit in refl) _ refl) (differs (bytes "ini") (unfold numeral digit in refl) _ refl) ∙
+      ap leafKind (lettered-is t s b e) ∙ go (eqb b 'a) refl
     where
-      differs : (v : Bool) → same t (bytes "par") ≡ v → v ≡ false
-      differs true q =
-          let f : numeral (bytes "par") ≡ lettered b s = ap numeral (sym (same-is t (bytes "par") q)) ∙ e in
-          let g : numeral (bytes "par") ≡ unjudged = unfold numeral digit in refl in
+      differs : (u : Bytes) → numeral u ≡ unjudged → (v : Bool) → same u t ≡ v → v ≡ false
+      differs u g true q =
+          let f : numeral u ≡ lettered b s = ap numeral (same-is u t q) ∙ e in
           absurd (let y : _≡_ {A = ℕ} 0 1 = cc in omega arith)
-      differs false q = refl
+      differs u g false q = refl
 
       go : (v : Bool) → eqb b 'a ≡ v → leafKind (b ∷ s) ≡ nodeKind (elim v [ true ↦ leafNode (naturalOf s) | false ↦ strayNode ])
       go true q =

@@ -11,8 +11,9 @@ use lib.ListN.{length, take, drop, set, length-append, length-set}
 use lib.Seq.{take-suc-set, drop-set-lt}
 use lib.Dec.{eqb}
 use Rattle.model.specs.Bounds.{maxTreeNodes}
-use Rattle.model.specs.Composition.{Node, parNode, synNode, leafNode, strayNode, nodes, leaves}
-use Rattle.model.specs.Table.{nodeWords, setWords}
+use Rattle.model.specs.Composition.{Node, parNode, synNode, iniNode, leafNode, strayNode, nodes, leaves}
+use Rattle.model.specs.Predicate.{Pred}
+use Rattle.model.specs.Table.{nodeWords, setWords, lowBits, highBits}
 use Rattle.read_composition.specs.declared.token.Kind.{Kind}
 use Rattle.read_composition.specs.declared.token.Kind.the-variants.{Par, Leaf, Stray}
 use Rattle.read_composition.specs.declared.compose.Walk.{Walk}
@@ -70,7 +71,33 @@ on : (N o l : ℕ) (b : Bool) (m x : ℕ) (out : List ℕ) (k : Kind) (ks : List
     → walk N (state (suc o) l b m x) out (k ∷ ks) ≡ walk N (stepped k (nextAfter k m x) (state (suc o) l b m x)) (putAfter k m x out) ks
 on N o l b m x out k ks h = next-go N (state (suc o) l b m x) out k ks (rw (ne-eqb (suc o) 0 (λ e. omega arith), h))
 
+-- a node over one subtree, which is a `syn` or an `ini`: as many are owed as before
+abbrev Over : Node → Type 0
+Over n =
+    (isStray (nodeKind n) ≡ false) × ((x : ℕ) (w : Walk)
+    → stepped (nodeKind n) x w ≡ record { owed = w .owed; leaves = w .leaves; ordered = w .ordered; nodes = w .nodes + 1; next = x })
+
+on-over : (N : ℕ) (n : Node) (ns : List Node) (o l : ℕ) (b : Bool) (m x : ℕ) (out : List ℕ) → Over n
+    → walk N (state (suc o) l b m x) out (map nodeKind (n ∷ ns))
+    ≡ walk N (state (suc o) l b (m + 1) (nextAfter (nodeKind n) m x)) (putAfter (nodeKind n) m x out) (map nodeKind ns)
+on-over N n ns o l b m x out h =
+    on N o l b m x out (nodeKind n) (map nodeKind ns) (h .0) ∙
+    ap (λ w. walk N w (putAfter (nodeKind n) m x out) (map nodeKind ns)) (h .1 (nextAfter (nodeKind n) m x) (state (suc o) l b m x))
+
+over-syn : (list : List ℕ) → Over (synNode list)
+unfolding nodeKind isStray stepped
+over-syn list = (refl, λ x w. refl)
+
+over-ini : (p : Pred) → Over (iniNode p)
+unfolding nodeKind isStray stepped
+over-ini p = (refl, λ x w. refl)
+
 -- row 13
+formed-over : (N : ℕ) (n : Node) (ns : List Node) (o l : ℕ) (b : Bool) (m x : ℕ) (out : List ℕ) → Over n
+    → ((y : ℕ) (mem : List ℕ) → walk N (state (suc o) l b (m + 1) y) mem (map nodeKind ns) .answer .formed ≡ owes (suc o) ns)
+    → walk N (state (suc o) l b m x) out (map nodeKind (n ∷ ns)) .answer .formed ≡ owes (suc o) ns
+formed-over N n ns o l b m x out h ih = ap (λ (e : Outcome). e .answer .formed) (on-over N n ns o l b m x out h) ∙ ih _ _
+
 pub formed-walk : (N : ℕ) (ns : List Node) (o l : ℕ) (b : Bool) (m x : ℕ) (out : List ℕ)
     → walk N (state o l b m x) out (map nodeKind ns) .answer .formed ≡ owes o ns
 unfolding owes nodeKind isStray stepped
@@ -82,9 +109,9 @@ formed-walk N (parNode ∷ ns) (suc o) l b m x out =
     ap (λ (e : Outcome). e .answer .formed) (on N o l b m x out Par (map nodeKind ns) refl) ∙
     formed-walk N ns (suc o + 1) l b (m + 1) (nextAfter Par m x) (putAfter Par m x out) ∙ ap (λ i. owes i ns) (add-one (suc o))
 formed-walk N (synNode list ∷ ns) (suc o) l b m x out =
-    let k = nodeKind (synNode list) in
-    ap (λ (e : Outcome). e .answer .formed) (on N o l b m x out k (map nodeKind ns) refl) ∙
-    formed-walk N ns (suc o) l b (m + 1) (nextAfter k m x) (putAfter k m x out)
+    formed-over N (synNode list) ns o l b m x out (over-syn list) (λ y mem. formed-walk N ns (suc o) l b (m + 1) y mem)
+formed-walk N (iniNode p ∷ ns) (suc o) l b m x out =
+    formed-over N (iniNode p) ns o l b m x out (over-ini p) (λ y mem. formed-walk N ns (suc o) l b (m + 1) y mem)
 formed-walk N (leafNode a ∷ ns) (suc o) l b m x out =
     let less : suc o - 1 ≡ o = omega arith in
     ap (λ (e : Outcome). e .answer .formed) (on N o l b m x out (Leaf a) (map nodeKind ns) refl) ∙
@@ -99,9 +126,10 @@ pub record Told (N : ℕ) (ns : List Node) (l : ℕ) (b : Bool) (m x : ℕ) (out
   pub words : m + length ns ≤ maxTreeNodes → x + 3 * length ns ≤ length out → Stand e x out (flatMap nodeWords ns)
 
 kind-words : (n : Node) → kindWords (nodeKind n) ≡ nodeWords n
-unfolding kindWords nodeKind nodeWords setWords
+unfolding kindWords nodeKind nodeWords setWords lowBits highBits
 kind-words parNode = refl
 kind-words (synNode list) = refl
+kind-words (iniNode p) = refl
 kind-words (leafNode k) = refl
 kind-words strayNode = refl
 
@@ -137,6 +165,13 @@ told-more N n ns l j b d m x out e o t =
           rw (← kind-words n) (stand-more e x out us (flatMap nodeWords ns) (omega arith) r);
     }
 
+told-over : (N : ℕ) (n : Node) (ns : List Node) (o l : ℕ) (b : Bool) (m x : ℕ) (out : List ℕ) → Over n → leavesIn (n ∷ ns) ≡ leavesIn ns
+    → ((y : ℕ) (mem : List ℕ) → Told N ns l b (m + 1) y mem (walk N (state (suc o) l b (m + 1) y) mem (map nodeKind ns)))
+    → Told N (n ∷ ns) l b m x out (walk N (state (suc o) l b m x) out (map nodeKind (n ∷ ns)))
+told-over N n ns o l b m x out h e ih =
+    subst (λ r. Told N (n ∷ ns) l b m x out r) (sym (on-over N n ns o l b m x out h))
+    (told-more N n ns l l b b m x out _ (ap (λ ks. b && inOrder N l ks) (sym e)) (ih _ _))
+
 pub told : (N : ℕ) (ns : List Node) (o l : ℕ) (b : Bool) (m x : ℕ) (out : List ℕ) → owes o ns ≡ true
     → Told N ns l b m x out (walk N (state o l b m x) out (map nodeKind ns))
 unfolding owes nodeKind isStray stepped leavesIn inOrder
@@ -148,10 +183,9 @@ told N (parNode ∷ ns) (suc o) l b m x out h =
     subst (λ e. Told N (parNode ∷ ns) l b m x out e) (sym (on N o l b m x out Par (map nodeKind ns) refl))
     (told-more N parNode ns l l b b m x out _ refl t)
 told N (synNode list ∷ ns) (suc o) l b m x out h =
-    let k = nodeKind (synNode list) in
-    let t = told N ns (suc o) l b (m + 1) (nextAfter k m x) (putAfter k m x out) h in
-    subst (λ e. Told N (synNode list ∷ ns) l b m x out e) (sym (on N o l b m x out k (map nodeKind ns) refl))
-    (told-more N (synNode list) ns l l b b m x out _ refl t)
+    told-over N (synNode list) ns o l b m x out (over-syn list) refl (λ y mem. told N ns (suc o) l b (m + 1) y mem h)
+told N (iniNode p ∷ ns) (suc o) l b m x out h =
+    told-over N (iniNode p) ns o l b m x out (over-ini p) refl (λ y mem. told N ns (suc o) l b (m + 1) y mem h)
 told N (leafNode a ∷ ns) (suc o) l b m x out h =
     let less : suc o - 1 ≡ o = omega arith in
     let t =

@@ -1,4 +1,4 @@
--- The nodes of a composition, left to right. Where rows 3 and 5 are not broken the answer is that of rows 13, 14 and
+-- The nodes of a composition, left to right. Where rows 3, 5 and 6 are not broken the answer is that of rows 13, 14 and
 -- 16, and the words are those of the tree: the laws read-formed, read-ordered, read-count and read-words of
 -- proofs/Meaning.
 use Prim.Native.Nat.{ℕ, _+_, _-_, _≤_}
@@ -9,18 +9,20 @@ use lib.ListN.{length, set}
 use lib.Dec.{eqb, leb}
 use Rattle.model.specs.Bounds.{lastAutomaton, maxTreeNodes}
 use Rattle.format.specs.Bytes.{Bytes}
-use Rattle.format.specs.Tokens.{tokens}
+use Rattle.format.specs.Tokens.{tokens, outside}
+use Rattle.read_extent.specs.Extent.{afterStart}
 use Rattle.read_composition.specs.declared.token.Kind.{Kind}
-use Rattle.read_composition.specs.declared.token.Kind.the-variants.{Par, Syn, Set, Leaf, Stray}
+use Rattle.read_composition.specs.declared.token.Kind.the-variants.{Par, Syn, Set, Ini, Leaf, Stray}
 use Rattle.read_composition.specs.declared.compose.Composition.{Composition}
 use Rattle.read_composition.specs.declared.compose.Walk.{Walk}
-use Rattle.read_composition.specs.Token.{isStray, kindsOf}
+use Rattle.read_composition.specs.Token.{isIni, isStray, kindsOf}
 
 -- the words of a node
 unfoldable pub kindWords : Kind → List ℕ
 kindWords Par = 0 ∷ []
 kindWords Syn = []
 kindWords (Set low high) = 1 ∷ low ∷ high ∷ []
+kindWords Ini = 1 ∷ 0 ∷ 0 ∷ []
 kindWords (Leaf k) = (2 + k) ∷ []
 kindWords Stray = []
 
@@ -29,6 +31,7 @@ unfoldable pub IsSmall : Kind → Type 0
 IsSmall Par = Unit {0}
 IsSmall Syn = Unit {0}
 IsSmall (Set low high) = Unit {0}
+IsSmall Ini = Unit {0}
 IsSmall (Leaf k) = k ≤ lastAutomaton
 IsSmall Stray = Unit {0}
 
@@ -51,6 +54,8 @@ stepped Par next w =
 stepped Syn next w = w
 stepped (Set low high) next w =
     record { owed = w .owed; leaves = w .leaves; ordered = w .ordered; nodes = w .nodes + 1; next = next }
+stepped Ini next w =
+    record { owed = w .owed; leaves = w .leaves; ordered = w .ordered; nodes = w .nodes + 1; next = next }
 stepped (Leaf k) next w =
     record {
       owed = w .owed - 1;
@@ -60,6 +65,10 @@ stepped (Leaf k) next w =
       next = next;
     }
 stepped Stray next w = w
+
+-- the place of the token after one of this kind and its P, where `next` is the place after the one
+unfoldable pub placeBeyond : Bytes → (next : ℕ) → Kind → ℕ
+placeBeyond s next k = elim (isIni k) [ true ↦ afterStart s next | false ↦ next ]
 
 abbrev pub atFirst : Walk
 atFirst = record { owed = 1; leaves = 0; ordered = true; nodes = 0; next = 0 }
@@ -89,8 +98,9 @@ walk N w out (k ∷ ks) =
       | false ↦ walk N (stepped k (nextAfter k (w .nodes) (w .next)) w) (putAfter k (w .nodes) (w .next) out) ks
     ]
 
+-- the tokens outside of all P
 unfoldable pub outcome : (N : ℕ) → Bytes → (out : List ℕ) → Outcome
-outcome N s out = walk N atFirst out (kindsOf false (tokens s))
+outcome N s out = walk N atFirst out (kindsOf false (outside 0 [] (tokens s)))
 
 abbrev pub compositionOf : (N : ℕ) → Bytes → (out : List ℕ) → Composition
 compositionOf N s out = outcome N s out .answer

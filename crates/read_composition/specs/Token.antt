@@ -11,7 +11,7 @@ use Rattle.text_numbers.specs.declared.answer.Natural.{Natural}
 use Rattle.text_numbers.specs.declared.answer.Natural.the-variants as N
 use Rattle.text_numbers.specs.Number.{naturalIn}
 use Rattle.read_composition.specs.declared.token.Kind.{Kind}
-use Rattle.read_composition.specs.declared.token.Kind.the-variants.{Par, Syn, Set, Leaf, Stray}
+use Rattle.read_composition.specs.declared.token.Kind.the-variants.{Par, Syn, Set, Ini, Leaf, Stray}
 use Rattle.read_composition.specs.List.{listOf}
 
 unfoldable pub startsNumber : Bytes → Bool
@@ -30,7 +30,11 @@ unfoldable pub wordKind : Bytes → Kind
 wordKind t =
     elim (same t (bytes "syn")) [
       | true ↦ Syn
-      | false ↦ elim (same t (bytes "par")) [ true ↦ Par | false ↦ leafKind t ]
+      | false ↦
+          elim (same t (bytes "par")) [
+            | true ↦ Par
+            | false ↦ elim (same t (bytes "ini")) [ true ↦ Ini | false ↦ leafKind t ]
+          ]
     ]
 
 -- the list after `syn`
@@ -49,13 +53,23 @@ unfoldable pub isSyn : Kind → Bool
 isSyn Par = false
 isSyn Syn = true
 isSyn (Set a b) = false
+isSyn Ini = false
 isSyn (Leaf k) = false
 isSyn Stray = false
+
+unfoldable pub isIni : Kind → Bool
+isIni Par = false
+isIni Syn = false
+isIni (Set a b) = false
+isIni Ini = true
+isIni (Leaf k) = false
+isIni Stray = false
 
 unfoldable pub isStray : Kind → Bool
 isStray Par = false
 isStray Syn = false
 isStray (Set a b) = false
+isStray Ini = false
 isStray (Leaf k) = false
 isStray Stray = true
 

@@ -1,9 +1,11 @@
-// The nodes of a composition, left to right: rows 13, 14 and 16 in one pass, and the words of the nodes.
+// The nodes of a composition, left to right: rows 13, 14 and 16 in one pass, and the words of the nodes. The P after an
+// `ini` is passed over.
 use crate::token::Kind;
 use crate::token::{self};
 ghost use mathlib.Core.Path.{_≡_};
 ghost use Prim.Native.Nat.{_*_, _^_, _≤_};
 ghost use Rattle.read_composition.specs.Read.{IsSmall, stepped, illFormed, ending, nextAfter, putAfter, HasRead};
+ghost use Rattle.read_composition.specs.Read.{placeBeyond};
 
 // Whether the tokens make one tree, and of such a tree: whether its leaves are the automata in order, how many nodes it
 // has, and where its words end.
@@ -24,7 +26,8 @@ pub struct Walk {
     pub next: usize,
 }
 
-// The words of a node: `par` is 0; `syn` is 1 and its set; leaf K is 2 + K. The words of a 65th node are not written.
+// The words of a node: `par` is 0; `syn` is 1 and its set; `ini` is a `syn` with no action; leaf K is 2 + K. The words
+// of a 65th node are not written.
 fn put(out: &mut [u32; 192], k: Kind, nodes: usize, next: usize) -> usize
     requires { ⌜ (next ≤ 3 * nodes) × IsSmall k ⌝ }
     ensures { λ r. ⌜ (r ≡ nextAfter k nodes next) × (now (out .exit) ≡ putAfter k nodes next (now (out .entry))) ⌝ }
@@ -42,6 +45,12 @@ fn put(out: &mut [u32; 192], k: Kind, nodes: usize, next: usize) -> usize
             out[next] = 1;
             out[next + 1] = low;
             out[next + 2] = high;
+            next + 3
+        }
+        Kind::Ini => {
+            out[next] = 1;
+            out[next + 1] = 0;
+            out[next + 2] = 0;
             next + 3
         }
         Kind::Leaf(a) => {
@@ -67,6 +76,13 @@ fn step(w: Walk, k: Kind, next: usize) -> Walk
         },
         Kind::Syn => w,
         Kind::Set(_, _) => Walk {
+            owed: w.owed,
+            leaves: w.leaves,
+            ordered: w.ordered,
+            nodes: w.nodes + 1,
+            next,
+        },
+        Kind::Ini => Walk {
             owed: w.owed,
             leaves: w.leaves,
             ordered: w.ordered,
@@ -109,6 +125,16 @@ fn ended(w: Walk, automata: usize) -> Composition
     ill_formed()
 }
 
+// Where the token after one of this kind stands, or after its P: `next` is the place right after it.
+fn beyond(part: &[u8], next: usize, k: Kind) -> usize
+    ensures { λ r. ⌜ r ≡ placeBeyond (now (part .entry)) next k ⌝ }
+{
+    if token::is_ini(k) {
+        return read_extent::after(part, next);
+    }
+    next
+}
+
 // The words go into `out` from its start, of at most 64 nodes; a node has at most three.
 pub fn read(part: &[u8], automata: usize, out: &mut [u32; 192]) -> Composition
     ensures { λ r. ⌜ HasRead automata (now (part .entry)) (now (out .entry)) (now (out .exit)) r ⌝ }
@@ -131,7 +157,7 @@ pub fn read(part: &[u8], automata: usize, out: &mut [u32; 192]) -> Composition
         let next = put(out, k, w.nodes, w.next);
         w = step(w, k, next);
         due = token::is_syn(k);
-        at = end + 1;
+        at = beyond(part, end + 1, k);
     }
     ended(w, automata)
 }

@@ -4,13 +4,15 @@ use text_numbers::Natural;
 ghost use mathlib.Core.Path.{_≡_};
 ghost use Rattle.model.specs.Basic.{same};
 ghost use Rattle.format.specs.Bytes.{bytes};
-ghost use Rattle.read_composition.specs.Token.{startsNumber, leafKind, wordKind, setKind, kindOf, isSyn, isStray};
+ghost use Rattle.read_composition.specs.Token.{startsNumber, leafKind, wordKind, setKind, kindOf};
+ghost use Rattle.read_composition.specs.Token.{isSyn, isIni, isStray};
 
-// `Syn` is the word, and `Set` the list after it, as its set.
+// `Syn` is the word, and `Set` the list after it, as its set. `Ini` is the word without its P.
 pub enum Kind {
     Par,
     Syn,
     Set(u32, u32),
+    Ini,
     Leaf(u32),
     Stray,
 }
@@ -58,6 +60,9 @@ fn word(token: &[u8]) -> Kind
     if text_bytes::same(token, b"par") {
         return Kind::Par;
     }
+    if text_bytes::same(token, b"ini") {
+        return Kind::Ini;
+    }
     leaf(token)
 }
 
@@ -85,6 +90,20 @@ pub fn is_syn(k: Kind) -> bool
         Kind::Par => false,
         Kind::Syn => true,
         Kind::Set(_, _) => false,
+        Kind::Ini => false,
+        Kind::Leaf(_) => false,
+        Kind::Stray => false,
+    }
+}
+
+pub fn is_ini(k: Kind) -> bool
+    ensures { λ r. ⌜ r ≡ isIni k ⌝ }
+{
+    match k {
+        Kind::Par => false,
+        Kind::Syn => false,
+        Kind::Set(_, _) => false,
+        Kind::Ini => true,
         Kind::Leaf(_) => false,
         Kind::Stray => false,
     }
@@ -97,6 +116,7 @@ pub fn is_stray(k: Kind) -> bool
         Kind::Par => false,
         Kind::Syn => false,
         Kind::Set(_, _) => false,
+        Kind::Ini => false,
         Kind::Leaf(_) => false,
         Kind::Stray => true,
     }

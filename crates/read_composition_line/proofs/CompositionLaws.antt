@@ -1,49 +1,38 @@
--- Each way out of the code of src/tree.rt; then what it says of a line.
-use Prim.Native.Nat.{ℕ, _+_, _≤_, _<_}
+-- Each way out of the code of src/tree.rt.
+use Prim.Native.Nat.{ℕ, suc, _+_, _≤_, _<_}
 use mathlib.Core.Path.{_≡_, refl, sym, _∙_, ap}
-use mathlib.Core.Bool.{Bool, true, false, not, Bool·not-not, true≢false}
-use mathlib.Core.List.{List, [], _∷_, flatMap}
+use mathlib.Core.Bool.{Bool, true, false, not}
+use mathlib.Core.List.{List, [], _∷_, _++_}
 use mathlib.Core.Option.{Option, none, some}
 use native.Mathlib.Omega.{arith}
-use borrow.Author.Tests.{lt-ltb, le-ltb}
-use lib.ListN.{length, take, length-replicate}
-use Rattle.model.specs.Basic.{lacks, orElse, same}
-use Rattle.model.specs.Composition.{Tree, leaf, nodes, treeSize}
-use Rattle.model.specs.Limits.{broken, rises, isDisordered, isTooLarge}
-use Rattle.model.specs.Lines.{Reading, compose}
-use Rattle.model.specs.Parse.{readTree}
-use Rattle.model.specs.Table.{nodeWords, lineWords}
-use Rattle.model.proofs.Tests.{not-false}
+use borrow.Author.Tests.{lt-ltb, le-ltb, eq-eqb, ne-eqb}
+use lib.ListN.{length, take, length-append}
+use Rattle.model.specs.Limits.{broken, isTooLarge}
+use Rattle.model.proofs.Decode.{is-broken, not-broken}
 use Rattle.line_order.specs.declared.Counts.{Counts}
-use Rattle.line_order.specs.Due.{numberOf}
-use Rattle.line_order.specs.Counts.{nodesOf, Counted}
 use Rattle.line_order.specs.Counts.{capped}
-use Rattle.line_order.proofs.CappedLaws.{rises-capped}
-use Rattle.format.specs.Bytes.{Bytes, bytes, parts, comma}
-use Rattle.format.specs.Rows.{fault, entry, field, fields, hasPred, is, numbersSound, place, theTree, treeTokens, nodesIn, treeOf, valueOf, row2, row3, row4, row5, row6, row7, row8, row9, row10, row11, row12, row13, row14, row15, row16}
-use Rattle.format.specs.Spelling.{spelling}
-use Rattle.format.specs.Tokens.{Numeral, bare, lettered, unjudged, numeral, items, tokens, sound, sounds, listSound, listsSound, readNodes}
-use Rattle.format.proofs.BytesLaws.{same-is}
-use Rattle.format.proofs.ReadLaws.{sounds-inv}
+use Rattle.table_append.specs.Append.{nextPlace, put}
+use Rattle.table_append.proofs.Joined.{next-then, put-then}
+use Rattle.table_line.specs.Line.{rangesIn}
+use Rattle.format.specs.Bytes.{Bytes, bytes}
+use Rattle.format.specs.Tokens.{tokens, sounds}
 use Rattle.read_composition.specs.declared.compose.Composition.{Composition}
 use Rattle.read_composition.specs.Lists.{listsKept}
-use Rattle.read_composition.specs.Read.{compositionOf, memoryOf, HasRead}
-use Rattle.read_composition.proofs.AfterSyn.{list-case, syn-sound, lists-sound}
-use Rattle.read_composition.proofs.Meaning.{read-formed, read-size, read-is-formed, read-ordered, read-count, read-words}
+use Rattle.read_composition.specs.Read.{memoryOf, HasRead}
+use Rattle.read_predicate.specs.Scratch.{Scratch}
+use Rattle.read_starts.specs.declared.judging.Judged.{Judged}
+use Rattle.read_starts.specs.Judged.{judgedAll, rowOf}
+use Rattle.read_starts.specs.Words.{startsWords}
+use Rattle.read_starts.proofs.StartRows.{judged-few}
 use Rattle.read_form.specs.declared.LineRead.{LineRead}
 use Rattle.read_form.specs.declared.LineRead.the-variants.{Sound, Fault}
-use Rattle.table_append.specs.Append.{nextPlace, put}
-use Rattle.read_form.specs.Form.{lineOf, valueAfter, misformed, fieldsOf}
-use Rattle.read_form.specs.Outcome.{answered, written}
-use Rattle.model.proofs.Decode.{unbroken, is-broken, not-broken}
-use Rattle.read_composition_line.specs.Composition.{blank, treeIn, treeFault, treeWords, treeRead, treeAfter, partOf, composeFault, composeRead, composeAfter}
-use Rattle.read_form.proofs.FormLaws.{row2-by}
-use Rattle.table_append.proofs.Joined.{next-then, put-then}
-use Rattle.read_form.proofs.Outcomes.{same-row, answered-fault, answered-sound, written-fault, written-sound}
-use Rattle.read_composition_line.proofs.SyncLaws.{few-items}
+use Rattle.read_form.specs.Form.{valueAfter, misformed}
+use Rattle.read_form.specs.Outcome.{thenRow, answered}
+use Rattle.read_form.proofs.Outcomes.{answered-fault, answered-sound, written-fault, written-sound}
+use Rattle.read_composition_line.specs.Composition.{blank, treeIn, treeFault, treeWords, treeRead, treeAfter, startsJudged, composedFault, composedWords, partTold, partAfter, composedRead, composedAfter, partOf, composeFault, composeRead, composeAfter}
 
 -- rows 13, 14 and 16 by the answer of `read_composition::read`
-abbrev rowsBy : Composition → Option ℕ
+abbrev pub rowsBy : Composition → Option ℕ
 rowsBy x = broken 13 (not (x .formed)) (broken 14 (not (x .ordered)) (broken 16 (isTooLarge (x .nodes)) none))
 
 -- `tree`
@@ -127,27 +116,152 @@ module _ (N : ℕ) (s : Bytes) (words : List ℕ) (at : ℕ) where
 
 pub ruleset tree-laws = (formed-read, formed-after, ordered-read, ordered-after, large-read, large-after, nodes-read, nodes-after)
 
--- `composition`
-module _ (s : Bytes) (ended : Bool) (c : Counts) (words : List ℕ) (at : ℕ) where
-  module _ (row : ℕ) (e : composeFault s ended c ≡ some row) where
-    line-read-fault : Fault row ≡ composeRead s ended c at
-    unfolding composeRead
-    line-read-fault = sym (answered-fault (composeFault s ended c) row _ e)
+-- `starts`
+module _ (part : Bytes) (c : Counts) (words : List ℕ) (room high : ℕ) (j : Judged) where
+  pub starts-by : (rs : List ℕ) → rs ≡ rangesIn words (c .variables) → j ≡ judgedAll (c .variables) rs (c .nodes) room high part
+      → j ≡ startsJudged c words part room high
+  unfolding startsJudged
+  starts-by rs e h = rw (← e) h
 
-    line-after-fault : words ≡ composeAfter s ended c words at
-    unfolding composeAfter
-    line-after-fault = sym (written-fault (composeFault s ended c) row _ words e)
+  -- for `append_starts`
+  pub starts-few : j ≡ startsJudged c words part room high → j .count ≤ 64
+  unfolding startsJudged
+  starts-few h = rw h (judged-few (c .variables) (rangesIn words (c .variables)) (c .nodes) room high part)
+
+-- what the answer of `tree` says of its rows
+module _ (o : Option ℕ) (at : ℕ) (new : List ℕ) where
+  row-told : (row : ℕ) → answered o (Sound 0 0 (nextPlace at (length new))) ≡ Fault row → o ≡ some row
+  unfolding answered
+  row-told row h = go o h
+    where
+      go : (x : Option ℕ) → answered x (Sound 0 0 (nextPlace at (length new))) ≡ Fault row → x ≡ some row
+      go none e = absurd (let z : _≡_ {A = ℕ} 0 1 = cc in omega arith)
+      go (some i) e = cc
+
+  none-told : (a b next : ℕ) → answered o (Sound 0 0 (nextPlace at (length new))) ≡ Sound a b next → (o ≡ none) × (next ≡ nextPlace at (length new))
+  unfolding answered
+  none-told a b next h = go o h
+    where
+      go : (x : Option ℕ) → answered x (Sound 0 0 (nextPlace at (length new))) ≡ Sound a b next → (x ≡ none) × (next ≡ nextPlace at (length new))
+      go none e = (refl, cc)
+      go (some i) e = absurd (let z : _≡_ {A = ℕ} 0 1 = cc in omega arith)
+
+-- a row that is told, and none
+row-some : (row : ℕ) → (row ≡ 0 → ⊥) → rowOf row ≡ some row
+unfolding rowOf
+row-some row h = rw (ne-eqb row 0 h, rowOf)
+
+row-none : (row : ℕ) → row ≡ 0 → rowOf row ≡ none
+unfolding rowOf
+row-none row h = rw (eq-eqb row 0 h, rowOf)
+
+-- `composed`
+module _ (c : Counts) (words : List ℕ) (part : Bytes) (old : List ℕ) (high at : ℕ) (j : Judged) (hj : j ≡ startsJudged c words part (length old) high) where
+  abbrev N : ℕ
+  N = c .automata
+
+  abbrev room : ℕ
+  room = length old
+
+  rows-by : composedFault c words part room high ≡ thenRow (rowOf (j .row)) (treeFault N part)
+  unfolding composedFault
+  rows-by = ap (λ (x : Judged). thenRow (rowOf (x .row)) (treeFault N part)) (sym hj)
+
+  module _ (row : ℕ) (e : composedFault c words part room high ≡ some row) where
+    part-fault : Fault row ≡ composedRead c words part room high at
+    unfolding composedRead partTold
+    part-fault = sym (answered-fault _ row _ e)
+
+    part-kept : words ≡ composedAfter c words part room high at
+    unfolding composedAfter partAfter
+    part-kept = sym (written-fault _ row _ words e)
+
+  module _ (h : j .row ≡ 0 → ⊥) where
+    starts-fault : composedFault c words part room high ≡ some (j .row)
+    unfolding thenRow
+    starts-fault = rows-by ∙ ap (λ (o : Option ℕ). thenRow o (treeFault N part)) (row-some (j .row) h)
+
+    pub composed-starts : Fault (j .row) ≡ composedRead c words part room high at
+    composed-starts = part-fault (j .row) starts-fault
+
+    pub composed-starts-kept : words ≡ composedAfter c words part room high at
+    composed-starts-kept = part-kept (j .row) starts-fault
+
+  module _ (h : j .row ≡ 0) (q : LineRead) (hq : q ≡ treeRead N part at) (mid : List ℕ) (hm : mid ≡ treeAfter N part words at) where
+    tree-left : composedFault c words part room high ≡ treeFault N part
+    unfolding thenRow
+    tree-left = rows-by ∙ ap (λ (o : Option ℕ). thenRow o (treeFault N part)) (row-none (j .row) h)
+
+    module _ (row : ℕ) (e : q ≡ Fault row) where
+      its-row : treeFault N part ≡ some row
+      unfolding treeRead
+      its-row = row-told (treeFault N part) at (treeWords N part) row (sym hq ∙ e)
+
+      pub composed-tree : Fault row ≡ composedRead c words part room high at
+      composed-tree = part-fault row (tree-left ∙ its-row)
+
+      pub composed-tree-kept : mid ≡ composedAfter c words part room high at
+      unfolding treeAfter
+      composed-tree-kept = hm ∙ written-fault (treeFault N part) row _ words its-row ∙ part-kept row (tree-left ∙ its-row)
+
+    module _ (a b next : ℕ) (e : q ≡ Sound a b next) (lent : List ℕ) (l : Scratch old lent) where
+      abbrev later : List ℕ
+      later = j .count ∷ startsWords (length lent) part
+
+      its-place : (treeFault N part ≡ none) × (next ≡ nextPlace at (length (treeWords N part)))
+      unfolding treeRead
+      its-place = none-told (treeFault N part) at (treeWords N part) a b next (sym hq ∙ e)
+
+      none-left : composedFault c words part room high ≡ none
+      none-left = tree-left ∙ its-place .0
+
+      all-words : treeWords N part ++ later ≡ composedWords c words part room high
+      unfolding composedWords
+      all-words =
+          ap (λ (n : ℕ). treeWords N part ++ j .count ∷ startsWords n part) (l .long) ∙
+          ap (λ (x : Judged). treeWords N part ++ x .count ∷ startsWords room part) hj
+
+      pub composed-read : (end : ℕ) → end ≡ nextPlace next (suc (length (startsWords (length lent) part)))
+          → Sound 0 (j .nodes) end ≡ composedRead c words part room high at
+      unfolding composedRead partTold
+      composed-read end he =
+          ap (λ (n : ℕ). Sound 0 (j .nodes) n)
+          (he ∙ ap (λ (n : ℕ). nextPlace n (length later)) (its-place .1) ∙ next-then at (length (treeWords N part)) (length later) ∙
+          ap (nextPlace at) (sym (length-append (treeWords N part) later)) ∙ ap (λ (w : List ℕ). nextPlace at (length w)) all-words) ∙
+          ap (λ (x : Judged). Sound 0 (x .nodes) (nextPlace at (length (composedWords c words part room high)))) hj ∙
+          sym (answered-sound _ _ none-left)
+
+      pub composed-put : (new : List ℕ) → new ≡ put next (j .count ∷ startsWords (length lent) part) mid → new ≡ composedAfter c words part room high at
+      unfolding composedAfter partAfter treeAfter
+      composed-put new hn =
+          hn ∙ ap (λ (n : ℕ). put n later mid) (its-place .1) ∙
+          ap (put (nextPlace at (length (treeWords N part))) later) (hm ∙ written-sound (treeFault N part) _ words (its-place .0)) ∙
+          put-then (treeWords N part) at later words ∙ ap (λ (w : List ℕ). put at w words) all-words ∙
+          sym (written-sound _ _ words none-left)
+
+pub ruleset composed-laws = (composed-starts, composed-starts-kept, composed-tree, composed-tree-kept, composed-read, composed-put, starts-few)
+
+-- `composition`
+module _ (s : Bytes) (ended : Bool) (c : Counts) (words : List ℕ) (room high at : ℕ) where
+  module _ (row : ℕ) (e : composeFault s ended c words room high ≡ some row) where
+    line-read-fault : Fault row ≡ composeRead s ended c words room high at
+    unfolding composeRead partTold
+    line-read-fault = sym (answered-fault (composeFault s ended c words room high) row _ e)
+
+    line-after-fault : words ≡ composeAfter s ended c words room high at
+    unfolding composeAfter partAfter
+    line-after-fault = sym (written-fault (composeFault s ended c words room high) row _ words e)
 
   module _ (m : Bool) (hm : m ≡ misformed (bytes "compose=") 0 s ended) where
     module _ (f : m ≡ true) where
-      form-fault : composeFault s ended c ≡ some 2
+      form-fault : composeFault s ended c words room high ≡ some 2
       unfolding composeFault
       form-fault = is-broken 2 _ _ (sym hm ∙ f)
 
-      pub form-read : Fault 2 ≡ composeRead s ended c at
+      pub form-read : Fault 2 ≡ composeRead s ended c words room high at
       form-read = line-read-fault 2 form-fault
 
-      pub form-after : words ≡ composeAfter s ended c words at
+      pub form-after : words ≡ composeAfter s ended c words room high at
       form-after = line-after-fault 2 form-fault
 
     module _ (f : m ≡ false) (v : Bytes) (hv : v ≡ valueAfter (bytes "compose=") s) (n : Bool) (hn : n ≡ sounds [] (tokens v)) where
@@ -155,14 +269,14 @@ module _ (s : Bytes) (ended : Bool) (c : Counts) (words : List ℕ) (at : ℕ) w
       numbers-by = sym (hn ∙ ap (λ (u : Bytes). sounds [] (tokens u)) hv)
 
       module _ (g : n ≡ false) where
-        numbers-fault : composeFault s ended c ≡ some 3
+        numbers-fault : composeFault s ended c words room high ≡ some 3
         unfolding composeFault
         numbers-fault = not-broken 2 _ _ (sym hm ∙ f) ∙ is-broken 3 _ _ (ap not (numbers-by ∙ g))
 
-        pub numbers-read : Fault 3 ≡ composeRead s ended c at
+        pub numbers-read : Fault 3 ≡ composeRead s ended c words room high at
         numbers-read = line-read-fault 3 numbers-fault
 
-        pub numbers-after : words ≡ composeAfter s ended c words at
+        pub numbers-after : words ≡ composeAfter s ended c words room high at
         numbers-after = line-after-fault 3 numbers-fault
 
       module _ (g : n ≡ true) (k : ℕ) (hk : k ≡ capped (c .actions)) (l : Bool) (hl : l ≡ listsKept k false (tokens v)) where
@@ -170,187 +284,33 @@ module _ (s : Bytes) (ended : Bool) (c : Counts) (words : List ℕ) (at : ℕ) w
         lists-by = sym (hl ∙ rw (hv, hk))
 
         module _ (h : l ≡ false) where
-          lists-fault : composeFault s ended c ≡ some 5
+          lists-fault : composeFault s ended c words room high ≡ some 5
           unfolding composeFault
           lists-fault = not-broken 2 _ _ (sym hm ∙ f) ∙ not-broken 3 _ _ (ap not (numbers-by ∙ g)) ∙ is-broken 5 _ _ (ap not (lists-by ∙ h))
 
-          pub lists-read : Fault 5 ≡ composeRead s ended c at
+          pub lists-read : Fault 5 ≡ composeRead s ended c words room high at
           lists-read = line-read-fault 5 lists-fault
 
-          pub lists-after : words ≡ composeAfter s ended c words at
+          pub lists-after : words ≡ composeAfter s ended c words room high at
           lists-after = line-after-fault 5 lists-fault
 
         module _ (h : l ≡ true) where
-          rest-fault : composeFault s ended c ≡ treeFault (c .automata) v
+          rest-fault : composedFault c words v room high ≡ composeFault s ended c words room high
           unfolding composeFault
           rest-fault =
-              not-broken 2 _ _ (sym hm ∙ f) ∙ not-broken 3 _ _ (ap not (numbers-by ∙ g)) ∙ not-broken 5 _ _ (ap not (lists-by ∙ h)) ∙
-              ap (treeFault (c .automata)) (sym hv)
+              ap (λ (u : Bytes). composedFault c words u room high) hv ∙
+              sym (not-broken 2 _ _ (sym hm ∙ f) ∙ not-broken 3 _ _ (ap not (numbers-by ∙ g)) ∙ not-broken 5 _ _ (ap not (lists-by ∙ h)))
 
-          pub rest-read : (q : LineRead) → q ≡ treeRead (c .automata) v at → q ≡ composeRead s ended c at
-          unfolding composeRead treeRead
+          pub rest-read : (q : LineRead) → q ≡ composedRead c words v room high at → q ≡ composeRead s ended c words room high at
+          unfolding composeRead composedRead
           rest-read q hq =
-              hq ∙ ap (λ (o : Option ℕ). answered o (Sound 0 0 (nextPlace at (length (treeWords (c .automata) v))))) (sym rest-fault) ∙
-              ap (λ (u : Bytes). answered (composeFault s ended c) (Sound 0 0 (nextPlace at (length (treeWords (c .automata) u))))) hv
+              hq ∙ ap (λ (o : Option ℕ). partTold o c words v room high at) rest-fault ∙
+              ap (λ (u : Bytes). partTold (composeFault s ended c words room high) c words u room high at) hv
 
-          pub rest-after : (y : List ℕ) → y ≡ treeAfter (c .automata) v words at → y ≡ composeAfter s ended c words at
-          unfolding composeAfter treeAfter
+          pub rest-after : (y : List ℕ) → y ≡ composedAfter c words v room high at → y ≡ composeAfter s ended c words room high at
+          unfolding composeAfter composedAfter
           rest-after y hy =
-              hy ∙ ap (λ (o : Option ℕ). written o (put at (treeWords (c .automata) v) words) words) (sym rest-fault) ∙
-              ap (λ (u : Bytes). written (composeFault s ended c) (put at (treeWords (c .automata) u) words) words) hv
+              hy ∙ ap (λ (o : Option ℕ). partAfter o c words v room high at) rest-fault ∙
+              ap (λ (u : Bytes). partAfter (composeFault s ended c words room high) c words u room high at) hv
 
 pub ruleset composition-laws = (form-read, form-after, numbers-read, numbers-after, lists-read, lists-after, rest-read, rest-after)
-
--- Where row 3 is not broken, no list has a number above 63, so that A and the cap of A ask the same.
-module _ (A : ℕ) where
-  list-capped : (before t : Bytes) → sound before t ≡ true → listSound (capped A) before t ≡ listSound A before t
-  unfolding items
-  list-capped before t h = go (numeral t) refl
-    where
-      after : (u : Bytes) → numeral t ≡ bare u → (w : Bool) → same before (bytes "syn") ≡ w
-          → _≡_ {A = Bool} (elim w as (λ q. Bool) [ true ↦ rises (capped A) 0 (items u) | false ↦ true ])
-          (elim w as (λ q. Bool) [ true ↦ rises A 0 (items u) | false ↦ true ])
-      after u e true q =
-          let z : sound (bytes "syn") t ≡ true = ap (λ (b : Bytes). sound b t) (sym (same-is before (bytes "syn") q)) ∙ h in
-          rises-capped A 0 (items u) (few-items (parts comma u) (syn-sound t u e z))
-      after u e false q = refl
-
-      go : (x : Numeral) → numeral t ≡ x → listSound (capped A) before t ≡ listSound A before t
-      go unjudged e = list-case (capped A) before t unjudged e ∙ sym (list-case A before t unjudged e)
-      go (bare u) e = list-case (capped A) before t (bare u) e ∙ after u e (same before (bytes "syn")) refl ∙ sym (list-case A before t (bare u) e)
-      go (lettered b u) e = list-case (capped A) before t (lettered b u) e ∙ sym (list-case A before t (lettered b u) e)
-
-  lists-capped : (before : Bytes) (ts : List Bytes) → sounds before ts ≡ true → listsSound (capped A) before ts ≡ listsSound A before ts
-  unfolding listsSound
-  lists-capped before [] h = refl
-  lists-capped before (t ∷ ts) h =
-      let i = sounds-inv before t ts h in
-      ap (λ (v : Bool). elim v as (λ q. Bool) [ true ↦ listsSound (capped A) t ts | false ↦ false ]) (list-capped before t (i .0)) ∙
-      ap (λ (v : Bool). elim (listSound A before t) as (λ q. Bool) [ true ↦ v | false ↦ false ]) (lists-capped t ts (i .1))
-
-  -- row 5 as the code asks it
-  kept-by : (s : Bytes) → sounds [] (tokens s) ≡ true → listsKept (capped A) false (tokens s) ≡ listsSound A [] (tokens s)
-  kept-by s h = lists-sound (capped A) s h ∙ lists-capped [] (tokens s) h
-
--- rows 13, 14 and 16, as the text's tokens break them
-abbrev treeSpelled : Bytes → Option Tree
-treeSpelled s = readTree (readNodes (tokens s))
-
-abbrev treeOr : Option Tree → Tree
-treeOr o = orElse (leaf 0) o
-
-abbrev rowsOfTree : ℕ → Bytes → Option ℕ
-rowsOfTree N s =
-    broken 13 (lacks (treeSpelled s))
-    (broken 14 (isDisordered N (treeOr (treeSpelled s)))
-    (broken 16 (isTooLarge (length (readNodes (tokens s))))
-    none))
-
-abbrev wordsOf : Tree → List ℕ
-wordsOf t = treeSize t ∷ flatMap nodeWords (nodes t)
-
-room : length blank ≡ 192
-room = length-replicate {A = ℕ} 192 0
-
-module _ (N A : ℕ) (s : Bytes) (three : sounds [] (tokens s) ≡ true) (five : listsSound A [] (tokens s) ≡ true) where
-  abbrev its : Composition
-  its = compositionOf N s blank
-
-  tree-rows : treeFault N s ≡ rowsOfTree N s
-  unfolding treeFault treeIn lacks orElse
-  tree-rows = go (treeSpelled s) refl
-    where
-      go : (o : Option Tree) → treeSpelled s ≡ o → rowsBy its ≡ rowsOfTree N s
-      go none e =
-          let f : its .formed ≡ false = read-formed N A s blank three five ∙ ap (λ (o : Option Tree). not (lacks o)) e in
-          is-broken 13 _ _ (ap not f) ∙ sym (is-broken 13 _ _ (ap lacks e))
-      go (some t) e =
-          let f = read-is-formed N A s blank three five t e in
-          let o : not (its .ordered) ≡ isDisordered N t = ap not (read-ordered N A s blank three five t e) ∙ Bool·not-not (isDisordered N t) in
-          let n : its .nodes ≡ length (readNodes (tokens s)) =
-          read-count N A s blank three five t e ∙ sym (read-size N A s blank three five t e) in
-          not-broken 13 _ _ (ap not f) ∙
-          ap (λ (b : Bool). broken 14 b (broken 16 (isTooLarge (its .nodes)) none))
-          (o ∙ ap (λ (x : Option Tree). isDisordered N (treeOr x)) (sym e)) ∙
-          ap (λ (k : ℕ). broken 14 (isDisordered N (treeOr (treeSpelled s))) (broken 16 (isTooLarge k) none)) n ∙
-          sym (not-broken 13 _ _ (ap lacks e))
-
-  -- the words, where the rows of the tree are not broken either
-  tree-words : rowsOfTree N s ≡ none → treeWords N s ≡ wordsOf (treeOr (treeSpelled s))
-  unfolding treeWords treeIn lacks orElse
-  tree-words h = go (treeSpelled s) refl
-    where
-      go : (o : Option Tree) → treeSpelled s ≡ o → its .nodes ∷ take (its .next) (memoryOf N s blank) ≡ wordsOf (treeOr (treeSpelled s))
-      go none e = absurd (true≢false (sym (ap lacks e) ∙ unbroken 13 _ _ h .0))
-      go (some t) e =
-          let b13 = unbroken 13 _ _ h in
-          let b14 = unbroken 14 _ _ (b13 .1) in
-          let b16 = unbroken 16 _ none (b14 .1) in
-          let small : isTooLarge (treeSize t) ≡ false = ap isTooLarge (sym (read-size N A s blank three five t e)) ∙ b16 .0 in
-          ap (λ (k : ℕ). k ∷ take (its .next) (memoryOf N s blank)) (read-count N A s blank three five t e) ∙
-          ap (λ (l : List ℕ). treeSize t ∷ l) (read-words N A s blank three five t e small room) ∙
-          ap (λ (x : Option Tree). wordsOf (treeOr x)) (sym e)
-
-module _ (r : Reading) (c : Counts) (counted : Counted r c) (s : Bytes) (ended : Bool) where
-  abbrev automata : ℕ
-  automata = length (r .model .automata)
-
-  abbrev inRow3 : Bool
-  inRow3 = sounds [] (tokens (partOf s))
-
-  abbrev inRow5 : Bool
-  inRow5 = listsSound (r .model .actions) [] (tokens (partOf s))
-
-  -- the rows of a line `compose=`
-  rows-of : fault r compose (lineOf s ended)
-      ≡ broken 2 (row2 compose (lineOf s ended)) (broken 3 (not inRow3) (broken 5 (not inRow5) (rowsOfTree automata (partOf s))))
-  unfolding
-      fault row3 row4 row5 row6 row7 row8 row9 row10 row11 row12 row13 row14 row15 row16 is place hasPred broken numbersSound field fields
-      valueOf treeTokens nodesIn treeOf theTree spelling
-  rows-of = refl
-
-  -- row 5 and those of the tree, as the code asks them
-  abbrev afterRow3 : Option ℕ
-  afterRow3 = broken 5 (not (listsKept (capped (c .actions)) false (tokens (partOf s)))) (treeFault (c .automata) (partOf s))
-
-  pub compose-fault : composeFault s ended c ≡ fault r compose (lineOf s ended)
-  unfolding composeFault fieldsOf spelling
-  compose-fault =
-      ap (λ (b : Bool). broken 2 b (broken 3 (not inRow3) afterRow3)) (row2-by compose s ended) ∙
-      ap (broken 2 (row2 compose (lineOf s ended))) (same-row 3 _ _ _ _ refl (λ h. later (not-false _ h))) ∙
-      sym rows-of
-    where
-      later : inRow3 ≡ true → afterRow3 ≡ broken 5 (not inRow5) (rowsOfTree automata (partOf s))
-      later h =
-          let e = kept-by (c .actions) (partOf s) h ∙ ap (λ (A : ℕ). listsSound A [] (tokens (partOf s))) (counted .actions) in
-          ap (λ (b : Bool). broken 5 (not b) (treeFault (c .automata) (partOf s))) e ∙
-          same-row 5 (not inRow5) (not inRow5) _ _ refl
-          (λ k. ap (λ (N : ℕ). treeFault N (partOf s)) (counted .automata) ∙ tree-rows automata (r .model .actions) (partOf s) h (not-false _ k))
-
-  words-by : fault r compose (lineOf s ended) ≡ none → treeWords (c .automata) (partOf s) ≡ lineWords (entry compose (lineOf s ended))
-  unfolding entry lineWords theTree treeOf nodesIn treeTokens valueOf spelling
-  words-by h =
-      let b2 = unbroken 2 _ _ (sym rows-of ∙ h) in
-      let b3 = unbroken 3 _ _ (b2 .1) in
-      let b5 = unbroken 5 _ _ (b3 .1) in
-      ap (λ (N : ℕ). treeWords N (partOf s)) (counted .automata) ∙
-      tree-words automata (r .model .actions) (partOf s) (not-false _ (b3 .0)) (not-false _ (b5 .0)) (b5 .1)
-
--- what the paper asks of the reader of one line, for `compose=`
-module _ (r : Reading) (c : Counts) (words : List ℕ) (at : ℕ) (s : Bytes) (ended : Bool) (counted : Counted r c) where
-  pub compose-faulty : (row : ℕ) → fault r compose (lineOf s ended) ≡ some row → composeRead s ended c at ≡ Fault row
-  unfolding composeRead
-  compose-faulty row h = answered-fault (composeFault s ended c) row _ (compose-fault r c counted s ended ∙ h)
-
-  pub compose-sound : fault r compose (lineOf s ended) ≡ none
-      → (composeRead s ended c at
-      ≡ Sound (numberOf (entry compose (lineOf s ended))) (nodesOf (entry compose (lineOf s ended)))
-      (nextPlace at (length (lineWords (entry compose (lineOf s ended))))))
-      × (composeAfter s ended c words at ≡ put at (lineWords (entry compose (lineOf s ended))) words)
-  unfolding composeRead composeAfter entry numberOf nodesOf
-  compose-sound h =
-      let e : composeFault s ended c ≡ none = compose-fault r c counted s ended ∙ h in
-      let w = words-by r c counted s ended h in (
-        answered-sound (composeFault s ended c) _ e ∙ ap (λ (l : List ℕ). Sound 0 0 (nextPlace at (length l))) w,
-        written-sound (composeFault s ended c) _ words e ∙ ap (λ (l : List ℕ). put at l words) w,
-      )

@@ -1,2 +1,3 @@
 pub mod SyncLaws
 pub mod CompositionLaws
+pub mod CompositionRows

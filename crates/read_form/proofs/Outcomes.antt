@@ -4,11 +4,12 @@ use mathlib.Core.Path.{_≡_, refl, _∙_, ap}
 use mathlib.Core.Bool.{Bool, true, false}
 use mathlib.Core.List.{List}
 use mathlib.Core.Option.{Option, none, some}
+use native.Mathlib.Omega.{arith}
 use lib.ListN.{length}
 use Rattle.model.specs.Limits.{broken}
 use Rattle.read_form.specs.declared.LineRead.{LineRead}
 use Rattle.read_form.specs.declared.LineRead.the-variants.{Fault}
-use Rattle.read_form.specs.Outcome.{answered, written}
+use Rattle.read_form.specs.Outcome.{thenRow, answered, written}
 
 -- two rows with the same test, where the later ones need be the same only if it does not hold
 pub same-row : (row : ℕ) (b d : Bool) (x y : Option ℕ) → b ≡ d → (d ≡ false → x ≡ y) → broken row b x ≡ broken row d y
@@ -18,6 +19,21 @@ same-row row b d x y e h = ap (λ (v : Bool). broken row v x) e ∙ go d h
     go : (v : Bool) → (v ≡ false → x ≡ y) → broken row v x ≡ broken row v y
     go true g = refl
     go false g = g refl
+
+-- rows after others
+pub then-broken : (row : ℕ) (b : Bool) (x rest : Option ℕ) → thenRow (broken row b x) rest ≡ broken row b (thenRow x rest)
+unfolding thenRow broken
+then-broken row true x rest = refl
+then-broken row false x rest = refl
+
+pub then-none : (rest : Option ℕ) → thenRow none rest ≡ rest
+unfolding thenRow
+then-none rest = refl
+
+pub first-none : (x rest : Option ℕ) → thenRow x rest ≡ none → x ≡ none
+unfolding thenRow
+first-none none rest e = refl
+first-none (some row) rest e = absurd (let q : _≡_ {A = ℕ} 0 1 = cc in omega arith)
 
 -- the answer, and the buffer then
 module _ (o : Option ℕ) where

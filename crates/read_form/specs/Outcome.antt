@@ -5,6 +5,11 @@ use mathlib.Core.Option.{Option, none, some}
 use Rattle.read_form.specs.declared.LineRead.{LineRead}
 use Rattle.read_form.specs.declared.LineRead.the-variants.{Fault}
 
+-- the row of the first, or else of the rest
+unfoldable pub thenRow : Option ℕ → (rest : Option ℕ) → Option ℕ
+thenRow none rest = rest
+thenRow (some row) rest = some row
+
 unfoldable pub answered : Option ℕ → LineRead → LineRead
 answered none x = x
 answered (some row) x = Fault row

@@ -13,8 +13,10 @@ use Rattle.format.specs.Bytes.{Bytes}
 use Rattle.format.specs.Spelling.{spelling}
 use Rattle.read_form.specs.declared.LineRead.{LineRead}
 use Rattle.read_line.specs.Line.{lineWith, lineWithAfter, lineRead, lineAfter}
+use Rattle.read_predicate_line.specs.Predicate.{mostWords}
 use Rattle.read_predicate_line.proofs.PredicateLaws.{location-room, location-room-after}
 use Rattle.read_predicate_line.proofs.EdgeLaws.{edge-room, edge-room-after}
+use Rattle.read_composition_line.proofs.CompositionRows.{compose-room, compose-room-after}
 
 -- what is read with one key is read with the key that it equals
 module _ (s : Bytes) (ended : Bool) (k : Key) (c : Counts) (words : List ℕ) (at room high : ℕ) where
@@ -42,7 +44,7 @@ module _ (s : Bytes) (ended : Bool) (c : Counts) (words : List ℕ) (at : ℕ) w
     room-same Inv = location-room (spelling Lines.inv) s ended c words at room a b
     room-same Edges = refl
     room-same Edge = edge-room s ended c words at room a b
-    room-same Compose = refl
+    room-same Compose = compose-room s ended c words at room mostWords a b
     room-same End = refl
 
     room-same-after : (k : Key) → lineWithAfter s ended k c words at room room ≡ lineAfter s ended k c words at
@@ -58,7 +60,7 @@ module _ (s : Bytes) (ended : Bool) (c : Counts) (words : List ℕ) (at : ℕ) w
     room-same-after Inv = location-room-after (spelling Lines.inv) s ended c words at room a b
     room-same-after Edges = refl
     room-same-after Edge = edge-room-after s ended c words at room a b
-    room-same-after Compose = refl
+    room-same-after Compose = compose-room-after s ended c words at room mostWords a b
     room-same-after End = refl
 
   module _ (k : Key) where

@@ -18,12 +18,12 @@ use Rattle.read_numbers.specs.declared.range.Bounds.the-variants as Bounds
 use Rattle.read_form.proofs.Outcomes.{written-long}
 use Rattle.read_number_line.specs.Number.{numberAfter, boundsAfter}
 use Rattle.read_composition_line.specs.Sync.{syncFault, syncAfter}
-use Rattle.read_composition_line.specs.Composition.{composeFault, composeAfter}
 use Rattle.read_predicate_line.specs.Predicate.{mostWords}
 use Rattle.read_line.specs.Line.{lineWithAfter, lineAfter}
 use Rattle.table_append.proofs.AppendLaws.{put-kept}
 use Rattle.read_predicate_line.proofs.PredicateRows.{location-kept}
 use Rattle.read_predicate_line.proofs.EdgeRows.{edge-kept}
+use Rattle.read_composition_line.proofs.CompositionRows.{compose-kept}
 
 number-kept : (c : Count) (at : ℕ) (words : List ℕ) → length (numberAfter c at words) ≡ length words
 unfolding numberAfter
@@ -35,14 +35,9 @@ unfolding boundsAfter
 bounds-kept (Bounds.Are low high) at words = put-kept (biased low ∷ biased high ∷ []) at words
 bounds-kept (Bounds.Unsound row) at words = refl
 
-module _ (s : Bytes) (ended : Bool) (c : Counts) (words : List ℕ) (at : ℕ) where
-  pub sync-kept : length (syncAfter s ended c words at) ≡ length words
-  unfolding syncAfter
-  sync-kept = written-long (syncFault s ended c) _ words (put-kept _ at words)
-
-  pub compose-kept : length (composeAfter s ended c words at) ≡ length words
-  unfolding composeAfter
-  compose-kept = written-long (composeFault s ended c) _ words (put-kept _ at words)
+sync-kept : (s : Bytes) (ended : Bool) (c : Counts) (words : List ℕ) (at : ℕ) → length (syncAfter s ended c words at) ≡ length words
+unfolding syncAfter
+sync-kept s ended c words at = written-long (syncFault s ended c) _ words (put-kept _ at words)
 
 pub line-kept : (s : Bytes) (ended : Bool) (k : Key) (c : Counts) (words : List ℕ) (at : ℕ) → length (lineAfter s ended k c words at) ≡ length words
 unfolding lineAfter lineWithAfter
@@ -57,5 +52,5 @@ line-kept s ended Init c words at = location-kept (spelling Lines.init) s ended 
 line-kept s ended Inv c words at = location-kept (spelling Lines.inv) s ended c words mostWords mostWords at
 line-kept s ended Edges c words at = number-kept _ at words
 line-kept s ended Edge c words at = edge-kept s ended c words mostWords mostWords at
-line-kept s ended Compose c words at = compose-kept s ended c words at
+line-kept s ended Compose c words at = compose-kept s ended c words mostWords mostWords at
 line-kept s ended End c words at = refl

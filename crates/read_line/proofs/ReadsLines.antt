@@ -24,7 +24,8 @@ use Rattle.read_form.proofs.Outcomes.{answered-fault, answered-sound, written-s
 use Rattle.read_number_line.proofs.NumberLines.{format-read, format-left, actions-read, actions-left, variables-read, variables-left, automata-read, automata-left, locations-read, locations-left, edges-read, edges-left}
 use Rattle.read_number_line.proofs.RangeLines.{variable-read, variable-left}
 use Rattle.read_composition_line.proofs.SyncLaws.{sync-faulty, sync-sound}
-use Rattle.read_composition_line.proofs.CompositionLaws.{compose-faulty, compose-sound}
+use Rattle.read_composition_line.proofs.CompositionRows.{compose-faulty, compose-sound}
+use Rattle.read_predicate_line.specs.Predicate.{mostWords}
 use Rattle.read_predicate_line.proofs.PredicateRows.{init-of, inv-of, location-faulty, location-sound}
 use Rattle.read_predicate_line.proofs.EdgeRows.{edge-faulty, edge-sound}
 
@@ -42,7 +43,7 @@ module _ (r : Reading) (c : Counts) (words : List ℕ) (at : ℕ) (s : Bytes) (e
   faulty inv row h = location-faulty inv inv-of s ended r c words n d short at row h
   faulty edges row h = edges-read r s ended at words (c .edges) (n .edges) ∙ answered-fault _ row _ h
   faulty edge row h = edge-faulty s ended r c words n d short at row h
-  faulty compose row h = compose-faulty r c words at s ended n row h
+  faulty compose row h = compose-faulty r c words n d s ended mostWords mostWords short short at row h
 
   sound : (k : Key) → fault r k (lineOf s ended) ≡ none
       → (lineRead s ended (codeOf k) c words at ≡ Sound (numberOf (entry k (lineOf s ended))) (nodesOf (entry k (lineOf s ended))) (nextPlace at (length (lineWords (entry k (lineOf s ended))))))
@@ -59,7 +60,7 @@ module _ (r : Reading) (c : Counts) (words : List ℕ) (at : ℕ) (s : Bytes) (e
   sound inv h = location-sound inv inv-of s ended r c words n d short at h
   sound edges h = (edges-read r s ended at words (c .edges) (n .edges) ∙ answered-sound _ _ h, edges-left r s ended at words (c .edges) (n .edges) ∙ written-sound _ _ words h)
   sound edge h = edge-sound s ended r c words n d short at h
-  sound compose h = compose-sound r c words at s ended n h
+  sound compose h = compose-sound r c words n d s ended mostWords mostWords short short at h
 
 pub reads-lines : ReadsLines lineRead lineAfter
 reads-lines =

@@ -42,7 +42,7 @@ lineWith s ended Inv c words at room high = locationRead (spelling Lines.inv) s 
 lineWith s ended Edges c words at room high =
     numberRead (fewEdges (c .edges) (countIn (spelling Lines.edges) 0 maxEdges s ended)) at
 lineWith s ended Edge c words at room high = edgeRead s ended c words room high at
-lineWith s ended Compose c words at room high = composeRead s ended c at
+lineWith s ended Compose c words at room high = composeRead s ended c words room high at
 lineWith s ended End c words at room high = Fault 2
 
 unfoldable pub lineWithAfter : Bytes → (ended : Bool) → Key → Counts → (words : List ℕ) (at room high : ℕ) → List ℕ
@@ -64,7 +64,7 @@ lineWithAfter s ended Inv c words at room high = locationAfter (spelling Lines.i
 lineWithAfter s ended Edges c words at room high =
     numberAfter (fewEdges (c .edges) (countIn (spelling Lines.edges) 0 maxEdges s ended)) at words
 lineWithAfter s ended Edge c words at room high = edgeAfter s ended c words room high at
-lineWithAfter s ended Compose c words at room high = composeAfter s ended c words at
+lineWithAfter s ended Compose c words at room high = composeAfter s ended c words room high at
 lineWithAfter s ended End c words at room high = words
 
 -- and for as many as a text can have

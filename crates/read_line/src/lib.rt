@@ -36,7 +36,15 @@ fn read_with(
         Key::Inv => read_predicate_line::inv(line, ended, counts, words, at, nodes, sorts),
         Key::Edges => read_number_line::edges(line, ended, counts, words, at),
         Key::Edge => read_predicate_line::edge(line, ended, counts, words, at, nodes, sorts),
-        Key::Compose => read_composition_line::composition(line, ended, counts, words, at),
+        Key::Compose => read_composition_line::composition(
+            line,
+            ended,
+            counts,
+            words,
+            at,
+            nodes,
+            sorts,
+        ),
         Key::End => LineRead::Fault(2),
     }
 }

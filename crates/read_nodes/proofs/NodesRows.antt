@@ -212,10 +212,10 @@ pub record Accepted (part : Bytes) (n : ℕ) : Type 0 where
 
 module _ (part : Bytes) (o : Bool) (variables : ℕ) (ranges : List ℕ) (before room high : ℕ) where
   -- each step of the reading went well
-  record Went (n : ℕ) : Type 0 where
-    numbers : sounds [] (tokens part) ≡ true
-    words : answer (codesOf part) room ≡ Words.Read n
-    rows : nodesFault o variables ranges before (codesOf part) ≡ none
+  pub record Went (n : ℕ) : Type 0 where
+    pub numbers : sounds [] (tokens part) ≡ true
+    pub words : answer (codesOf part) room ≡ Words.Read n
+    pub rows : nodesFault o variables ranges before (codesOf part) ≡ none
 
   judged-are : (n : ℕ) → judgedIn o variables ranges before high (codesOf part) ≡ Are n → (nodesFault o variables ranges before (codesOf part) ≡ none) × (n ≡ length (codesOf part))
   unfolding judgedIn
@@ -236,7 +236,7 @@ module _ (part : Bytes) (o : Bool) (variables : ℕ) (ranges : List ℕ) (before
   words-are n s Words.Stray e h = absurd (let z : _≡_ {A = ℕ} 0 1 = cc in omega arith)
   words-are n s Words.Full e h = absurd (let z : _≡_ {A = ℕ} 0 1 = cc in omega arith)
 
-  went : (n : ℕ) → nodesRead part o variables ranges before room high ≡ Are n → Went n
+  pub went : (n : ℕ) → nodesRead part o variables ranges before room high ≡ Are n → Went n
   unfolding nodesRead
   went n h = go (sounds [] (tokens part)) refl h
     where
@@ -276,7 +276,7 @@ module _ (part : Bytes) (o : Bool) (variables : ℕ) (ranges : List ℕ) (before
 
 -- more room than enough changes nothing
 module _ (part : Bytes) (room high : ℕ) (enough : length part ≤ 2 * room) (sorts : length part ≤ 2 * high) where
-  answer-same : (most : ℕ) → length part ≤ 2 * most → answer (codesOf part) room ≡ answer (codesOf part) most
+  pub answer-same : (most : ℕ) → length part ≤ 2 * most → answer (codesOf part) room ≡ answer (codesOf part) most
   unfolding answer count codesOf
   answer-same most l =
       let g = half-as-many part in

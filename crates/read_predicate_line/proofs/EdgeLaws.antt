@@ -20,14 +20,16 @@ use Rattle.read_form.proofs.Outcomes.{answered-fault, answered-sound, written-f
 use Rattle.read_edge.specs.declared.Ends.{Ends}
 use Rattle.read_edge.specs.declared.Ends.the-variants.{Are, Unsound}
 use Rattle.table_append.specs.Append.{nextPlace, put}
+use Rattle.read_form.specs.Outcome.{thenRow}
 use Rattle.read_form.specs.Form.{valueAfter, fieldIn, misformed}
 use Rattle.read_form.proofs.FieldLaws.{field-within}
 use Rattle.read_edge.specs.Edge.{endsSound, endsIn, astray}
 use Rattle.read_edge.proofs.EdgeLaws.{ends-none, EndsOf, ends-some}
 use Rattle.model.proofs.Decode.{is-broken, not-broken}
 use Rattle.read_predicate_line.specs.Predicate.{mostWords, predicateRead, predicateFault, counted, lineTold, lineAfter}
-use Rattle.read_predicate_line.specs.Edge.{thenRow, valueFault, valueWords, valueRead, afterValue, edgeName, edgeFault, edgeRead, edgeAfter}
-use Rattle.read_predicate_line.proofs.PredicateLaws.{told-row, told-full, told-fine, told-size, told-few, told-stand, fault-same, more-next, more-put}
+use Rattle.read_predicate_line.specs.Edge.{valueFault, valueWords, valueRead, afterValue, edgeName, edgeFault, edgeRead, edgeAfter}
+use Rattle.read_predicate_line.proofs.PredicateLaws.{told-row, told-full, told-fine, told-size, told-few, told-stand, fault-same}
+use Rattle.table_append.proofs.Joined.{more-next, more-put}
 
 pub field-long : (i : ℕ) (s : Bytes) → length (fieldIn i (valueAfter edgeName s)) ≤ length s
 field-long i s = omega (arith, field-within i (valueAfter edgeName s), length-drop (length edgeName) s)

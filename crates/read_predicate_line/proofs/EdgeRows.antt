@@ -24,33 +24,20 @@ use Rattle.format.specs.Spelling.{spelling}
 use Rattle.format.specs.Tokens.{tokens, sounds}
 use Rattle.read_form.specs.declared.LineRead.the-variants.{Sound, Fault}
 use Rattle.table_append.specs.Append.{nextPlace, put}
+use Rattle.read_form.specs.Outcome.{thenRow}
 use Rattle.read_form.specs.Form.{lineOf, valueAfter, fieldIn, misformed, fieldsOf}
 use Rattle.read_edge.specs.Edge.{endsSound, astray}
 use Rattle.read_nodes.specs.Nodes.{codesOf}
 use Rattle.read_nodes.specs.Text.{textPred, textFault}
 use Rattle.table_append.proofs.AppendLaws.{put-kept}
-use Rattle.read_form.proofs.Outcomes.{same-row, answered-fault, answered-sound, written-sound, written-long}
+use Rattle.read_form.proofs.Outcomes.{same-row, then-broken, then-none, first-none, answered-fault, answered-sound, written-sound, written-long}
 use Rattle.read_predicate_line.specs.Predicate.{mostWords}
-use Rattle.read_predicate_line.specs.Edge.{thenRow, valueFault, valueWords, edgeName, edgeFault, edgeRead, edgeAfter}
+use Rattle.read_predicate_line.specs.Edge.{valueFault, valueWords, edgeName, edgeFault, edgeRead, edgeAfter}
 use Rattle.read_form.proofs.FormLaws.{row2-by}
 use Rattle.read_predicate_line.proofs.PredicateRows.{predicate-rows, accepted-row, accepted-words}
 use Rattle.read_predicate_line.proofs.EdgeLaws.{field-long}
 
 -- rows after those of a predicate
-then-broken : (row : ℕ) (b : Bool) (x rest : Option ℕ) → thenRow (broken row b x) rest ≡ broken row b (thenRow x rest)
-unfolding thenRow broken
-then-broken row true x rest = refl
-then-broken row false x rest = refl
-
-then-none : (rest : Option ℕ) → thenRow none rest ≡ rest
-unfolding thenRow
-then-none rest = refl
-
-first-none : (x rest : Option ℕ) → thenRow x rest ≡ none → x ≡ none
-unfolding thenRow
-first-none none rest e = refl
-first-none (some row) rest e = absurd (let q : _≡_ {A = ℕ} 0 1 = cc in omega arith)
-
 then-text : (declared : List Range) (before : ℕ) (o : Bool) (part : Bytes) (rest : Option ℕ) → thenRow (textFault declared before o part none) rest ≡ textFault declared before o part rest
 unfolding textFault
 then-text declared before o part rest = simp (then-broken, then-none)

@@ -17,13 +17,13 @@ use Rattle.read_nodes.specs.Nodes.{codesOf, nodesRead, nodesAfter}
 use Rattle.read_form.proofs.Outcomes.{answered-fault, answered-sound, written-fault, written-sound}
 use Rattle.read_nodes.proofs.NodesRows.{accepted, accepted-stands, after-long, room-same}
 use Rattle.read_predicate.specs.Scratch.{Scratch}
+use Rattle.read_predicate.proofs.ScratchLaws.{scratch-same}
 use Rattle.read_form.specs.declared.LineRead.{LineRead}
 use Rattle.read_form.specs.declared.LineRead.the-variants.{Sound, Fault}
 use Rattle.table_append.specs.Append.{nextPlace, put}
 use Rattle.read_form.specs.Form.{valueAfter, misformed}
 use Rattle.model.proofs.Decode.{is-broken, not-broken}
 use Rattle.read_predicate_line.specs.Predicate.{mostWords, predicateRead, rowIn, predicateFault, lineTold, lineAfter, counted, locatedRead, locatedAfter, locationFault, locationRead, locationAfter}
-use Rattle.table_append.proofs.Joined.{next-then, put-then}
 
 -- `predicate`
 pub predicate-by : (part : Bytes) (o : Bool) (c : Counts) (words rs : List ℕ) (room high : ℕ) (r : Nodes) → rs ≡ rangesIn words (c .variables)
@@ -31,10 +31,7 @@ pub predicate-by : (part : Bytes) (o : Bool) (c : Counts) (words rs : List ℕ) 
 unfolding predicateRead
 predicate-by part o c words rs room high r e h = rw (← e) h
 
--- lent memory that nothing was written to, and that of the nodes
-pub scratch-same : {A : Type 0} (old : List A) → Scratch old old
-scratch-same old = record { long = refl }
-
+-- the lent memory of the nodes
 pub scratch-after : (part : Bytes) (old new : List ℕ) → new ≡ nodesAfter part old → Scratch old new
 scratch-after part old new e = record { long = ap (length {A = ℕ}) e ∙ after-long part old }
 
@@ -81,16 +78,6 @@ pub fault-same : (part : Bytes) (o : Bool) (c : Counts) (words : List ℕ) (room
     → predicateFault part o c words room high ≡ predicateFault part o c words most top
 unfolding predicateFault predicateRead
 fault-same part o c words room high most top a b d e = ap rowIn (room-same part room high a b o (c .variables) (rangesIn words (c .variables)) (c .nodes) most top d e)
-
--- a word, and then more
-module _ (at a : ℕ) (ws : List ℕ) (i : ℕ) (hi : i ≡ nextPlace at 1) where
-  pub more-next : (r : ℕ) → r ≡ nextPlace i (length ws) → r ≡ nextPlace at (suc (length ws))
-  more-next r e = e ∙ ap (λ (n : ℕ). nextPlace n (length ws)) hi ∙ next-then at 1 (length ws) ∙ ap (nextPlace at) (omega arith)
-
-  pub more-put : (old mid new : List ℕ) → mid ≡ put at (a ∷ []) old → new ≡ put i ws mid → new ≡ put at (a ∷ ws) old
-  more-put old mid new hm hn = hn ∙ ap (put i ws) hm ∙ ap (λ (n : ℕ). put n ws (put at (a ∷ []) old)) hi ∙ put-then (a ∷ []) at ws old
-
-pub ruleset more-laws = (more-next, more-put)
 
 -- `located`
 module _ (c : Counts) (words : List ℕ) (v : Bytes) (at : ℕ) (old : List ℕ) (high : ℕ) (r : Nodes) (k : r ≡ predicateRead v true c words (length old) high) where

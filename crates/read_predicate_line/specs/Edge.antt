@@ -2,7 +2,7 @@
 use Prim.Native.Nat.{ℕ}
 use mathlib.Core.Bool.{Bool, false, not}
 use mathlib.Core.List.{List, _∷_}
-use mathlib.Core.Option.{Option, none, some}
+use mathlib.Core.Option.{Option, none}
 use lib.ListN.{length}
 use Rattle.model.specs.Limits.{broken}
 use Rattle.line_order.specs.declared.Counts.{Counts}
@@ -10,14 +10,10 @@ use Rattle.format.specs.Bytes.{Bytes, bytes}
 use Rattle.format.specs.Number.{naturalOf}
 use Rattle.read_form.specs.declared.LineRead.{LineRead}
 use Rattle.read_form.specs.Form.{valueAfter, fieldIn, misformed}
+use Rattle.read_form.specs.Outcome.{thenRow}
 use Rattle.read_edge.specs.Edge.{endsSound, astray}
 use Rattle.read_nodes.specs.Nodes.{codesOf}
 use Rattle.read_predicate_line.specs.Predicate.{predicateFault, counted, lineTold, lineAfter}
-
--- the row of the first, or else of the rest
-unfoldable pub thenRow : Option ℕ → (rest : Option ℕ) → Option ℕ
-thenRow none rest = rest
-thenRow (some row) rest = some row
 
 -- what stands after the key, and its rows, with room for so many nodes and sorts
 unfoldable pub valueFault : Counts → (words : List ℕ) (v : Bytes) (room high : ℕ) → Option ℕ

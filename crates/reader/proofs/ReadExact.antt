@@ -12,7 +12,7 @@ use lib.Seq.{drop-append-seam, take-add, take-all, drop-at, length-take-le}
 use lib.Dec.{leb, ltb}
 use Rattle.model.specs.Bounds.{maxBytes, maxVariables, tableWords}
 use Rattle.model.specs.Model.{Model}
-use Rattle.model.specs.Lines.{Key as LineKey, Entry, formatLine, actionsLine, variablesLine, variableLine, automataLine, syncLine, locationsLine, initLine, invLine, edgesLine, edgeLine, composeLine, keyOf, lines, dueAtFirst, thenDue, Reading, atFirst, withModel, withAutomata, withPred, noted}
+use Rattle.model.specs.Lines.{Key as LineKey, Entry, formatLine, actionsLine, variablesLine, variableLine, automataLine, syncLine, locationsLine, initLine, invLine, edgesLine, edgeLine, composeLine, keyOf, lines, dueAtFirst, thenDue, Reading, atFirst, withModel, withAutomata, withPred, withNodes, noted}
 use Rattle.model.specs.Limits.{variableCount, numbersInRange, faultOf, limits}
 use Rattle.model.specs.Table.{lineWords, sheetWords, tableOf}
 use Rattle.model.proofs.LinesLaws.{Follows}
@@ -95,7 +95,7 @@ few-either (suc n) d f count p q = q
 
 few-after : (e : Entry) (d : Due) (r : Reading) (at : ℕ) → Placed (codeOf (keyOf e)) at (variableCount r) → faultOf r e ≡ none → Few (codeOf (keyOf e)) d (variableCount r)
     → Few (dueAfterKey (codeOf (keyOf e)) d (numberOf e) .key) (dueAfterKey (codeOf (keyOf e)) d (numberOf e)) (variableCount (noted r e))
-unfolding dueAfterKey dueAutomata dueLocations dueEdges codeOf keyOf numberOf noted withModel withAutomata withPred variableCount faultOf numbersInRange
+unfolding dueAfterKey dueAutomata dueLocations dueEdges codeOf keyOf numberOf noted withModel withAutomata withPred withNodes variableCount faultOf numbersInRange
 few-after (formatLine n) d r at p f h = h
 few-after (actionsLine n) d r at p f h = h
 few-after (variablesLine n) d r at p f h =
@@ -113,7 +113,7 @@ few-after (composeLine c) d r at p f h = h
 
 -- the ranges declared so far stand among the words so far
 room-after : (e : Entry) (r : Reading) (at : ℕ) → Placed (codeOf (keyOf e)) at (variableCount r) → 2 * variableCount r ≤ at - 3 → 2 * variableCount (noted r e) ≤ (at + length (lineWords e)) - 3
-unfolding codeOf keyOf noted withModel withAutomata withPred variableCount lineWords
+unfolding codeOf keyOf noted withModel withAutomata withPred withNodes variableCount lineWords
 room-after (formatLine n) r at p h = omega arith
 room-after (actionsLine n) r at p h = omega arith
 room-after (variablesLine n) r at p h = omega arith

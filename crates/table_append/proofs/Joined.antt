@@ -77,3 +77,13 @@ pub two-put : (at next a b : ℕ) (old mid new : List ℕ) → next ≡ nextPlac
 two-put at next a b old mid new h k l = l ∙ ap (λ (n : ℕ). put n (b ∷ []) mid) h ∙ ap (put (nextPlace at 1) (b ∷ [])) k ∙ put-then (a ∷ []) at (b ∷ []) old
 
 pub ruleset two-laws = (two-next, two-put)
+
+-- a word, and then more
+module _ (at a : ℕ) (ws : List ℕ) (i : ℕ) (hi : i ≡ nextPlace at 1) where
+  pub more-next : (r : ℕ) → r ≡ nextPlace i (length ws) → r ≡ nextPlace at (suc (length ws))
+  more-next r e = e ∙ ap (λ (n : ℕ). nextPlace n (length ws)) hi ∙ next-then at 1 (length ws) ∙ ap (nextPlace at) (omega arith)
+
+  pub more-put : (old mid new : List ℕ) → mid ≡ put at (a ∷ []) old → new ≡ put i ws mid → new ≡ put at (a ∷ ws) old
+  more-put old mid new hm hn = hn ∙ ap (put i ws) hm ∙ ap (λ (n : ℕ). put n ws (put at (a ∷ []) old)) hi ∙ put-then (a ∷ []) at ws old
+
+pub ruleset more-laws = (more-next, more-put)

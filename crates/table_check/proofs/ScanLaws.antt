@@ -14,13 +14,13 @@ use Rattle.model.specs.Basic.{every, lacks}
 use Rattle.model.specs.Bounds.{maxNodes, tableWords}
 use Rattle.model.specs.Predicate.{Pred, Range, words, nodeCount}
 use Rattle.model.specs.Model.{Model}
-use Rattle.model.specs.Lines.{Key as LineKey, format, actions, variables, variable, automata, sync, locations, init, inv, edges, edge, compose, Entry, formatLine, actionsLine, variablesLine, variableLine, automataLine, syncLine, locationsLine, initLine, invLine, edgesLine, edgeLine, composeLine, keyOf, lines, dueAtFirst, thenDue, Reading, atFirst, withModel, withAutomata, withPred, noted}
+use Rattle.model.specs.Lines.{Key as LineKey, format, actions, variables, variable, automata, sync, locations, init, inv, edges, edge, compose, Entry, formatLine, actionsLine, variablesLine, variableLine, automataLine, syncLine, locationsLine, initLine, invLine, edgesLine, edgeLine, composeLine, keyOf, lines, dueAtFirst, thenDue, Reading, atFirst, withModel, withAutomata, withPred, withNodes, noted}
 use Rattle.model.specs.Limits.{passesNodes, variableCount, predFault, locationFault, contentFault, faultOf, withinLimits, limits}
 use Rattle.model.specs.Lawful.{LawfulRange}
 use Rattle.model.specs.Table.{lineWords, sheetWords, tableOf, row19}
 use Rattle.model.proofs.Tests.{and-intro, and-left, and-right, eq-of}
 use Rattle.model.proofs.Parsing.{none-some, got}
-use Rattle.model.proofs.LimitLines.{variable-line}
+use Rattle.model.proofs.LimitLines.{variable-line, starts-clear}
 use Rattle.model.proofs.LimitsLaws.{lawful-is}
 use Rattle.model.proofs.LinesLaws.{Follows, follow-lines}
 use Rattle.model.proofs.LinesBack.{lines-follow}
@@ -135,7 +135,7 @@ module _ (t : List ℕ) where
       two = rw (drop-drop n 3 t, ← p, w)
 
   declared-after : (r : Reading) (e : Entry) (at : ℕ) (rest : List ℕ) → Placed (codeOf (keyOf e)) at (variableCount r) → faultOf r e ≡ none → drop at t ≡ lineWords e ++ rest → Declared t r → Declared t (noted r e)
-  unfolding noted withModel withAutomata withPred variableCount keyOf codeOf lineWords lacks
+  unfolding noted withModel withAutomata withPred withNodes variableCount keyOf codeOf lineWords lacks
   declared-after r (formatLine n) at rest p f w h = record { lawful = h .lawful; words = h .words }
   declared-after r (actionsLine n) at rest p f w h = record { lawful = h .lawful; words = h .words }
   declared-after r (variablesLine n) at rest p f w h = h
@@ -155,7 +155,7 @@ unfolding predFault passesNodes nodeCount
 pred-nodes r p rest h = ltb-false maxNodes (r .nodes + length (words p)) (unbroken 11 _ _ (unbroken 10 _ _ (unbroken 9 _ _ h .1) .1) .0)
 
 few-nodes : (r : Reading) (e : Entry) → r .nodes ≤ maxNodes → faultOf r e ≡ none → r .nodes + nodesOf e ≤ maxNodes
-unfolding nodesOf faultOf contentFault locationFault
+unfolding nodesOf faultOf contentFault locationFault lacks
 few-nodes r (formatLine n) l f = omega arith
 few-nodes r (actionsLine n) l f = omega arith
 few-nodes r (variablesLine n) l f = omega arith
@@ -167,11 +167,11 @@ few-nodes r (initLine p) l f = pred-nodes r p none (unbroken 8 _ _ (unbroken 7 _
 few-nodes r (invLine p) l f = pred-nodes r p none (unbroken 8 _ _ (unbroken 7 _ _ (unbroken 3 _ _ f .1) .1) .1)
 few-nodes r (edgesLine n) l f = omega arith
 few-nodes r (edgeLine e) l f = pred-nodes r (e .update) _ (unbroken 7 _ _ (unbroken 3 _ _ f .1) .1)
-few-nodes r (composeLine c) l f = omega arith
+few-nodes r (composeLine c) l f = starts-clear r c _ .0 (ap lacks (unbroken 5 _ _ (unbroken 3 _ _ f .1) .1)) .4
 
 -- what a line adds to them
 noted-nodes : (r : Reading) (e : Entry) → noted r e .nodes ≡ r .nodes + nodesOf e
-unfolding nodesOf noted withModel withAutomata withPred
+unfolding nodesOf noted withModel withAutomata withPred withNodes
 noted-nodes r (formatLine n) = omega arith
 noted-nodes r (actionsLine n) = omega arith
 noted-nodes r (variablesLine n) = omega arith

@@ -1,4 +1,4 @@
--- The lines with a predicate: `init`, `inv` and `edge`.
+-- A predicate at a place of a table, and the lines with one: `init`, `inv` and `edge`.
 use Prim.Native.Nat.{ℕ, suc, _+_, _-_, _≤_, _<_}
 use mathlib.Core.Path.{_≡_, refl, sym, ap, ap₂, _∙_}
 use mathlib.Core.Bool.{true, false, not, _&&_, and-eq-true-iff}
@@ -15,7 +15,7 @@ use Rattle.model.specs.Predicate.{Pred, Range, Word, words, depth, nodeCount, a
 use Rattle.model.specs.Model.{Edge}
 use Rattle.model.specs.Lines.{init, inv, edge, initLine, invLine, edgeLine, keyOf, Reading}
 use Rattle.model.specs.Limits.{inRange, numbersInRange, isTooDeep, exceedsSpan, passesNodes, variableCount, locationCount, isAstray, predFault, contentFault, faultOf}
-use Rattle.model.specs.Lawful.{LawfulRange, LawfulPred}
+use Rattle.model.specs.Lawful.{LawfulRange, LawfulPred, LawfulStart}
 use Rattle.model.specs.Table.{code, wordOf, predWords, lineWords}
 use Rattle.model.proofs.Tests.{and-intro, and-left, and-right, or-none, or-none-left, or-none-right}
 use Rattle.model.proofs.Decode.{unbroken, none-lacks, words-back}
@@ -148,38 +148,58 @@ module _ (t : List ℕ) (r : Reading) (c : Counts) (k : Counted r c) (d : Declar
     unfolding predWords nodeCount
     pred-long p = omega (arith, length-map (words p) code)
 
-    -- init and inv
-    location-back : (number nodes next : ℕ) → locationAt t at c ≡ Sound number nodes next → (a : PredAt) × (faultOf r (initLine (a .nodes .pred)) ≡ none) × (Sound 0 (nodeCount (a .nodes .pred)) (at + length (predWords (a .nodes .pred))) ≡ Sound number nodes next)
+    -- A predicate as an init line has it, and an inv line, and each P of an `ini`: no row refuses it, and the answer is
+    -- its count of nodes and the place after it.
+    pub record StateAt (number nodes next : ℕ) : Type 0 where
+      pub pred : Pred
+      pub lawful : LawfulStart (r .model .variables) pred
+      pub few : r .nodes + nodeCount pred ≤ maxNodes
+      pub there : drop at t ≡ predWords pred ++ drop next t
+      pub said : Sound 0 (nodeCount pred) (at + length (predWords pred)) ≡ Sound number nodes next
+
+    pub location-back : (number nodes next : ℕ) → locationAt t at c ≡ Sound number nodes next → StateAt number nodes next
     unfolding locationAt
     location-back number nodes next h =
         let s = when-sound _ _ number nodes next h in
         let b = predicate-back number nodes next (s .1) in
         let p = b .0 .nodes .pred in
-        let old : namesNew (words p) ≡ false = ap namesNew (sym (b .0 .nodes .said)) ∙ not-true _ (s .0) in
-        let size = b .0 .nodes .count in (
-          b .0,
-          none-lacks _ (state-line r p .1 (b .0 .nodes .lawful, old, b .0 .nodes .few)),
-          ap₂ (λ (m n : ℕ). Sound 0 m n) size (sym (pred-long p) ∙ ap (λ (n : ℕ). at + 1 + n) size) ∙ b .1,
-        )
+        let size = b .0 .nodes .count in
+        let end : at + 1 + word t at ≡ next = cc in
+        record {
+          pred = p;
+          lawful = record { pred = b .0 .nodes .lawful; old = ap namesNew (sym (b .0 .nodes .said)) ∙ not-true _ (s .0) };
+          few = b .0 .nodes .few;
+          there = b .0 .there ∙ ap (λ (n : ℕ). predWords p ++ drop n t) end;
+          said = ap₂ (λ (m n : ℕ). Sound 0 m n) size (sym (pred-long p) ∙ ap (λ (n : ℕ). at + 1 + n) size) ∙ b .1;
+        }
+
+    pub location-of : (p : Pred) (rest : List ℕ) → LawfulStart (r .model .variables) p → r .nodes + nodeCount p ≤ maxNodes → drop at t ≡ predWords p ++ rest → locationAt t at c ≡ Sound 0 (nodeCount p) (at + length (predWords p))
+    unfolding locationAt
+    location-of p rest l few e =
+        let s = predicate-of p rest (l .pred) few e in
+        when-true _ (ap (λ (ws : List Word). not (namesNew ws)) (s .words-are) ∙ ap not (l .old)) ∙ s .sound ∙ ap (λ (n : ℕ). Sound 0 (nodeCount p) n) (pred-long p)
+
+    -- init and inv
+    state-mended : {number nodes next : ℕ} (a : StateAt number nodes next) → faultOf r (initLine (a .pred)) ≡ none
+    state-mended a = none-lacks _ (state-line r (a .pred) .1 (a .lawful .pred, a .lawful .old, a .few))
 
     pub init-sound : (number nodes next : ℕ) → locationAt t at c ≡ Sound number nodes next → LineAt t r init at number nodes next
     unfolding keyOf numberOf nodesOf lineWords
     init-sound number nodes next h =
-        let b = location-back number nodes next h in
-        line-at t r (initLine (b .0 .nodes .pred)) at number nodes next _ (b .1) (b .0 .there) (b .2)
+        let a = location-back number nodes next h in
+        line-at t r (initLine (a .pred)) at number nodes next _ (state-mended a) (a .there) (a .said)
 
     pub inv-sound : (number nodes next : ℕ) → locationAt t at c ≡ Sound number nodes next → LineAt t r inv at number nodes next
     unfolding keyOf numberOf nodesOf lineWords faultOf numbersInRange contentFault
     inv-sound number nodes next h =
-        let b = location-back number nodes next h in
-        line-at t r (invLine (b .0 .nodes .pred)) at number nodes next _ (b .1) (b .0 .there) (b .2)
+        let a = location-back number nodes next h in
+        line-at t r (invLine (a .pred)) at number nodes next _ (state-mended a) (a .there) (a .said)
 
-    pub location-of : (p : Pred) (rest : List ℕ) → faultOf r (initLine p) ≡ none → drop at t ≡ predWords p ++ rest → locationAt t at c ≡ Sound 0 (nodeCount p) (at + length (predWords p))
-    unfolding locationAt lacks
-    location-of p rest g e =
+    pub state-of : (p : Pred) (rest : List ℕ) → faultOf r (initLine p) ≡ none → drop at t ≡ predWords p ++ rest → locationAt t at c ≡ Sound 0 (nodeCount p) (at + length (predWords p))
+    unfolding lacks
+    state-of p rest g e =
         let l = state-line r p .0 (ap lacks g) in
-        let s = predicate-of p rest (l .0) (l .2) e in
-        when-true _ (ap (λ (ws : List Word). not (namesNew ws)) (s .words-are) ∙ ap not (l .1)) ∙ s .sound ∙ ap (λ (n : ℕ). Sound 0 (nodeCount p) n) (pred-long p)
+        location-of p rest (record { pred = l .0; old = l .1 }) (l .2) e
 
   -- edges: what the rows ask of one, beside what they ask of its predicate
   abbrev Ends : (from action to : ℕ) → Type 0

@@ -1,5 +1,5 @@
 -- What the words of one line say, on any words: `lineAt`. That it is exact is the law line-exact.
-use Prim.Native.Nat.{ℕ, _+_, _-_, _*_}
+use Prim.Native.Nat.{ℕ, zero, suc, _+_, _-_, _*_}
 use mathlib.Core.Bool.{Bool, true, false, not, cond, _&&_}
 use mathlib.Core.List.{List, map}
 use lib.ListN.{length, getD, take, drop}
@@ -14,7 +14,7 @@ use Rattle.line_order.specs.declared.Key.{Key}
 use Rattle.line_order.specs.declared.Key.the-variants.{Format, Actions, Variables, Variable, Automata, Sync, Locations}
 use Rattle.line_order.specs.declared.Key.the-variants.{Init, Inv, Edges, Edge, Compose, End}
 use Rattle.line_order.specs.declared.Counts.{Counts}
-use Rattle.line_order.specs.Counts.{capped}
+use Rattle.line_order.specs.Counts.{withNodes, capped}
 use Rattle.table_predicate.specs.declared.Walked.{Walked}
 use Rattle.table_predicate.specs.Walk.{walkAt}
 use Rattle.table_predicate.specs.Scan.{isCoded}
@@ -39,9 +39,10 @@ endsSound c from action to =
     (leb from lastLocation && (leb action maxActions && leb to lastLocation)) &&
     (ltb from (c .locations) && (leb action (c .actions) && ltb to (c .locations)))
 
-unfoldable pub ofTree : TreeCheck → Line
-ofTree (TreeCheck.Sound next) = Sound 0 0 next
-ofTree TreeCheck.Bad = Bad
+-- on behind a predicate, with its nodes and the place after it
+unfoldable pub behindPred : (ℕ → ℕ → Line) → Line → Line
+behindPred go (Sound number nodes next) = go nodes next
+behindPred go Bad = Bad
 
 module _ (t : List ℕ) where
   abbrev pub word : ℕ → ℕ
@@ -78,7 +79,7 @@ module _ (t : List ℕ) where
       when (ltb at (length t) && (leb (word at) (length t - (at + 1)) && nodesSound c (at + 1) (word at)))
       (Sound 0 (word at) (at + 1 + word at))
 
-  -- init and inv: row 8 too
+  -- init, inv, and the P of an `ini`: row 8 too
   unfoldable pub locationAt : (at : ℕ) → Counts → Line
   locationAt at c = when (not (namesNew (map wordOf (take (word at) (drop (at + 1) t))))) (predicateAt at c)
 
@@ -89,8 +90,24 @@ module _ (t : List ℕ) where
   edgeAt at c =
       when (ltb (at + 2) (length t) && endsSound c (word at) (word (at + 1)) (word (at + 2))) (predicateAt (at + 3) c)
 
+  -- so many P from `at` on, each as an init line has it, if those before them have `total` nodes
+  unfoldable pub startsFrom : Counts → (count at total : ℕ) → Line
+  startsFrom c zero at total = Sound 0 total at
+  startsFrom c (suc n) at total =
+      behindPred (λ nodes next. startsFrom c n next (total + nodes)) (locationAt at (withNodes c total))
+
+  -- behind a tree with so many `ini`: their number again, and their P
+  unfoldable pub startsAt : Counts → (at inis : ℕ) → Line
+  startsAt c at inis = when (ltb at (length t) && eqb (word at) inis) (startsFrom c inis (at + 1) 0)
+
+  unfoldable pub ofTree : Counts → TreeCheck → Line
+  ofTree c (TreeCheck.Sound next inis) = startsAt c next inis
+  ofTree c TreeCheck.Bad = Bad
+
   unfoldable pub composeAt : (at : ℕ) → Counts → Line
-  composeAt at c = when (leb (c .automata) maxAutomata) (ofTree (treeCheck t at (capped (c .actions)) (c .automata)))
+  composeAt at c =
+      when (leb (c .automata) maxAutomata && leb (c .nodes) maxNodes)
+      (ofTree c (treeCheck t at (capped (c .actions)) (c .automata)))
 
   unfoldable pub lineAt : (at : ℕ) → Key → Counts → Line
   lineAt at Format c = numberAt at firstFormat lastFormat

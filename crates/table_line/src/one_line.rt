@@ -1,15 +1,12 @@
 // One line of a table: do its words say something that no row refuses?
 use crate::Line;
+use crate::composition::{self};
+use crate::predicates::{self};
 use line_order::Counts;
 use line_order::Key;
 use model::Model;
-use table_predicate::Walked;
-use table_tree::TreeCheck;
 ghost use mathlib.Core.Path.{_≡_};
-ghost use mathlib.Core.List.{[]};
-ghost use Prim.Native.Nat.{_+_};
-ghost use Rattle.table_line.specs.Line.{numberAt, variableAt, syncAt, rangesIn, walkedTo, nodesSound};
-ghost use Rattle.table_line.specs.Line.{predicateAt, locationAt, edgesAt, endsSound, edgeAt, composeAt, lineAt};
+ghost use Rattle.table_line.specs.Line.{numberAt, variableAt, syncAt, edgesAt, endsSound, edgeAt, lineAt};
 
 // A number from least to most.
 fn number(t: &[u32], at: usize, least: usize, most: usize) -> Line
@@ -66,81 +63,6 @@ fn sync(t: &[u32], at: usize, actions: usize) -> Line
     }
 }
 
-// The words of the first ranges, which stand from word 3 on, as far as they are there.
-pub fn ranges(t: &[u32], variables: usize) -> &[u32]
-    ensures { λ r. ⌜ now r ≡ rangesIn (now (t .entry)) variables ⌝ }
-{
-    if t.len() < 3 {
-        return &t[..0];
-    }
-    if (t.len() - 3) / 2 < variables {
-        return &t[3..];
-    }
-    &t[3..3 + 2 * variables]
-}
-
-// The walk over n nodes from `start` on went well and ended after them.
-fn walked_to(walk: Walked, start: usize, n: usize) -> bool
-    ensures { λ r. ⌜ r ≡ walkedTo walk (start + n) ⌝ }
-{
-    let next = walk.next;
-    if next < start {
-        return false;
-    }
-    walk.sound & (!walk.deep & (!walk.leaves & (next - start == n)))
-}
-
-// n nodes from `start` on: rows 3, 7, 6 with 9 and 10, and 11.
-fn nodes_sound(t: &[u32], start: usize, n: usize, counts: Counts) -> bool
-    ensures { λ r. ⌜ r ≡ nodesSound (now (t .entry)) counts start n ⌝ }
-{
-    if !table_predicate::scan::ranged(t, start, n) {
-        return false;
-    }
-    let v = counts.variables;
-    if table_predicate::scan::names_outside(t, start, n, v) {
-        return false;
-    }
-    let w = table_predicate::walk(t, start, ranges(t, v));
-    if !walked_to(w, start, n) {
-        return false;
-    }
-    let before = counts.nodes;
-    arithmetic::fits(before, n, Model::NODES)
-}
-
-// A predicate: its count of nodes, and the nodes.
-fn predicate(t: &[u32], at: usize, counts: Counts) -> Line
-    ensures { λ r. ⌜ r ≡ predicateAt (now (t .entry)) at counts ⌝ }
-{
-    if t.len() <= at {
-        return Line::Bad;
-    }
-    let n = arithmetic::index(t[at]);
-    if t.len() - (at + 1) < n {
-        return Line::Bad;
-    }
-    if nodes_sound(t, at + 1, n, counts) {
-        Line::Sound(0, n, at + 1 + n)
-    } else {
-        Line::Bad
-    }
-}
-
-// A predicate on a location's values, where no new ones are: row 8 too.
-fn location(t: &[u32], at: usize, counts: Counts) -> Line
-    ensures { λ r. ⌜ r ≡ locationAt (now (t .entry)) at counts ⌝ }
-{
-    if t.len() <= at {
-        return Line::Bad;
-    }
-    let n = arithmetic::index(t[at]);
-    if table_predicate::scan::names_new(t, at + 1, n) {
-        return Line::Bad;
-    }
-    predicate(t, at, counts)
-}
-
 // How many edges: row 15.
 fn edges(t: &[u32], at: usize, counts: Counts) -> Line
     ensures { λ r. ⌜ r ≡ edgesAt (now (t .entry)) at counts ⌝ }
@@ -184,23 +106,7 @@ fn edge(t: &[u32], at: usize, counts: Counts) -> Line
     if !ends_sound(counts, from, action, to) {
         return Line::Bad;
     }
-    predicate(t, at + 3, counts)
-}
-
-// The composition.
-fn compose(t: &[u32], at: usize, counts: Counts) -> Line
-    ensures { λ r. ⌜ r ≡ composeAt (now (t .entry)) at counts ⌝ }
-{
-    let n = counts.automata;
-    if Model::AUTOMATA < n {
-        return Line::Bad;
-    }
-    let a = counts.actions;
-    let c = table_tree::check(t, at, line_order::capped(a), n);
-    match c {
-        TreeCheck::Sound(next) => Line::Sound(0, 0, next),
-        TreeCheck::Bad => Line::Bad,
-    }
+    predicates::predicate(t, at + 3, counts)
 }
 
 // The line with this key whose words begin at `at`.
@@ -218,11 +124,11 @@ pub fn read(t: &[u32], at: usize, key: Key, counts: Counts) -> Line
             sync(t, at, a)
         }
         Key::Locations => number(t, at, 1, Model::LOCATIONS),
-        Key::Init => location(t, at, counts),
-        Key::Inv => location(t, at, counts),
+        Key::Init => predicates::location(t, at, counts),
+        Key::Inv => predicates::location(t, at, counts),
         Key::Edges => edges(t, at, counts),
         Key::Edge => edge(t, at, counts),
-        Key::Compose => compose(t, at, counts),
+        Key::Compose => composition::compose(t, at, counts),
         Key::End => Line::Bad,
     }
 }

@@ -1,5 +1,5 @@
 -- Each way out of the code of src/lib.rt and src/parts.rt.
-use mathlib.Core.Path.{_≡_, refl, sym}
+use mathlib.Core.Path.{_≡_, refl, sym, ap, _∙_}
 use mathlib.Core.List.{List}
 use Prim.Native.Nat.{ℕ, zero, suc, _+_, _-_, _≤_, _<_}
 use native.Mathlib.Omega.{arith}
@@ -118,6 +118,15 @@ pub predicate-is : (t : List ℕ) (at a n r : ℕ) → a ≡ nodesPlace t at →
 unfolding afterPredicate
 predicate-is t at a n r e f g = rw (g, e, f)
 
+-- A walk of so many steps, as a loop makes it: after one of them it goes on to the same end.
+module _ (walk : (at k : ℕ) → ℕ) (step : ℕ → ℕ) (later : (at k : ℕ) → walk at (suc k) ≡ walk (step at) k) (next left whole : ℕ) (inv : walk next left ≡ whole) where
+  pub one-on : (left ≡ 0 → ⊥) → (b : ℕ) → b ≡ step next → walk b (left - 1) ≡ whole
+  one-on y b e = go left y inv
+    where
+      go : (m : ℕ) → (m ≡ 0 → ⊥) → walk next m ≡ whole → walk b (m - 1) ≡ whole
+      go zero u i = absurd (u refl)
+      go (suc m) u i = rw (sub-one (suc m), e) (sym (later next m) ∙ i)
+
 -- `location_at`
 module _ (t : List ℕ) (next left whole : ℕ) (inv : locationAt t next left ≡ whole) where
   pub location-done : left ≡ 0 → next ≡ whole
@@ -126,11 +135,7 @@ module _ (t : List ℕ) (next left whole : ℕ) (inv : locationAt t next left �
 
   pub location-step : (left ≡ 0 → ⊥) → (a b : ℕ) → a ≡ afterPredicate t next → b ≡ afterPredicate t a → locationAt t b (left - 1) ≡ whole
   unfolding locationAt
-  location-step y a b e f = go left y inv
-    where
-      go : (m : ℕ) → (m ≡ 0 → ⊥) → locationAt t next m ≡ whole → locationAt t b (m - 1) ≡ whole
-      go zero u i = absurd (u refl)
-      go (suc m) u i = rw (sub-one (suc m), f, e) i
+  location-step y a b e f = one-on (locationAt t) (λ at. afterPredicate t (afterPredicate t at)) (λ at k. refl) next left whole inv y b (f ∙ ap (afterPredicate t) e)
 
 pub ruleset location-laws = (location-done, location-step)
 
@@ -142,11 +147,7 @@ module _ (t : List ℕ) (next left whole : ℕ) (inv : edgeAt t next left ≡ wh
 
   pub edge-step : (left ≡ 0 → ⊥) → (a b : ℕ) → a ≡ updatePlace t next → b ≡ afterPredicate t a → edgeAt t b (left - 1) ≡ whole
   unfolding edgeAt
-  edge-step y a b e f = go left y inv
-    where
-      go : (m : ℕ) → (m ≡ 0 → ⊥) → edgeAt t next m ≡ whole → edgeAt t b (m - 1) ≡ whole
-      go zero u i = absurd (u refl)
-      go (suc m) u i = rw (sub-one (suc m), f, e) i
+  edge-step y a b e f = one-on (edgeAt t) (λ at. afterPredicate t (updatePlace t at)) (λ at k. refl) next left whole inv y b (f ∙ ap (afterPredicate t) e)
 
 pub ruleset edge-laws = (edge-done, edge-step)
 

@@ -9,13 +9,14 @@ use lib.Seq.{sets, sets-eq}
 use Rattle.model.specs.Bounds.{maxAutomata, maxVariables}
 use Rattle.model.specs.Model.{Model}
 use Rattle.model.specs.Lawful.{Lawful}
-use Rattle.model.specs.Table.{sheetWords}
+use Rattle.model.specs.Lines.{composeLine}
+use Rattle.model.specs.Table.{lineWords, sheetWords}
 use Rattle.table_places.specs.declared.layout.Layout.{Layout}
 use Rattle.table_places.specs.AtMost.{atMost}
 use Rattle.table_places.specs.Outline.{actionsIn, variablesIn, automataIn, firstAutomaton, firstEdge, edgeAt, edgesAt, afterAutomaton, passed, automatonAt, treeAt}
 use Rattle.table_places.specs.Layout.{placesFrom, inArray, layoutOf, automataOf, variablesOf}
 use Rattle.table_places.proofs.CodeLaws.{at-most-all, automaton-is}
-use Rattle.table_places.proofs.OutlineLaws.{variables-in, automata-in}
+use Rattle.table_places.proofs.OutlineLaws.{variables-in, automata-in, tree-at}
 
 -- `layout_of`: what is noted so far, and what is to come
 pub record Laying (t : List ℕ) (count k at : ℕ) (ss es : List ℕ) : Type 0 where
@@ -171,3 +172,6 @@ module _ (m : Model) (lawful : Lawful m) (t rest : List ℕ) (e : t ≡ sheetWor
   pub tree-place : layoutOf t .tree ≡ treeAt t
   unfolding layoutOf treeAt automatonAt
   tree-place = rw (counted, automata-in t rest m e)
+
+  pub tree-line : drop (layoutOf t .tree) t ≡ lineWords (composeLine (m .tree)) ++ rest
+  tree-line = ap (λ (i : ℕ). drop i t) tree-place ∙ tree-at t rest m e

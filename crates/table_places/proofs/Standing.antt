@@ -3,13 +3,13 @@ use mathlib.Core.Path.{_≡_, refl, ap, _∙_}
 use mathlib.Core.List.{List, [], _∷_, _++_, append-assoc, map, flatMap}
 use Prim.Native.Nat.{ℕ, zero, suc, _≤_, _<_}
 use native.Mathlib.Omega.{arith}
-use lib.ListN.{length, getD, drop}
-use lib.Seq.{drop-cons}
-use Rattle.model.specs.Composition.{treeSize}
+use lib.ListN.{length, getD, take, drop}
+use lib.Seq.{drop-cons, take-at}
+use Rattle.model.specs.Composition.{Tree, treeSize}
 use Rattle.model.specs.Predicate.{Range}
 use Rattle.model.specs.Model.{Location, Edge, Automaton, Model, nowhere, nobody, automaton}
 use Rattle.model.specs.Lines.{variableLine, edgeLine, composeLine, locationLines, automatonLines}
-use Rattle.model.specs.Table.{predWords, lineWords, sheetWords}
+use Rattle.model.specs.Table.{predWords, startWords, lineWords, sheetWords}
 use Rattle.table_tree.specs.Nodes.{treeWords}
 use Rattle.table_places.specs.Outline.{reach, nodesPlace, afterPredicate, updatePlace, locationCount, firstLocation, firstEdge, locationAt, edgeAt, edgesAt, afterAutomaton, variablesIn, rangeAt, countAt, automataIn, firstAutomaton, passed, automatonAt, treeAt}
 use Rattle.table_places.proofs.OutlineLaws.{reach-inside, reached, afterRanges, range-at, tree-at, after-predicate, words-append, wordsOf, locationWords, edgeWords, automatonWords, location-at, edge-at, automaton-at}
@@ -62,10 +62,19 @@ range-stands t rest m k d h e =
     range-at t rest m e k l ∙ ap (λ (r : List Range). wordsOf (map variableLine r) ++ afterRanges t rest m e) (drop-cons vs k d h) ∙
     append-assoc (lineWords (variableLine (getD vs k d))) (wordsOf (map variableLine (drop (suc k) vs))) (afterRanges t rest m e)
 
--- the tree's nodes
-pub tree-stands : (t rest : List ℕ) (m : Model) → t ≡ sheetWords m ++ rest → drop (nodesPlace t (treeAt t)) t ≡ treeWords (m .tree) ++ rest
-unfolding nodesPlace lineWords
-tree-stands t rest m e = reached t (treeAt t) 1 (treeSize (m .tree) ∷ []) (treeWords (m .tree) ++ rest) (tree-at t rest m e) refl
+-- the nodes of the tree that stands at a place: behind them stand its start conditions
+module _ (t rest : List ℕ) (c : Tree) (at : ℕ) (e : drop at t ≡ lineWords (composeLine c) ++ rest) where
+  pub tree-nodes : drop (nodesPlace t at) t ≡ treeWords c ++ (startWords c ++ rest)
+  unfolding nodesPlace lineWords
+  tree-nodes =
+      reached t at 1 (treeSize c ∷ []) ((treeWords c ++ startWords c) ++ rest) e refl ∙ append-assoc (treeWords c) (startWords c) rest
+
+  pub tree-begins : take (length (treeWords c)) (drop (nodesPlace t at) t) ≡ treeWords c
+  tree-begins = ap (take (length (treeWords c))) tree-nodes ∙ take-at (treeWords c) (startWords c ++ rest) (length (treeWords c)) refl
+
+pub tree-stands : (t rest : List ℕ) (m : Model) → t ≡ sheetWords m ++ rest
+    → drop (nodesPlace t (treeAt t)) t ≡ treeWords (m .tree) ++ (startWords (m .tree) ++ rest)
+tree-stands t rest m e = tree-nodes t rest (m .tree) (treeAt t) (tree-at t rest m e)
 
 -- no place is past the end
 module _ (t : List ℕ) where

@@ -2,3 +2,4 @@ pub mod AtMost
 pub mod Outline
 pub mod Layout
 pub mod Own
+pub mod Starts

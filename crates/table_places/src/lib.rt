@@ -3,6 +3,7 @@
 mod layout;
 mod own;
 mod parts;
+mod starts;
 
 pub use layout::Layout;
 pub use layout::automata_of;
@@ -26,6 +27,10 @@ pub use parts::set_high;
 pub use parts::set_low;
 pub use parts::update_at;
 pub use parts::variables;
+pub use starts::first_start;
+pub use starts::start_at;
+pub use starts::start_count;
+pub use starts::starts_at;
 ghost use mathlib.Core.Path.{_≡_};
 ghost use Prim.Native.Nat.{_≤_};
 ghost use lib.ListN.{getD};

@@ -6,3 +6,4 @@ pub mod MemberLaws
 pub mod Standing
 pub mod Sound
 pub mod Inside
+pub mod Given

@@ -1,6 +1,6 @@
 -- Sets of actions: two words, one word and the list that they stand for.
 use mathlib.Core.Path.{_≡_, refl, sym, ap, ap₂, _∙_}
-use mathlib.Core.Bool.{Bool, true, false, not, _&&_, and-false, true≢false}
+use mathlib.Core.Bool.{Bool, true, false, _&&_, and-false, true≢false}
 use mathlib.Core.List.{List, [], _∷_, _++_}
 use Prim.Native.Nat.{ℕ, zero, suc, _+_, _-_, _*_, _/_, _%_, _^_, _≤_, _<_}
 use native.Mathlib.Omega.{arith}
@@ -15,7 +15,7 @@ use Rattle.model.specs.Table.{lowBits, highBits, setWords, bit, setOf}
 use Rattle.model.proofs.Tests.{and-intro, and-left, and-right, both-ways}
 use Rattle.model.proofs.Lists.{keep-append, keep-first, keep-skip, keep-same, member-keep, member-count, count-last}
 use Rattle.model.proofs.Bits.{rises-cons}
-use Rattle.table_tree.specs.Sets.{oneWord, filled}
+use Rattle.table_tree.specs.Sets.{oneWord, unfilled}
 
 -- what is kept of the numbers from n on, by the tests of those numbers alone
 pub keep-alike : (f g : ℕ → Bool) (n c : ℕ) → ((k : ℕ) → n ≤ k → k < n + c → f k ≡ g k) → keep f (countUp n c) ≡ keep g (countUp n c)
@@ -216,27 +216,26 @@ module _ (low high : ℕ) (l : low < 4294967296) (u : high < 4294967296) (one : 
   pub words-member : (a : ℕ) (r : Bool) → r ≡ bit one a → r ≡ member a (setOf low high)
   words-member a r h = h ∙ set-member a
 
-  -- the ways out of `set_filled` and `set_sound`
-  pub set-filled-is : not (eqb one 0) ≡ filled (setOf low high)
-  unfolding filled oneWord setWords lowBits highBits
-  set-filled-is = go (setOf low high) refl (eqb one 0) refl
+  -- the ways out of `unfilled` and `set_sound`
+  pub unfilled-one : one ≡ 0 → 1 ≡ unfilled (setOf low high)
+  unfolding oneWord unfilled
+  unfilled-one z =
+      let a : low ≡ 0 = omega arith in
+      let b : high ≡ 0 = omega arith in
+      let n : setOf 0 0 ≡ [] = unfold setOf keep countUp bit in refl in
+      sym (ap₂ (λ x y. unfilled (setOf x y)) a b ∙ ap unfilled n)
+
+  pub unfilled-none : (one ≡ 0 → ⊥) → 0 ≡ unfilled (setOf low high)
+  unfolding oneWord unfilled setWords lowBits highBits
+  unfilled-none z = go (setOf low high) refl
     where
-      go : (list : List ℕ) → setOf low high ≡ list → (b : Bool) → eqb one 0 ≡ b → not b ≡ filled list
-      go [] e true q = refl
-      go [] e false q =
+      go : (list : List ℕ) → setOf low high ≡ list → 0 ≡ unfilled list
+      go [] e =
           let w : 0 ∷ 0 ∷ [] ≡ low ∷ high ∷ [] = ap setWords (sym e) ∙ words-back low high l u in
           let a : 0 ≡ low = cc in
           let b : 0 ≡ high = cc in
-          absurd (eqb-false one 0 q (omega arith))
-      go (k ∷ ks) e true q =
-          let z = eqb-true one 0 q in
-          let a : low ≡ 0 = omega arith in
-          let b : high ≡ 0 = omega arith in
-          let w : setOf 0 0 ≡ k ∷ ks = rw (a, b) at e in
-          let n : setOf 0 0 ≡ [] = unfold setOf keep countUp bit in refl in
-          let c : _≡_ {A = ℕ} 0 1 = cc in
-          absurd (omega arith)
-      go (k ∷ ks) e false q = refl
+          absurd (z (omega arith))
+      go (k ∷ ks) e = refl
 
   module _ (A : ℕ) where
     sound-rest : bit one 0 ≡ false → rises A 0 (setOf low high) ≡ every (λ k. leb k A) (keep (bit one) (countUp 1 63))
@@ -284,6 +283,8 @@ module _ (low high : ℕ) (l : low < 4294967296) (u : high < 4294967296) (one : 
             clear : (k : ℕ) → A + 1 ≤ k → k < 64 → (b : Bool) → bit one k ≡ b → (bit one k ≡ true → leb k A ≡ true) → b ≡ false
             clear k a c true e all = let g = leb-true k A (all e) in absurd (omega arith)
             clear k a c false e all = refl
+
+pub ruleset unfilled-laws = (unfilled-one, unfilled-none)
 
 pub ruleset sound-laws = (sound-odd, sound-all, sound-above)
 

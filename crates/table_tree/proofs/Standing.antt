@@ -5,7 +5,8 @@ use Prim.Native.Nat.{ℕ, suc, _+_, _-_, _≤_}
 use native.Mathlib.Omega.{arith}
 use lib.ListN.{length, drop, take, length-append, take-append-drop}
 use Rattle.model.specs.Bounds.{maxTreeNodes}
-use Rattle.model.specs.Composition.{Tree, par, syn, leaf, nodes, treeSize}
+use Rattle.model.specs.Predicate.{Pred}
+use Rattle.model.specs.Composition.{Tree, par, syn, ini, leaf, nodes, treeSize}
 use Rattle.model.specs.Table.{lowBits, highBits, setWords, nodeWords}
 use Rattle.model.proofs.Lists.{flat-append}
 use Rattle.table_tree.specs.declared.nodes.Found.{Found}
@@ -21,6 +22,11 @@ pub words-syn : (list : List ℕ) (c : Tree) → treeWords (syn list c) ≡ 1 �
 unfolding flatMap nodes nodeWords setWords
 words-syn list c = refl
 
+-- an `ini` has the words of a `syn` with no action
+pub words-ini : (p : Pred) (c : Tree) → treeWords (ini p c) ≡ treeWords (syn [] c)
+unfolding flatMap nodes nodeWords
+words-ini p c = refl
+
 pub words-leaf : (k : ℕ) → treeWords (leaf k) ≡ (2 + k) ∷ []
 unfolding flatMap nodes nodeWords
 words-leaf k = refl
@@ -31,6 +37,9 @@ length-par c d = ap length (words-par c d) ∙ simp length-append (omega arith)
 pub length-syn : (list : List ℕ) (c : Tree) → length (treeWords (syn list c)) ≡ 3 + length (treeWords c)
 length-syn list c = ap length (words-syn list c) ∙ omega arith
 
+pub length-ini : (p : Pred) (c : Tree) → length (treeWords (ini p c)) ≡ 3 + length (treeWords c)
+length-ini p c = ap length (words-ini p c) ∙ length-syn [] c
+
 pub size-par : (c d : Tree) → treeSize (par c d) ≡ suc (treeSize c + treeSize d)
 unfolding treeSize nodes
 size-par c d = ap suc (length-append (nodes c) (nodes d))
@@ -38,6 +47,10 @@ size-par c d = ap suc (length-append (nodes c) (nodes d))
 pub size-syn : (list : List ℕ) (c : Tree) → treeSize (syn list c) ≡ suc (treeSize c)
 unfolding treeSize nodes
 size-syn list c = refl
+
+pub size-ini : (p : Pred) (c : Tree) → treeSize (ini p c) ≡ suc (treeSize c)
+unfolding treeSize nodes
+size-ini p c = refl
 
 pub size-leaf : (k : ℕ) → treeSize (leaf k) ≡ 1
 unfolding treeSize nodes
@@ -70,6 +83,9 @@ module _ (w : List ℕ) (at : ℕ) (rest : List ℕ) where
       let all : drop at w ≡ 1 ∷ lowBits list ∷ highBits list ∷ (treeWords c ++ rest) = e ∙ ap (λ l. l ++ rest) (words-syn list c) in
       record { node = rw all; next = later w (1 ∷ lowBits list ∷ highBits list ∷ []) at 3 (treeWords c ++ rest) all refl }
 
+  pub ini-stands : (p : Pred) (c : Tree) → drop at w ≡ treeWords (ini p c) ++ rest → SynStands [] c
+  ini-stands p c e = syn-stands [] c (e ∙ ap (λ l. l ++ rest) (words-ini p c))
+
   pub leaf-stands : (k : ℕ) → drop at w ≡ treeWords (leaf k) ++ rest → nodeAt w at ≡ Leaf k (at + 1)
   unfolding nodeAt nodeIn
   leaf-stands k e =
@@ -83,6 +99,16 @@ module _ (w : List ℕ) where
   pass left owed at f e =
       let one : suc left - 1 ≡ left = omega arith in
       sym (rw one at (skip-step w (suc left) (suc owed) at (skipFrom w (suc left) (suc owed) at) refl (omega arith) (omega arith) f (sym e) (owing f (suc owed)) (after f at) refl refl))
+
+  -- one under a `syn` or an `ini`, with the node that stands over it
+  over : (list : List ℕ) (c d : Tree) (left owed at : ℕ) (rest : List ℕ) → SynStands w at rest list c → treeSize d ≡ suc (treeSize c) → length (treeWords d) ≡ 3 + length (treeWords c) → skipFrom w (treeSize c + left) (suc owed) (at + 3) ≡ skipFrom w left owed (at + 3 + length (treeWords c)) → skipFrom w (treeSize d + left) (suc owed) at ≡ skipFrom w left owed (at + length (treeWords d))
+  unfolding owing after
+  over list c d left owed at rest s size long below =
+      let n : treeSize d + left ≡ suc (treeSize c + left) = omega arith in
+      let z : at + 3 + length (treeWords c) ≡ at + length (treeWords d) = omega arith in
+      ap (λ m. skipFrom w m (suc owed) at) n ∙ pass (treeSize c + left) owed at (Syn (lowBits list) (highBits list) (at + 3)) (s .node)
+      ∙ below
+      ∙ ap (skipFrom w left owed) z
 
   passed : (c : Tree) (left owed at : ℕ) (rest : List ℕ) → drop at w ≡ treeWords c ++ rest → skipFrom w (treeSize c + left) (suc owed) at ≡ skipFrom w left owed (at + length (treeWords c))
   unfolding owing after
@@ -98,11 +124,10 @@ module _ (w : List ℕ) where
       ∙ ap (skipFrom w left owed) z
   passed (syn list c) left owed at rest e =
       let s = syn-stands w at rest list c e in
-      let n : treeSize (syn list c) + left ≡ suc (treeSize c + left) = omega (arith, size-syn list c) in
-      let z : at + 3 + length (treeWords c) ≡ at + length (treeWords (syn list c)) = omega (arith, length-syn list c) in
-      ap (λ m. skipFrom w m (suc owed) at) n ∙ pass (treeSize c + left) owed at (Syn (lowBits list) (highBits list) (at + 3)) (s .node)
-      ∙ passed c left owed (at + 3) rest (s .next)
-      ∙ ap (skipFrom w left owed) z
+      over list c (syn list c) left owed at rest s (size-syn list c) (length-syn list c) (passed c left owed (at + 3) rest (s .next))
+  passed (ini p c) left owed at rest e =
+      let s = ini-stands w at rest p c e in
+      over [] c (ini p c) left owed at rest s (size-ini p c) (length-ini p c) (passed c left owed (at + 3) rest (s .next))
   passed (leaf k) left owed at rest e =
       let n : treeSize (leaf k) + left ≡ suc left = omega (arith, size-leaf k) in
       let o : suc owed - 1 ≡ owed = omega arith in

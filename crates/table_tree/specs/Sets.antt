@@ -1,5 +1,4 @@
 -- Sets of actions as words.
-use mathlib.Core.Bool.{Bool, true, false}
 use mathlib.Core.List.{List, [], _∷_}
 use Prim.Native.Nat.{ℕ, _+_, _*_, _^_}
 
@@ -7,6 +6,7 @@ use Prim.Native.Nat.{ℕ, _+_, _*_, _^_}
 unfoldable pub oneWord : (low high : ℕ) → ℕ
 oneWord low high = high * 2 ^ 32 + low
 
-unfoldable pub filled : List ℕ → Bool
-filled [] = false
-filled (k ∷ ks) = true
+-- how many `ini` a node with this set is
+unfoldable pub unfilled : List ℕ → ℕ
+unfilled [] = 1
+unfilled (k ∷ ks) = 0

@@ -7,38 +7,45 @@ ghost use Prim.Native.Nat.{_≤_};
 ghost use Rattle.table_tree.specs.Nodes.{nodeAt};
 ghost use Rattle.table_tree.specs.Checked.{stepOf, checkFrom, treeCheck};
 
-// Sound has the place after the tree.
+// Sound has the place after the tree's nodes, and how many of them are `ini`.
 pub enum TreeCheck {
-    Sound(usize),
+    Sound(usize, usize),
     Bad,
 }
 
-// After a node: the place, how many subtrees are owed, and how many leaves there were.
+// After a node: the place, how many subtrees are owed, and how many leaves and `ini` there were.
 enum Step {
-    On(usize, usize, usize),
+    On(usize, usize, usize, usize),
     Off,
 }
 
-fn one_node(words: &[u32], actions: u32, next: usize, owed: usize, leaves: usize) -> Step
-    requires { ⌜ (owed ≤ 4294967296) × (leaves ≤ 4294967296) ⌝ }
-    ensures { λ r. ⌜ r ≡ stepOf actions owed leaves (nodeAt (now (words .entry)) next) ⌝ }
+fn one_node(
+    words: &[u32],
+    actions: u32,
+    next: usize,
+    owed: usize,
+    leaves: usize,
+    inis: usize,
+) -> Step
+    requires { ⌜ (owed ≤ 4294967296) × (leaves ≤ 4294967296) × (inis ≤ 4294967296) ⌝ }
+    ensures { λ r. ⌜ r ≡ stepOf actions owed leaves inis (nodeAt (now (words .entry)) next) ⌝ }
 {
     if owed == 0 {
         return Step::Off;
     }
     let f = nodes::node_at(words, next);
     match f {
-        Found::Par(after) => Step::On(after, owed + 1, leaves),
+        Found::Par(after) => Step::On(after, owed + 1, leaves, inis),
         Found::Syn(low, high, after) => {
-            if sets::set_sound(low, high, actions) & sets::set_filled(low, high) {
-                Step::On(after, owed, leaves)
+            if sets::set_sound(low, high, actions) {
+                Step::On(after, owed, leaves, inis + sets::unfilled(low, high))
             } else {
                 Step::Off
             }
         }
         Found::Leaf(k, after) => {
             if k == leaves {
-                Step::On(after, owed - 1, leaves + 1)
+                Step::On(after, owed - 1, leaves + 1, inis)
             } else {
                 Step::Off
             }
@@ -49,23 +56,25 @@ fn one_node(words: &[u32], actions: u32, next: usize, owed: usize, leaves: usize
 
 // `count` nodes from `at` on, which are to be one tree.
 fn walk(words: &[u32], at: usize, count: u32, actions: u32, automata: usize) -> TreeCheck
-    ensures { λ r. ⌜ r ≡ checkFrom (now (words .entry)) actions automata count at 1 0 ⌝ }
+    ensures { λ r. ⌜ r ≡ checkFrom (now (words .entry)) actions automata count at 1 0 0 ⌝ }
 {
     let mut left = count;
     let mut next = at;
     let mut owed = 1;
     let mut leaves = 0;
+    let mut inis = 0;
     while left != 0 {
-        let Step::On(n, o, l) = one_node(words, actions, next, owed, leaves) else {
+        let Step::On(n, o, l, i) = one_node(words, actions, next, owed, leaves, inis) else {
             return TreeCheck::Bad;
         };
         next = n;
         owed = o;
         leaves = l;
+        inis = i;
         left -= 1;
     }
     if (owed == 0) & (leaves == automata) {
-        TreeCheck::Sound(next)
+        TreeCheck::Sound(next, inis)
     } else {
         TreeCheck::Bad
     }

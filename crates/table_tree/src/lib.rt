@@ -1,6 +1,7 @@
 // The composition tree as it stands in the table: a count of nodes, then the nodes in prefix order. `par` is 0; `syn`
-// is 1 and then its set in two words; leaf K is 2 + K. Every function is total: on words that are no tree it says so,
-// or stops.
+// is 1 and then its set in two words; leaf K is 2 + K. An `ini` is a `syn` whose set is empty: its P stands behind the
+// tree, and only the check asks how many there are. Every function is total: on words that are no tree it says so, or
+// stops.
 mod checked;
 mod members;
 mod nodes;

@@ -3,7 +3,7 @@ ghost use mathlib.Core.Path.{_≡_};
 ghost use Rattle.model.specs.Basic.{member};
 ghost use Rattle.model.specs.Limits.{rises};
 ghost use Rattle.model.specs.Table.{bit, setOf};
-ghost use Rattle.table_tree.specs.Sets.{oneWord, filled};
+ghost use Rattle.table_tree.specs.Sets.{oneWord, unfilled};
 
 fn wide(x: u32) -> u64
     ensures { λ r. ⌜ r ≡ x ⌝ }
@@ -49,8 +49,9 @@ pub fn set_sound(low: u32, high: u32, actions: u32) -> bool
     set >> (actions + 1) == 0
 }
 
-pub fn set_filled(low: u32, high: u32) -> bool
-    ensures { λ r. ⌜ r ≡ filled (setOf low high) ⌝ }
+// How many `ini` a node over a tree is: one where its set is empty.
+pub fn unfilled(low: u32, high: u32) -> usize
+    ensures { λ r. ⌜ r ≡ unfilled (setOf low high) ⌝ }
 {
-    set_of(low, high) != 0
+    if set_of(low, high) == 0 { 1 } else { 0 }
 }

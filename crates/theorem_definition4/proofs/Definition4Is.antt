@@ -14,7 +14,7 @@ use lib.Dec.{eqb, leb, ltb}
 use Rattle.model.specs.Basic.{keep, once, member, exists, lacks, countUp}
 use Rattle.model.specs.Bounds.{tableWords}
 use Rattle.model.specs.Predicate.{Pred, all, imp, eq, num, old, preds, range}
-use Rattle.model.specs.Composition.{Tree, par, syn, leaf}
+use Rattle.model.specs.Composition.{Tree, par, syn, ini, leaf, starts}
 use Rattle.model.specs.Model.{Model, Location, Edge, Automaton, automaton, inSet}
 use Rattle.model.specs.Limits.{rises, treeRises, broken, limits}
 use Rattle.model.specs.Lawful.{Lawful}
@@ -41,10 +41,10 @@ use Rattle.format.specs.Writer.{row35}
 use Rattle.format.specs.Merger.{unmerged, merged, mergeModel, mergeAnswer}
 use Rattle.format.proofs.Given.{reader-exact}
 use Rattle.format.proofs.TextRuns.{no-merge}
-use Rattle.theorem_definition4.specs.Table3.{Position, Transition, rule-17, rule-18-left, rule-18-right, rule-19, rule-21}
+use Rattle.theorem_definition4.specs.Table3.{Position, Transition, rule-17, rule-18-left, rule-18-right, rule-19, rule-21, transition-ini}
 use Rattle.theorem_definition4.specs.Definition4.{pointerTo, choices, clauses, edgeFor, Fresh, NoneTwice, none-twice, not-again, IsLinearization, breaks, firstRow}
 use Rattle.theorem_definition4.proofs.Positions.{positions, positions-length, edge-is}
-use Rattle.theorem_definition4.proofs.Table3Is.{wilds-to, setOf, syncs-to, syncs-are, labels-own, transitions-are, valuesOf, leads-are}
+use Rattle.theorem_definition4.proofs.Table3Is.{wilds-to, conditions-are, setOf, syncs-to, syncs-are, labels-own, transitions-are, valuesOf, leads-are}
 
 -- init and inv: the clauses of the automata's functions
 module _ (m : Model) (part : Location → Pred) where
@@ -72,6 +72,7 @@ fresh-is m lawful = record {
   inits = λ x i l j. record { unnamed = lawful .automata x i .locations l j .init .named };
   invs = λ x i l j. record { unnamed = lawful .automata x i .locations l j .inv .named };
   updates = λ x i e j. record { unnamed = lawful .automata x i .edges e j .update .named };
+  starts = λ p i. record { unnamed = lawful .starts p i .pred .named };
 }
 
 -- the numbers that are counted up
@@ -111,6 +112,7 @@ transition-bounded m lawful a (rule-18-left t s w i) = transition-bounded m lawf
 transition-bounded m lawful a (rule-18-right t s w i) = transition-bounded m lawful a t
 transition-bounded m lawful a (rule-19 t u s z i j) = transition-bounded m lawful a t
 transition-bounded m lawful a (rule-21 t) = transition-bounded m lawful a t
+transition-bounded m lawful a (transition-ini t) = transition-bounded m lawful a t
 
 -- E: the merged edges are those of the transitions
 edges-are : (m : Model) → Lawful m → (e : Edge) → List·Memᴰ e (mergedEdges m)
@@ -195,6 +197,7 @@ set-bounded m lawful a (syn list c) r h = go (set-bounded m lawful a c (and-righ
     go : (inSet m a c ≡ true → (0 < a) × (a ≤ m .actions)) → (member a list ≡ true) ⊎ (inSet m a c ≡ true) → (0 < a) × (a ≤ m .actions)
     go f (inl i) = rises-in (m .actions) 0 list (and-left (rises (m .actions) 0 list) (treeRises (m .actions) c) r) a i
     go f (inr i) = f i
+set-bounded m lawful a (ini p c) r h = set-bounded m lawful a c r h
 set-bounded m lawful a (leaf k) r h =
     automaton-at m lawful (λ x. member a (x .sync) ≡ true → (0 < a) × (a ≤ m .actions)) (λ i. unfold member exists in absurd (true≢false (sym i))) (λ x p i. rises-in (m .actions) 0 (x .sync) (p .sync) a i) k h
 
@@ -222,10 +225,12 @@ unfolding linear mergedInit mergedInv
 linear-is m lawful = record {
   xs = positions (λ e. e .from) (m .tree) [];
   fs = map (valuesOf (λ l. l .init)) (m .automata);
+  us = starts (m .tree);
   gs = map (valuesOf (λ l. l .inv)) (m .automata);
   A = setOf m (m .tree);
   leads-xs = wilds-to (λ e. e .from) (m .tree);
   leads-fs = leads-are m (λ l. l .init) lawful;
+  leads-us = conditions-are (m .tree) (starts (m .tree)) .1 refl;
   leads-gs = leads-are m (λ l. l .inv) lawful;
   leads-A = syncs-to m (m .tree);
   as-many =
@@ -240,7 +245,7 @@ linear-is m lawful = record {
   automata = refl;
   tree = refl;
   locations = refl;
-  init = ap (λ ps. all (preds ps)) (sym (clauses-are m (λ l. l .init) 0 (m .automata)));
+  init = ap (λ ps. all (preds (ps ++ starts (m .tree)))) (sym (clauses-are m (λ l. l .init) 0 (m .automata)));
   inv = ap (λ ps. all (preds ps)) (sym (clauses-are m (λ l. l .inv) 0 (m .automata)));
   edges = edges-are m lawful;
   edges-once = unfold mergedEdges in once-set (edgesWithRepeats m);

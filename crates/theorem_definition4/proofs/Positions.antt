@@ -10,7 +10,7 @@ use lib.ListN.{length, length-append}
 use lib.Dec.{eqb}
 use Rattle.model.specs.Basic.{exists}
 use Rattle.model.specs.Predicate.{Pred, eq, num, old, new, all, preds}
-use Rattle.model.specs.Composition.{Tree, par, syn, leaf}
+use Rattle.model.specs.Composition.{Tree, par, syn, ini, leaf}
 use Rattle.model.specs.Model.{Model, Edge, automaton, inSet}
 use Rattle.model.specs.Rules.{Taker}
 use Rattle.model.specs.Moves.{under, alone, moves}
@@ -32,6 +32,7 @@ place part k (x ∷ xs) = cond (eqb k (x .automaton)) (at (part (x .edge))) (pla
 unfoldable pub positions : (part : Edge → ℕ) → Tree → List Taker → List Position
 positions part (par c d) x = positions part c x ++ positions part d x
 positions part (syn list c) x = positions part c x
+positions part (ini p c) x = positions part c x
 positions part (leaf k) x = place part k x ∷ []
 
 -- vs, r and vs' are those of a move's takers
@@ -79,6 +80,7 @@ module _ (part : Edge → ℕ) where
       ap₂ (λ vs ws. vs ++ ws) (positions-same c i (w .0) x y (λ k l u. h k l (omega arith)))
       (positions-same d (i + size c) (w .1) x y (λ k l u. h k (omega arith) (omega arith)))
   positions-same (syn list c) i w x y h = positions-same c i w x y h
+  positions-same (ini p c) i w x y h = positions-same c i w x y h
   positions-same (leaf k) i w x y h = ap (λ v. v ∷ []) (h k (omega (arith, w)) (omega (arith, w)))
 
   -- the takers of two sides are each in their side's places
@@ -95,6 +97,7 @@ module _ (part : Edge → ℕ) where
   unfolding positions size
   positions-length (par c d) x = length-append (positions part c x) (positions part d x) ∙ ap₂ (λ (j k : ℕ). j + k) (positions-length c x) (positions-length d x)
   positions-length (syn list c) x = positions-length c x
+  positions-length (ini p c) x = positions-length c x
   positions-length (leaf k) x = refl
 
 module _ (c d : Tree) (i : ℕ) (w : Numbered i (par c d)) where
@@ -173,6 +176,7 @@ module _ (m : Model) where
   unfolding positions pointed flatMap place
   nobody-pointed (par c d) i = sides-pointed c d i [] [] (nobody-pointed c i) (nobody-pointed d (i + size c))
   nobody-pointed (syn list c) i = nobody-pointed c i
+  nobody-pointed (ini p c) i = nobody-pointed c i
   nobody-pointed (leaf k) i = refl
 
   -- the takers of a move are leaves
@@ -202,6 +206,7 @@ module _ (m : Model) where
       go f g (right-one b r) =
           par-pointed c d i w [] x (nobody-inside i (size c)) (moves-inside a d (i + size c) (w .1) r) (nobody-pointed c i) (g x r)
   moves-pointed a (syn list c) i w h = moves-pointed a c i w h
+  moves-pointed a (ini p c) i w h = moves-pointed a c i w h
   moves-pointed a (leaf k) i w h =
       let r = Memᴰ·of-map (alone k) (under a (automaton m k .edges)) h in
       subst (Pointed i (leaf k)) (r .2) (one-pointed i k w (r .0))

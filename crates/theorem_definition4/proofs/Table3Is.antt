@@ -8,7 +8,7 @@ use lib.ListN.{length, getD}
 use lib.Dec.{eqb}
 use Rattle.model.specs.Basic.{countUp, member}
 use Rattle.model.specs.Predicate.{Pred}
-use Rattle.model.specs.Composition.{Tree, par, syn, leaf, leaves}
+use Rattle.model.specs.Composition.{Tree, par, syn, ini, leaf, leaves, starts}
 use Rattle.model.specs.Model.{Model, Location, Edge, Automaton, automaton, nobody, inSet}
 use Rattle.model.specs.Lawful.{Lawful}
 use Rattle.model.specs.Rules.{Taker}
@@ -16,8 +16,8 @@ use Rattle.model.specs.Moves.{sides, under, alone, moves}
 use Rattle.model.proofs.Tests.{eq-self, exists-append, or-same}
 use Rattle.model.proofs.Numbered.{size, Numbered}
 use Rattle.model.proofs.Takers.{under-in, under-out, pairs-in, Sides, both, left-one, right-one, sides-out, sides-left, sides-right}
-use Rattle.theorem_definition4.specs.Table3.{Position, at, WildCards, wild-15, wild-16, wild-20, Leads, rule-15, rule-16, rule-20, Syncs, sync-15, sync-16, sync-20}
-use Rattle.theorem_definition4.specs.Table3.{Transition, rule-17, rule-18-left, rule-18-right, rule-19, rule-21}
+use Rattle.theorem_definition4.specs.Table3.{Position, at, WildCards, wild-15, wild-16, wild-20, wild-ini, Leads, rule-15, rule-16, rule-20, rule-ini, StartConditions, start-15, start-16, start-20, start-ini}
+use Rattle.theorem_definition4.specs.Table3.{Syncs, sync-15, sync-16, sync-20, sync-ini, Transition, rule-17, rule-18-left, rule-18-right, rule-19, rule-21, transition-ini}
 use Rattle.theorem_definition4.proofs.Positions.{place, positions, LabelsOf, labels-par, labels-left, nobody-inside, moves-inside}
 
 -- a composition leads to the wild-cards: where its automata are if none takes an edge
@@ -25,6 +25,7 @@ pub wilds-to : (part : Edge → ℕ) (c : Tree) → WildCards c (positions part 
 unfolding positions place
 wilds-to part (par c d) = wild-16 (wilds-to part c) (wilds-to part d)
 wilds-to part (syn list c) = wild-20 (wilds-to part c)
+wilds-to part (ini p c) = wild-ini (wilds-to part c)
 wilds-to part (leaf k) = wild-15
 
 -- and to no others
@@ -33,16 +34,36 @@ unfolding positions place
 wilds-only part wild-15 = refl
 wilds-only part (wild-16 p q) = ap₂ (λ xs ys. xs ++ ys) (wilds-only part p) (wilds-only part q)
 wilds-only part (wild-20 p) = wilds-only part p
+wilds-only part (wild-ini p) = wilds-only part p
 
 -- so the wild-cards are one sequence
 pub wilds-one : {c : Tree} {xs ys : List Position} → WildCards c xs → WildCards c ys → xs ≡ ys
 wilds-one p q = wilds-only (λ e. e .from) p ∙ sym (wilds-only (λ e. e .from) q)
+
+-- a composition leads to the start conditions of its tree, and to nothing else
+conditions-to : (c : Tree) → StartConditions c (starts c)
+unfolding starts
+conditions-to (par c d) = start-16 (conditions-to c) (conditions-to d)
+conditions-to (syn list c) = start-20 (conditions-to c)
+conditions-to (ini p c) = start-ini (conditions-to c)
+conditions-to (leaf k) = start-15
+
+conditions-only : {c : Tree} {us : List Pred} → StartConditions c us → us ≡ starts c
+unfolding starts
+conditions-only start-15 = refl
+conditions-only (start-16 p q) = ap₂ (λ us ws. us ++ ws) (conditions-only p) (conditions-only q)
+conditions-only (start-20 p) = conditions-only p
+conditions-only (start-ini {p = u} p) = ap (λ us. u ∷ us) (conditions-only p)
+
+pub conditions-are : (c : Tree) (us : List Pred) → StartConditions c us ↔ (us ≡ starts c)
+conditions-are c us = (conditions-only, λ e. subst (StartConditions c) (sym e) (conditions-to c))
 
 module _ (m : Model) where
   -- the synchronising set, as a list
   unfoldable pub setOf : Tree → List ℕ
   setOf (par c d) = setOf c ++ setOf d
   setOf (syn list c) = list ++ setOf c
+  setOf (ini p c) = setOf c
   setOf (leaf k) = automaton m k .sync
 
   -- a composition leads to this set (sync)
@@ -50,6 +71,7 @@ module _ (m : Model) where
   unfolding setOf
   syncs-to (par c d) = sync-16 (syncs-to c) (syncs-to d)
   syncs-to (syn list c) = sync-20 (syncs-to c)
+  syncs-to (ini p c) = sync-ini (syncs-to c)
   syncs-to (leaf k) = sync-15
 
   syncs-only : {c : Tree} {A : List ℕ} → Syncs m c A → A ≡ setOf c
@@ -57,6 +79,7 @@ module _ (m : Model) where
   syncs-only sync-15 = refl
   syncs-only (sync-16 p q) = ap₂ (λ A B. A ++ B) (syncs-only p) (syncs-only q)
   syncs-only (sync-20 {list = list} p) = ap (λ A. list ++ A) (syncs-only p)
+  syncs-only (sync-ini p) = syncs-only p
 
   -- and to no other set
   pub syncs-one : {c : Tree} {A B : List ℕ} → Syncs m c A → Syncs m c B → A ≡ B
@@ -68,6 +91,7 @@ module _ (m : Model) where
   syncs-are a sync-15 = refl
   syncs-are a (sync-16 {A = A} {B = B} p q) = exists-append (eqb a) A B ∙ or-same (syncs-are a p) (syncs-are a q)
   syncs-are a (sync-20 {list = list} {A = A} p) = exists-append (eqb a) list A ∙ ap (λ b. member a list || b) (syncs-are a p)
+  syncs-are a (sync-ini p) = syncs-are a p
 
 -- an action of both sides' sets: the pairs
 sides-both : {x y : List Taker} {xs ys : List (List Taker)} → List·Memᴰ x xs → List·Memᴰ y ys → List·Memᴰ (x ++ y) (sides true true xs ys)
@@ -87,9 +111,9 @@ pub labels-alone : (k : ℕ) (e : Edge) → LabelsOf (leaf k) (alone k e) (at (e
 unfolding positions place
 labels-alone k e = record { before = rw (eq-self k); conjuncts = refl; after = rw (eq-self k) }
 
-labels-syn : (list : List ℕ) {c : Tree} {x : List Taker} {vs : List Position} {r : List Pred} {vs' : List Position} → LabelsOf c x vs r vs' → LabelsOf (syn list c) x vs r vs'
-unfolding positions
-labels-syn list p = record { before = p .before; conjuncts = p .conjuncts; after = p .after }
+-- and of what stands over a composition, `syn` or `ini`
+labels-over : {c d : Tree} {x : List Taker} {vs : List Position} {r : List Pred} {vs' : List Position} → ((part : Edge → ℕ) → positions part c x ≡ positions part d x) → LabelsOf c x vs r vs' → LabelsOf d x vs r vs'
+labels-over same p = record { before = p .before ∙ same (λ e. e .from); conjuncts = p .conjuncts; after = p .after ∙ same (λ e. e .to) }
 
 module _ (m : Model) (a : ℕ) where
   -- the takers of a transition, which are a move
@@ -99,7 +123,7 @@ module _ (m : Model) (a : ℕ) where
     pub labels : LabelsOf c takers vs r vs'
 
   transition-listed : {c : Tree} {vs : List Position} {r : List Pred} {vs' : List Position} → (i : ℕ) → Numbered i c → Transition m a c vs r vs' → TakenBy c vs r vs'
-  unfolding moves Numbered
+  unfolding moves Numbered positions
   transition-listed i w (rule-17 {k = k} {e = e} h q) = record { takers = alone k e; listed = Memᴰ·map (alone k) (under-in a h q); labels = labels-alone k e }
   transition-listed i w (rule-18-left {c = c} {d = d} t s p n) =
       let x = transition-listed i (w .0) t in
@@ -123,9 +147,12 @@ module _ (m : Model) (a : ℕ) where
         listed = rw (sym (syncs-are m a s) ∙ p, sym (syncs-are m a z) ∙ q) (sides-both (x .listed) (y .listed));
         labels = labels-par c d i w (x .takers) (y .takers) (moves-inside m a c i (w .0) (x .listed)) (moves-inside m a d (i + size c) (w .1) (y .listed)) (x .labels) (y .labels);
       }
-  transition-listed i w (rule-21 {list = list} t) =
+  transition-listed i w (rule-21 t) =
       let x = transition-listed i w t in
-      record { takers = x .takers; listed = x .listed; labels = labels-syn list (x .labels) }
+      record { takers = x .takers; listed = x .listed; labels = labels-over (λ part. refl) (x .labels) }
+  transition-listed i w (transition-ini t) =
+      let x = transition-listed i w t in
+      record { takers = x .takers; listed = x .listed; labels = labels-over (λ part. refl) (x .labels) }
 
   -- labels of the same takers are the same
   relabelled : {c : Tree} {x : List Taker} {vs ws : List Position} {r q : List Pred} {vs' ws' : List Position}
@@ -138,7 +165,7 @@ module _ (m : Model) (a : ℕ) where
   Own c x = Transition m a c (positions (λ e. e .from) c x) (map (λ y. y .edge .update) x) (positions (λ e. e .to) c x)
 
   listed-transition : (c : Tree) (i : ℕ) → Numbered i c → (x : List Taker) → List·Memᴰ x (moves m a c) → Own c x
-  unfolding moves Numbered
+  unfolding moves Numbered positions
   listed-transition (par c d) i w x h =
       go (listed-transition c i (w .0)) (listed-transition d (i + size c) (w .1)) (sides-out (inSet m a c) (inSet m a d) (moves m a c) (moves m a d) h)
     where
@@ -163,8 +190,8 @@ module _ (m : Model) (a : ℕ) where
       go f g (right-one b r) =
           relabelled (labels-par c d i w [] x (nobody-inside i (size c)) (moves-inside m a d (i + size c) (w .1) r) (labels-rest rest-c) (labels-own d x)) (labels-own (par c d) x)
           (rule-18-right (g x r) (syncs-to m c) rest-c (syncs-are m a (syncs-to m c) ∙ b))
-  listed-transition (syn list c) i w x h =
-      relabelled (labels-syn list (labels-own c x)) (labels-own (syn list c) x) (rule-21 (listed-transition c i w x h))
+  listed-transition (syn list c) i w x h = rule-21 (listed-transition c i w x h)
+  listed-transition (ini p c) i w x h = transition-ini (listed-transition c i w x h)
   listed-transition (leaf k) i w x h =
       let r = Memᴰ·of-map (alone k) (under a (automaton m k .edges)) h in
       let e = under-out a (automaton m k .edges) (r .1) in
@@ -200,6 +227,7 @@ module _ (m : Model) (part : Location → Pred) where
   unfolding leaves
   leads-to (par c d) = subst (Leads m part (par c d)) (sym (map-append (λ k. valuesOf part (automaton m k)) (leaves c) (leaves d))) (rule-16 (leads-to c) (leads-to d))
   leads-to (syn list c) = rule-20 (leads-to c)
+  leads-to (ini p c) = rule-ini (leads-to c)
   leads-to (leaf k) = rule-15
 
   leads-only : {c : Tree} {fs : List (List Pred)} → Leads m part c fs → fs ≡ map (λ k. valuesOf part (automaton m k)) (leaves c)
@@ -207,6 +235,7 @@ module _ (m : Model) (part : Location → Pred) where
   leads-only rule-15 = refl
   leads-only (rule-16 {c = c} {d = d} p q) = ap₂ (λ fs gs. fs ++ gs) (leads-only p) (leads-only q) ∙ sym (map-append (λ k. valuesOf part (automaton m k)) (leaves c) (leaves d))
   leads-only (rule-20 p) = leads-only p
+  leads-only (rule-ini p) = leads-only p
 
   -- and to nothing else
   pub leads-one : (c : Tree) (fs gs : List (List Pred)) → Leads m part c fs → Leads m part c gs → fs ≡ gs

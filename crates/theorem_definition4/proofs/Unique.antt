@@ -16,7 +16,7 @@ use Rattle.model.specs.Linear.{linear}
 use Rattle.model.proofs.Tests.{and-right, eq-self, exists-intro}
 use Rattle.model.proofs.Bits.{rises-cons}
 use Rattle.theorem_definition4.specs.Definition4.{pointerTo, clauses, IsLinearization}
-use Rattle.theorem_definition4.proofs.Table3Is.{leads-one, syncs-one}
+use Rattle.theorem_definition4.proofs.Table3Is.{leads-one, conditions-are, syncs-one}
 use Rattle.theorem_definition4.proofs.Definition4Is.{rises-in, linear-is}
 
 -- a list that rises from above `last` holds only what is above
@@ -79,9 +79,10 @@ pub record SameAutomaton (l k : Model) : Type 0 where
 pub linearizations-same : (m l k : Model) → IsLinearization m l → IsLinearization m k → SameAutomaton l k
 linearizations-same m l k p q =
     let same-fs : p .fs ≡ q .fs = leads-one m (λ x. x .init) (m .tree) (p .fs) (q .fs) (p .leads-fs) (q .leads-fs) in
+    let same-us : p .us ≡ q .us = conditions-are (m .tree) (p .us) .0 (p .leads-us) ∙ sym (conditions-are (m .tree) (q .us) .0 (q .leads-us)) in
     let same-gs : p .gs ≡ q .gs = leads-one m (λ x. x .inv) (m .tree) (p .gs) (q .gs) (p .leads-gs) (q .leads-gs) in
     let same-A : p .A ≡ q .A = syncs-one m (p .leads-A) (q .leads-A) in
-    let init = p .init ∙ ap (λ fs. all (preds (clauses (length (m .variables)) 0 fs))) same-fs ∙ sym (q .init) in
+    let init = p .init ∙ ap₂ (λ fs us. all (preds (clauses (length (m .variables)) 0 fs ++ us))) same-fs same-us ∙ sym (q .init) in
     let inv = p .inv ∙ ap (λ gs. all (preds (clauses (length (m .variables)) 0 gs))) same-gs ∙ sym (q .inv) in
     record {
       format = p .format ∙ sym (q .format);

@@ -9,14 +9,15 @@ use Prim.Native.Nat.{ℕ, suc, pred, _+_}
 use lib.IntN.{pos}
 use lib.ListN.{length}
 use Rattle.model.specs.Predicate.{Pred, all, imp, eq, num, old, new, preds, words, namesOutside, Range, range}
-use Rattle.model.specs.Composition.{leaf}
+use Rattle.model.specs.Composition.{leaf, starts}
 use Rattle.model.specs.Model.{Model, Location, Edge, Automaton}
 use Rattle.model.specs.Limits.{rises, broken}
 use Rattle.model.specs.Table.{modelOf, row18, row19}
 use Rattle.model.specs.Linear.{linear, row31, row32, row33, row34}
 use Rattle.format.specs.Spelling.{textOf}
 use Rattle.format.specs.Writer.{row35}
-use Rattle.theorem_definition4.specs.Table3.{Position, wild, at, WildCards, Leads, Syncs, Transition}
+use Rattle.theorem_definition4.specs.Table3.{Position, wild, at, WildCards, Leads, StartConditions, Syncs}
+use Rattle.theorem_definition4.specs.Table3.{Transition}
 
 -- ls.i ∈ dom(fs.i): the locations of the i-th automaton are 0 to L-1
 unfoldable pub pointerTo : List Pred → Range
@@ -57,6 +58,7 @@ pub record Fresh (m : Model) : Type 0 where
       → Unnamed m (l .inv)
   pub updates : (x : Automaton) → List·Memᴰ x (m .automata) → (e : Edge) → List·Memᴰ e (x .edges)
       → Unnamed m (e .update)
+  pub starts : (p : Pred) → List·Memᴰ p (starts (m .tree)) → Unnamed m p
 
 -- a list in which no edge stands twice
 pub data NoneTwice : List Edge → Type 0 where
@@ -65,13 +67,16 @@ pub data NoneTwice : List Edge → Type 0 where
 
 -- L(p) = (({x}, init, inv, E, act_S), ls), where p is the composition of m: l is this automaton, as a sheet.
 pub record IsLinearization (m l : Model) : Type 0 where
-  -- p leads to xs (#), to fs (ipred), to gs (inv) and to A (sync); n is the length of xs, and so of fs
+  -- p leads to xs (#), to fs (ipred), to us (its start conditions), to gs (inv) and to A (sync); n is the length of xs,
+  -- and so of fs
   pub xs : List Position
   pub fs : List (List Pred)
+  pub us : List Pred
   pub gs : List (List Pred)
   pub A : List ℕ
   pub leads-xs : WildCards (m .tree) xs
   pub leads-fs : Leads m (λ x. x .init) (m .tree) fs
+  pub leads-us : StartConditions (m .tree) us
   pub leads-gs : Leads m (λ x. x .inv) (m .tree) gs
   pub leads-A : Syncs m (m .tree) A
   pub as-many : length fs ≡ length xs
@@ -87,8 +92,9 @@ pub record IsLinearization (m l : Model) : Type 0 where
   pub automata : l .automata ≡ automaton ∷ []
   pub tree : l .tree ≡ leaf 0
   pub locations : automaton .locations ≡ x ∷ []
-  -- init(x). Where the format departs: the ranges of the pointers, above, stand for the second conjunct.
-  pub init : x .init ≡ all (preds (clauses (length (m .variables)) 0 fs))
+  -- init(x). Where the format departs: the ranges of the pointers, above, stand for the second conjunct; and after the
+  -- implications stand the start conditions (request (a)).
+  pub init : x .init ≡ all (preds (clauses (length (m .variables)) 0 fs ++ us))
   -- inv(x)
   pub inv : x .inv ≡ all (preds (clauses (length (m .variables)) 0 gs))
   -- E: an edge from x to x for each transition

@@ -8,7 +8,7 @@ use native.Mathlib.Nat.{mul-zero, mod-lt, div-add-mod', div-lt-iff-lt-mul, suc-m
 use lib.ListN.{length, getD, length-map}
 use lib.Seq.{ext-getD}
 use Rattle.model.specs.Basic.{once, countUp}
-use Rattle.model.specs.Composition.{Tree, par, syn, leaf}
+use Rattle.model.specs.Composition.{Tree, par, syn, ini, leaf}
 use Rattle.model.specs.Model.{Model, Edge, automaton, inSet}
 use Rattle.model.specs.Lawful.{Lawful}
 use Rattle.model.specs.Rules.{Taker}
@@ -24,7 +24,7 @@ use Rattle.theorem_definition4.specs.Table3.{Position}
 use Rattle.theorem_definition4.specs.Definition4.{edgeFor}
 use Rattle.theorem_definition4.proofs.Positions.{positions, LabelsOf, Inside, nobody-inside, moves-inside, labels-par, edge-is}
 use Rattle.theorem_definition4.proofs.Table3Is.{wilds-to, wilds-one, labels-own, labels-rest, labels-alone}
-use Rattle.theorem_demands.specs.Order.{Labels, nothing, joined, resting, taking, LeftSlowest, ifLacking, InOrder, in-leaf, in-pairs, in-turn, in-syn, EdgesInOrder}
+use Rattle.theorem_demands.specs.Order.{Labels, nothing, joined, resting, taking, LeftSlowest, ifLacking, InOrder, in-leaf, in-pairs, in-turn, in-syn, in-ini, EdgesInOrder}
 
 -- two lists of pairs with the left slowest are the same: place q is that of the pair q / length ys, q % length ys
 slowest-one : (xs ys zs ws : List Labels) → LeftSlowest xs ys zs → LeftSlowest xs ys ws → zs ≡ ws
@@ -48,6 +48,7 @@ module _ (m : Model) (a : ℕ) where
   pub in-order-one : {c : Tree} {xs ys : List Labels} → InOrder m a c xs → InOrder m a c ys → xs ≡ ys
   in-order-one in-leaf in-leaf = refl
   in-order-one (in-syn p) (in-syn q) = in-order-one p q
+  in-order-one (in-ini p) (in-ini q) = in-order-one p q
   in-order-one (in-pairs {xs = xs} {ys = ys} {zs = zs} i j p q s) (in-pairs {zs = ws} i' j' p' q' s') =
       slowest-one xs ys zs ws s (subst₂ (λ us vs. LeftSlowest us vs ws) (sym (in-order-one p p')) (sym (in-order-one q q')) s')
   in-order-one (in-pairs i j p q s) (in-turn h w w' p' q') = absurd (true≢false (sym (and-intro i j) ∙ h))
@@ -189,6 +190,7 @@ module _ (m : Model) (a : ℕ) where
       let edges = under a (automaton m k .edges) in
       subst (InOrder m a (leaf k)) (sym (mapped (labelsOf (leaf k)) (alone k) taking edges (λ e h. labels-are (taking e) (labels-alone k e)))) in-leaf
   moves-in-order (syn list c) i w = in-syn (moves-in-order c i w)
+  moves-in-order (ini p c) i w = in-ini (moves-in-order c i w)
   moves-in-order (par c d) i w = go (inSet m a c) refl (inSet m a d) refl (moves-in-order c i (w .0)) (moves-in-order d (i + size c) (w .1))
     where
       go : (b : Bool) → inSet m a c ≡ b → (e : Bool) → inSet m a d ≡ e → InOrder m a c (map (labelsOf c) (moves m a c))

@@ -7,7 +7,7 @@ use lib.ListN.{length, getD}
 use lib.Dec.{eqb}
 use Rattle.model.specs.Basic.{keep, once, countUp}
 use Rattle.model.specs.Predicate.{Pred}
-use Rattle.model.specs.Composition.{Tree, par, syn, leaf}
+use Rattle.model.specs.Composition.{Tree, par, syn, ini, leaf}
 use Rattle.model.specs.Model.{Model, Edge, automaton, inSet}
 use Rattle.model.specs.Equal.{sameEdge}
 use Rattle.theorem_definition4.specs.Table3.{Position, at, WildCards}
@@ -62,8 +62,9 @@ module _ (m : Model) (a : ℕ) where
         → InOrder (par c d)
         (ifLacking (inSet m a d) (map (λ x. joined x (resting ds)) xs)
         ++ ifLacking (inSet m a c) (map (λ y. joined (resting cs) y) ys))
-    -- of a `syn` those of what stands under it
+    -- of a `syn` those of what stands under it, and of an `ini`
     in-syn : {list : List ℕ} {c : Tree} {xs : List Labels} → InOrder c xs → InOrder (syn list c) xs
+    in-ini : {p : Pred} {c : Tree} {xs : List Labels} → InOrder c xs → InOrder (ini p c) xs
 
 -- the merged edges, equal ones once
 pub record EdgesInOrder (m : Model) (edges : List Edge) : Type 0 where

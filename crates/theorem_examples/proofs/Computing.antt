@@ -35,27 +35,27 @@ unfolding
     Predicate.isOutside Predicate.isNew Predicate.isNewOf Predicate.namesOutside Predicate.namesNew Predicate.mentions
     Predicate.depth Predicate.range Predicate.least Predicate.greatest Predicate.hull Predicate.times Predicate.interval
     Predicate.stays Predicate.allStay
-    Composition.leaves Composition.nodes Composition.treeSize
+    Composition.leaves Composition.starts Composition.startNodes Composition.nodes Composition.treeSize
     Parse.popPred Parse.popExpr Parse.popPreds Parse.push Parse.stack Parse.solePred Parse.readPred Parse.popTree
-    Parse.pushNode Parse.treeStack Parse.soleTree Parse.readTree
+    Parse.pushNode Parse.treeStack Parse.soleTree Parse.readTree Parse.withStarts
     Model.inSet Model.edgeTotal
     Lines.keyOf Lines.locationLines Lines.automatonLines Lines.lines Lines.dueAtFirst Lines.repeat Lines.thenDue
     Lines.atFirst Lines.lastOf Lines.onLast Lines.addLocation Lines.addEdge Lines.withModel Lines.withAutomata
-    Lines.withPred Lines.noted
+    Lines.withPred Lines.withNodes Lines.noted
     Limits.inRange Limits.treeInRange Limits.numbersInRange Limits.isCrossed Limits.rises Limits.treeRises
     Limits.isTooDeep Limits.exceedsSpan Limits.passesNodes Limits.variableCount Limits.locationCount Limits.isAstray
     Limits.listsFilled Limits.isDisordered Limits.isTooLarge Limits.passesEdges Limits.broken Limits.predFault
-    Limits.locationFault Limits.contentFault Limits.faultOf Limits.withinLimits Limits.limits
+    Limits.locationFault Limits.startsFault Limits.contentFault Limits.faultOf Limits.withinLimits Limits.limits
     Lawful.locationNodes Lawful.automatonNodes Lawful.nodeTotal
     Table.biased Table.lowBits Table.highBits Table.setWords Table.nodeWord Table.kindOf Table.argumentOf Table.code
-    Table.predWords Table.nodeWords Table.lineWords
+    Table.predWords Table.nodeWords Table.startWords Table.lineWords
     Table.sheetWords Table.tableOf Table.unbiased Table.bit Table.setOf Table.kinds Table.wordOf Table.split
-    Table.splitNumber Table.splitPair Table.splitPred Table.edgeTo Table.splitEdge Table.andNode Table.splitNodes
-    Table.splitTree Table.splitEntry Table.decode Table.isTableOf Table.modelOf Table.row18 Table.row19 Table.openTable
+    Table.splitNumber Table.splitPair Table.splitPred Table.edgeTo Table.splitEdge Table.andNode Table.overNode Table.splitNodes
+    Table.andPred Table.splitPreds Table.splitStarts Table.treeWith Table.splitTree Table.splitEntry Table.decode Table.isTableOf Table.modelOf Table.row18 Table.row19 Table.openTable
     Rules.mentioned
     Moves.pairs Moves.sides Moves.under Moves.moves Moves.sidesCount Moves.moveCount Moves.distinctCount
     Judge.phaseOf Judge.hasValues Judge.row21 Judge.row22 Judge.rangeOf Judge.row23 Judge.row24 Judge.inits Judge.invs
-    Judge.initial Judge.settled Judge.isTaker Judge.updated Judge.led Judge.kept Judge.framed Judge.fits Judge.stepHolds
+    Judge.startsHold Judge.initial Judge.settled Judge.isTaker Judge.updated Judge.led Judge.kept Judge.framed Judge.fits Judge.stepHolds
     Judge.judgeTo Judge.judgeEnvironment Judge.judgeAt Judge.stepAnswer Judge.environmentAnswer Judge.answerTo
     Equal.wordKind Equal.wordNumber Equal.sameWord Equal.sameWords Equal.sameEdge
     Linear.pointerRange Linear.pointer Linear.atLocations Linear.atAutomata Linear.mergedInit Linear.mergedInv
@@ -68,11 +68,11 @@ unfolding
     Number.within Number.naturalOf Number.integerOf Number.decimalIn Number.decimal Number.signed
     Tokens.tokens Tokens.numeral Tokens.numberSound Tokens.lastAfter Tokens.sound Tokens.sounds Tokens.items
     Tokens.listSound Tokens.listsSound Tokens.find Tokens.variableWord Tokens.word Tokens.counted Tokens.readWords
-    Tokens.leafOf Tokens.node Tokens.synOf Tokens.readNodes
+    Tokens.callsFor Tokens.startTokens Tokens.startsIn Tokens.outside Tokens.leafOf Tokens.node Tokens.synOf Tokens.readNodes
     Spelling.spelling Spelling.spelled Spelling.textOfPred Spelling.textOfList Spelling.spelledNode Spelling.textOfTree
     Spelling.valueText Spelling.lineText Spelling.textOf
     Rows.place Rows.is Rows.valueOf Rows.fields Rows.fieldCount Rows.field Rows.hasPred Rows.predTokens Rows.wordsIn
-    Rows.predOf Rows.treeTokens Rows.nodesIn Rows.treeOf Rows.thePred Rows.theTree Rows.listItems Rows.syncList
+    Rows.predOf Rows.treeTokens Rows.startsOf Rows.theStarts Rows.nodesIn Rows.treeOf Rows.thePred Rows.theTree Rows.listItems Rows.syncList
     Rows.theRange Rows.printable Rows.row2 Rows.numbersSound Rows.row3 Rows.row4 Rows.row5 Rows.row6 Rows.row7 Rows.row8
     Rows.row9 Rows.row10 Rows.row11 Rows.row12 Rows.row13 Rows.row14 Rows.row15 Rows.row16 Rows.fault Rows.entry
     Reader.ontoLine Reader.linesOf Reader.read Reader.row1 Reader.readAnswer Reader.tableAfter

@@ -2,3 +2,4 @@ pub mod Computing
 pub mod Cases
 pub mod Oven
 pub mod Refused
+pub mod Starts

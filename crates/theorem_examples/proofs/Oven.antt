@@ -11,38 +11,45 @@ use Rattle.format.specs.Bytes.{Bytes, bytes}
 use Rattle.theorem_examples.proofs.Computing.{computing}
 use Rattle.theorem_examples.proofs.Cases.{sheet, times, Case, accepts, refuses, setIs, answers, prints, sameBool, sameAnswer, tableOfText, refusedWith, passes, failing}
 
--- the oven's sheet: door, steam, and v0 the valve; with the door's `sync=` line as given
-abbrev pub ovenWith : Bytes → Bytes
-ovenWith sync =
+-- the oven's sheet: door, steam, and v0 the valve; with the door's `sync=` line and the composition as given
+abbrev pub ovenOf : (sync compose : Bytes) → Bytes
+ovenOf sync compose =
     sheet (
     bytes "format=1" ∷ bytes "actions=2" ∷ bytes "variables=1" ∷ bytes "variable=0,1" ∷ bytes "automata=2" ∷
     sync ∷ bytes "locations=2" ∷ bytes "init=all 0" ∷ bytes "inv=all 0" ∷ bytes "init=any 0" ∷ bytes "inv=eq v0 0" ∷
     bytes "edges=1" ∷ bytes "edge=0,1,1,all 0" ∷
     bytes "sync=1" ∷ bytes "locations=1" ∷ bytes "init=all 0" ∷ bytes "inv=all 0" ∷
     bytes "edges=2" ∷ bytes "edge=0,1,0,eq n0 0" ∷ bytes "edge=0,2,0,eq n0 1" ∷
-    bytes "compose=par a0 a1" ∷ [])
+    (bytes "compose=" ++ compose) ∷ [])
+
+abbrev ovenWith : (sync : Bytes) → Bytes
+ovenWith sync = ovenOf sync (bytes "par a0 a1")
 
 abbrev pub oven : Bytes
 oven = ovenWith (bytes "sync=1")
 
-abbrev pub ovenMerged : Bytes
-ovenMerged =
+-- its merged sheet, with this many predicates in its init: the three implications, and more
+abbrev pub mergedWith : (count more : Bytes) → Bytes
+mergedWith count more =
     sheet (
     bytes "format=1" ∷ bytes "actions=2" ∷ bytes "variables=3" ∷ bytes "variable=0,1" ∷ bytes "variable=0,1" ∷ bytes "variable=0,0" ∷
     bytes "automata=1" ∷ bytes "sync=1" ∷ bytes "locations=1" ∷
-    bytes "init=all 3 imp eq v1 0 all 0 imp eq v1 1 any 0 imp eq v2 0 all 0" ∷
+    (bytes "init=all " ++ (count ++ (bytes " imp eq v1 0 all 0 imp eq v1 1 any 0 imp eq v2 0 all 0" ++ more))) ∷
     bytes "inv=all 3 imp eq v1 0 all 0 imp eq v1 1 eq v0 0 imp eq v2 0 all 0" ∷
     bytes "edges=2" ∷
     bytes "edge=0,1,0,all 6 all 0 eq n0 0 eq v1 0 eq n1 1 eq v2 0 eq n2 0" ∷
     bytes "edge=0,2,0,all 3 eq n0 1 eq v2 0 eq n2 0" ∷
     bytes "compose=a0" ∷ [])
 
+abbrev pub ovenMerged : Bytes
+ovenMerged = mergedWith (bytes "3") []
+
 -- a proposal on the oven: phase, the locations of door and steam, v0; action, new locations, new v0
-abbrev from : (phase door steam v0 action door' steam' v0' : ℕ) → Call
+abbrev pub from : (phase door steam v0 action door' steam' v0' : ℕ) → Call
 from phase door steam v0 action door' steam' v0' =
     step phase (door ∷ steam ∷ []) (pos v0 ∷ []) action (door' ∷ steam' ∷ []) (pos v0' ∷ [])
 
-abbrev outside : (phase door steam v0 v0' : ℕ) → Call
+abbrev pub outside : (phase door steam v0 v0' : ℕ) → Call
 outside phase door steam v0 v0' = environment phase (door ∷ steam ∷ []) (pos v0 ∷ []) (pos v0' ∷ [])
 
 -- a sheet of one automaton with one location
@@ -101,7 +108,7 @@ pub oven-table : same (tableOfText oven) (
     1 ∷ 2 ∷ 1 ∷ 32768 ∷ 32769 ∷ 2 ∷
     2 ∷ 0 ∷ 2 ∷ 1 ∷ 0 ∷ 1 ∷ 0 ∷ 1 ∷ 1 ∷ 3 ∷ 4 ∷ 7 ∷ 524294 ∷ 1 ∷ 0 ∷ 1 ∷ 1 ∷ 1 ∷ 0 ∷
     2 ∷ 0 ∷ 1 ∷ 1 ∷ 0 ∷ 1 ∷ 0 ∷ 2 ∷ 0 ∷ 1 ∷ 0 ∷ 3 ∷ 4 ∷ 8 ∷ 524294 ∷ 0 ∷ 2 ∷ 0 ∷ 3 ∷ 4 ∷ 8 ∷ 524310 ∷
-    3 ∷ 0 ∷ 2 ∷ 3 ∷ replicate 8141 0) ≡ true
+    3 ∷ 0 ∷ 2 ∷ 3 ∷ 0 ∷ replicate 8140 0) ≡ true
 unfolding computing tableOfText
 oven-table = refl
 

@@ -1,1 +1,2 @@
-// The paper's worked examples, proved by computing over the definitions: proofs/Oven.antt, proofs/Refused.antt.
+// Worked examples, proved by computing over the definitions: the paper's in proofs/Oven.antt and proofs/Refused.antt,
+// those of `ini` in proofs/Starts.antt.

@@ -11,6 +11,7 @@ use Rattle.model.specs.Basic.{keep, countUp}
 use borrow.Author.Tests.{le-ltb}
 use Rattle.model.specs.Bounds.{maxAutomata, maxEdges, tableWords}
 use Rattle.model.specs.Predicate.{Pred, all, none, preds, wordsAll}
+use Rattle.model.specs.Composition.{starts}
 use Rattle.model.specs.Model.{Model, Location, Automaton, automaton, nobody, inSet}
 use Rattle.model.specs.Rules.{Taker}
 use Rattle.model.specs.Lawful.{Lawful}
@@ -25,10 +26,12 @@ use Rattle.model.proofs.LinearLimits.{keep-rises}
 use Rattle.table_tree.proofs.Inside.{list-back}
 use Rattle.table_places.specs.Outline.{automatonAt}
 use Rattle.table_places.specs.Layout.{layoutOf}
-use Rattle.table_places.proofs.LayoutLaws.{set-place}
+use Rattle.table_places.proofs.LayoutLaws.{set-place, tree-line}
+use Rattle.table_places.proofs.StartLaws.{start-count, first-start}
 use Rattle.table_places.proofs.OutlineLaws.{automaton-at, automatonWords}
 use Rattle.merge_append.specs.Runs.{run}
 use Rattle.merge_predicates.specs.declared.functions.Functions.{Functions}
+use Rattle.merge_predicates.specs.Starts.{startsOf}
 use Rattle.merge_words.specs.Sync.{setsOf, wordsOf}
 use Rattle.merge_words.specs.Linearize.{gatheredIn, takersFor}
 use Rattle.merge_table.proofs.Standing.{automata-cons}
@@ -39,9 +42,9 @@ use Rattle.merge_table.proofs.CountIs.{count-row, count-exact}
 use Rattle.merge_table.proofs.GatherIs.{Move, moved, allMoves, moves-total, Recorded, move-recorded}
 use Rattle.theorem_definition4.specs.Table3.{Position, Transition}
 use Rattle.theorem_definition4.proofs.Positions.{positions, positions-length}
-use Rattle.theorem_definition4.proofs.Table3Is.{TakenBy, transitions-are, wilds-to, labels-own, valuesOf, leads-are}
+use Rattle.theorem_definition4.proofs.Table3Is.{TakenBy, transitions-are, wilds-to, labels-own, valuesOf, leads-are, conditions-are}
 use Rattle.theorem_definition4.proofs.Definition4Is.{counted-in, joined-in, transition-bounded, linear-is}
-use Rattle.theorem_gathered.specs.Gathers.{allValues, Holds, Labelled, Gathers}
+use Rattle.theorem_gathered.specs.Gathers.{allValues, Holds, HoldsStarts, Labelled, Gathers}
 use Rattle.theorem_gathered.proofs.Labels.{labelled}
 
 -- the functions' values, one function's after the other's
@@ -111,6 +114,14 @@ module _ (m : Model) (lawful : Lawful m) (t rest : List ℕ) (e : t ≡ sheetWor
         ap (λ k. drop k t) place ∙
             automata-cons t (automatonAt t i) (automaton m i) tail after (there ∙ ap (λ (xs : List Automaton). automatonWords xs ++ after) parts),
       )
+
+  -- the start conditions stand behind the tree
+  starts-hold : HoldsStarts t (startsOf t (layoutOf t)) (starts (m .tree))
+  unfolding startsOf
+  starts-hold =
+      let line = tree-line m lawful t rest e in
+      let few = lawful .tree .size in
+      record { count = start-count t rest (m .tree) _ line few; values = (rest, first-start t rest (m .tree) _ line few) }
 
   -- the whole's set
   abbrev kept : List ℕ
@@ -195,6 +206,9 @@ module _ (m : Model) (lawful : Lawful m) (t rest : List ℕ) (e : t ≡ sheetWor
         fs = map (valuesOf (λ l. l .init)) (m .automata);
         leads-fs = leads-are m (λ l. l .init) lawful;
         inits = holds t (λ l. l .init) (m .automata) _ (lawful .few-automata) (init-functions m lawful t rest e);
+        us = starts (m .tree);
+        leads-us = conditions-are (m .tree) (starts (m .tree)) .1 refl;
+        starts = starts-hold;
         gs = map (valuesOf (λ l. l .inv)) (m .automata);
         leads-gs = leads-are m (λ l. l .inv) lawful;
         invs = holds t (λ l. l .inv) (m .automata) _ (lawful .few-automata) (inv-functions m lawful t rest e);

@@ -7,7 +7,7 @@ use Prim.Native.Nat.{ℕ, _≤_}
 use lib.ListN.{length, take}
 use lib.Dec.{eqb}
 use Rattle.model.specs.Basic.{countUp}
-use Rattle.model.specs.Composition.{Tree, par, syn, leaf, leaves}
+use Rattle.model.specs.Composition.{Tree, par, syn, ini, leaf, leaves}
 use Rattle.model.specs.Model.{Model, Edge}
 use Rattle.model.specs.Rules.{Taker}
 use Rattle.model.specs.Lawful.{Lawful}
@@ -45,6 +45,7 @@ positions-are part (par c d) ts =
     ap₂ (λ (vs ws : List Position). vs ++ ws) (positions-are part c ts) (positions-are part d ts) ∙
     sym (map-append (λ k. place part k ts) (leaves c) (leaves d))
 positions-are part (syn list c) ts = positions-are part c ts
+positions-are part (ini p c) ts = positions-are part c ts
 positions-are part (leaf k) ts = refl
 
 same-places : (part : Edge → ℕ) (ts : List Taker) (ks : List ℕ) → map (λ k. place part k ts) ks ≡ map position (map (λ k. Option·map part (takenBy ts k)) ks)

@@ -17,12 +17,14 @@ use Rattle.table_places.specs.Layout.{layoutOf}
 use Rattle.table_places.specs.Outline.{edgeFrom, edgeTo}
 use Rattle.merge_append.specs.Runs.{run}
 use Rattle.merge_predicates.specs.declared.functions.Functions.{Functions}
+use Rattle.merge_predicates.specs.declared.starts.Starts.{Starts}
 use Rattle.merge_edges.specs.Edge.{updatesAt}
 use Rattle.merge_edges.specs.Edges.{actionAt}
 use Rattle.merge_words.specs.declared.gathering.Gathered.{Gathered}
 use Rattle.merge_words.specs.Linearize.{gatheredIn, takersFor}
 use Rattle.merge_table.specs.Linearization.{distinctTable}
-use Rattle.theorem_definition4.specs.Table3.{Position, wild, at, WildCards, Leads, Syncs, Transition}
+use Rattle.theorem_definition4.specs.Table3.{Position, wild, at, WildCards, Leads, StartConditions, Syncs}
+use Rattle.theorem_definition4.specs.Table3.{Transition}
 
 -- the values of functions, one function's after the other's
 abbrev pub allValues : List (List Pred) → List Pred
@@ -35,6 +37,12 @@ pub record Holds (t : List ℕ) (f : Functions) (fs : List (List Pred)) : Type 0
   pub total : f .total ≡ length (allValues fs)
   pub values : (k : ℕ) → k < length (allValues fs)
       → (rest : List ℕ) × (drop (getD (f .places) k 0) t ≡ predWords (getD (allValues fs) k (all none)) ++ rest)
+
+-- Gathered start conditions are these: so many, and their words stand in the table one after the other, from the place
+-- of the first on.
+pub record HoldsStarts (t : List ℕ) (s : Starts) (us : List Pred) : Type 0 where
+  pub count : s .count ≡ length us
+  pub values : (rest : List ℕ) × (drop (s .first) t ≡ flatMap predWords us ++ rest)
 
 -- what an automaton's place says: 0 is the wild-card; elsewhere its edge stands there, and f reads FROM, or TO
 unfoldable pub positionAt : (f : ℕ → ℕ) (place : ℕ) → Position
@@ -61,6 +69,10 @@ pub record Gathers (m : Model) (t : List ℕ) (g : Gathered) (takers : List ℕ)
   pub fs : List (List Pred)
   pub leads-fs : Leads m (λ l. l .init) (m .tree) fs
   pub inits : Holds t (g .inits) fs
+  -- the start conditions
+  pub us : List Pred
+  pub leads-us : StartConditions (m .tree) us
+  pub starts : HoldsStarts t (g .starts) us
   -- the invariants
   pub gs : List (List Pred)
   pub leads-gs : Leads m (λ l. l .inv) (m .tree) gs
@@ -79,12 +91,14 @@ pub record Gathers (m : Model) (t : List ℕ) (g : Gathered) (takers : List ℕ)
       → (k : ℕ) × (k < g .edges) × Labelled t (run takers (16 * k) 16) (length xs) a vs r vs'
 
 -- The merger is handed the sheet in which each automaton has equal edges once (`distinct`), and gathers that. It has
--- this sheet's functions, sets and transitions, so what is gathered of it is what Definition 4 needs of this sheet.
+-- this sheet's tree, functions, sets and transitions, so what is gathered of it is what Definition 4 needs of this
+-- sheet.
 pub record GathersOnce (m : Model) (t : List ℕ) : Type 0 where
   pub rest : List ℕ
   pub handed : distinctTable t ≡ sheetWords (distinct m) ++ rest
   pub gathered : let d = distinctTable t in
       Gathers (distinct m) d (gatheredIn d (layoutOf d)) (takersFor d (layoutOf d))
+  pub same-tree : distinct m .tree ≡ m .tree
   pub same-functions : (part : Location → Pred) (fs : List (List Pred))
       → Leads (distinct m) part (m .tree) fs ↔ Leads m part (m .tree) fs
   pub same-sets : (A : List ℕ) → Syncs (distinct m) (m .tree) A ↔ Syncs m (m .tree) A

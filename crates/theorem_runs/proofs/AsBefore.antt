@@ -10,11 +10,11 @@ use lib.IntN.{ℤ}
 use Rattle.model.specs.Basic.{exists, sum}
 use Rattle.model.specs.Bounds.{maxEdges, maxNodes}
 use Rattle.model.specs.Predicate.{nodeCount}
-use Rattle.model.specs.Composition.{Tree, par, syn, leaf}
+use Rattle.model.specs.Composition.{Tree, par, syn, ini, leaf}
 use Rattle.model.specs.Model.{Model, Edge, inSet}
 use Rattle.model.specs.Limits.{isTooDeep, broken}
 use Rattle.model.specs.Lawful.{Lawful}
-use Rattle.model.specs.Rules.{State, Taker, Takes, Still, Rests, rule-1, rule-2, rule-3, rule-4-left, rule-4-right, rule-5, rule-6, rule-7, Moves, Step, Environment}
+use Rattle.model.specs.Rules.{State, Taker, Takes, Still, Rests, rule-1, rule-2, rule-3, rule-4-left, rule-4-right, rule-5, rule-6, rule-7, ini-rests, ini-moves, Moves, Step, Environment}
 use Rattle.model.specs.Equal.{sameEdge}
 use Rattle.model.specs.Linear.{sheetWith, linear, edgesWithRepeats, mergedEdges, mergedCount, mergedPreds, row31, row32, row33, row34, mergeFault}
 use Rattle.model.specs.Repeats.{linearWithRepeats, countWithRepeats, predsWithRepeats, row32WithRepeats, row33WithRepeats, row34WithRepeats, faultWithRepeats}
@@ -38,6 +38,7 @@ module _ (m : Model) (es fs : List Edge) (among : (e : Edge) → List·Memᴰ e 
   unfolding inSet
   set-same a (par c d) = rw (set-same a c, set-same a d)
   set-same a (syn list c) = rw (set-same a c)
+  set-same a (ini p c) = set-same a c
   set-same a (leaf zero) = refl
   set-same a (leaf (suc k)) = refl
 
@@ -53,6 +54,7 @@ module _ (m : Model) (es fs : List Edge) (among : (e : Edge) → List·Memᴰ e 
   rests-too {s} {t} (rule-2 {k = k} h) = rule-2 (still-too s t k h)
   rests-too (rule-5 g h) = rule-5 (rests-too g) (rests-too h)
   rests-too (rule-7 h) = rule-7 (rests-too h)
+  rests-too (ini-rests g h) = ini-rests g (rests-too h)
 
   moves-too : {s : State} {a : ℕ} {t : State} {c : Tree} {x : List Taker} → Moves one s a t c x → Moves other s a t c x
   moves-too {s} {a} {t} (rule-1 {k = k} {e = e} h) = rule-1 (takes-too s a t k e h)
@@ -60,6 +62,7 @@ module _ (m : Model) (es fs : List Edge) (among : (e : Edge) → List·Memᴰ e 
   moves-too {a = a} (rule-4-left {d = d} g r q) = rule-4-left (moves-too g) (rests-too r) (sym (set-same a d) ∙ q)
   moves-too {a = a} (rule-4-right {c = c} r h q) = rule-4-right (rests-too r) (moves-too h) (sym (set-same a c) ∙ q)
   moves-too (rule-6 h) = rule-6 (moves-too h)
+  moves-too (ini-moves g h) = ini-moves g (moves-too h)
 
   steps-too : (s : State) (a : ℕ) (t : State) (mark : Bool) → Step one s a t mark → Step other s a t mark
   steps-too s a t mark q = record { takers = q .takers; moves = moves-too (q .moves); ended = q .ended; frame = q .frame; marked = q .marked ∙ set-same a (leaf 0) }

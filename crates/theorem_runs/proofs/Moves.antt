@@ -13,7 +13,7 @@ use Rattle.model.specs.Basic.{countUp}
 use Rattle.model.specs.Composition.{Tree}
 use Rattle.model.specs.Model.{Model, Edge, automaton}
 use Rattle.model.specs.Lawful.{Lawful}
-use Rattle.model.specs.Rules.{State, changed, Taker, Moves, rule-1, rule-3, rule-4-left, rule-4-right, rule-6, Step, Environment}
+use Rattle.model.specs.Rules.{State, changed, Taker, Moves, rule-1, rule-3, rule-4-left, rule-4-right, rule-6, ini-moves, Step, Environment}
 use Rattle.model.specs.Moves.{moves}
 use Rattle.model.specs.Equal.{sameEdge}
 use Rattle.model.specs.Linear.{linear, mergedEdge, edgesWithRepeats, mergedEdges}
@@ -36,6 +36,7 @@ moves-bounded m last h s a t (rule-3 i j p q) = moves-bounded m last h s a t p
 moves-bounded m last h s a t (rule-4-left p r i) = moves-bounded m last h s a t p
 moves-bounded m last h s a t (rule-4-right r p i) = moves-bounded m last h s a t p
 moves-bounded m last h s a t (rule-6 p) = moves-bounded m last h s a t p
+moves-bounded m last h s a t (ini-moves i p) = moves-bounded m last h s a t p
 
 -- row 12: of a lawful model no edge's action is above A
 lawful-bounded : (m : Model) → Lawful m → Bounded m (m .actions)

@@ -8,17 +8,13 @@ use borrow.Author.Tests.{ne-eqb}
 use lib.ListN.{length, take}
 use lib.Dec.{eqb}
 use Rattle.format.specs.Bytes.{Bytes, ledBy, joined}
+use Rattle.format.proofs.BytesLaws.{led-append}
 use Rattle.write_words.specs.Growing.{between}
 
 -- is a list empty?
 unfoldable pub isNone : {A : Type 0} → List A → Bool
 isNone [] = true
 isNone (x ∷ xs) = false
-
-pub led-append : (c : ℕ) (xs ys : List Bytes) → ledBy c (xs ++ ys) ≡ ledBy c xs ++ ledBy c ys
-unfolding ledBy
-led-append c [] ys = refl
-led-append c (x ∷ xs) ys = ap (λ (l : Bytes). c ∷ l) (ap (λ (l : Bytes). x ++ l) (led-append c xs ys) ∙ sym (append-assoc x (ledBy c xs) (ledBy c ys)))
 
 pub joined-snoc : (c : ℕ) (xs : List Bytes) (x : Bytes) → joined c (xs ++ x ∷ []) ≡ joined c xs ++ between (isNone xs) (c ∷ []) ++ x
 unfolding joined ledBy between isNone

@@ -2,19 +2,22 @@
 use Prim.Native.Nat.{ℕ, _+_}
 use mathlib.Core.Path.{_≡_, refl, sym, ap, subst, _∙_}
 use mathlib.Core.List.{List, [], _∷_, _++_, append-assoc}
-use lib.ListN.{getD, take, drop}
+use lib.ListN.{getD, drop}
 use Rattle.format.specs.Bytes.{Bytes, bytes, joined, space}
 use Rattle.format.specs.Spelling.{spelling}
 use Rattle.format.specs.Number.{decimal, signed}
 use Rattle.model.specs.Table.{unbiased}
 use Rattle.line_order.specs.declared.Key.{Key}
 use Rattle.line_order.specs.declared.Key.the-variants.{Format, Actions, Variables, Variable, Automata, Sync, Locations, Init, Inv, Edges, Edge, Compose, End}
+use Rattle.table_tree.specs.Nodes.{skipFrom}
+use Rattle.table_places.specs.Outline.{nodesPlace}
+use Rattle.table_places.specs.Starts.{startsAt, firstStart}
 use Rattle.write_words.specs.declared.growing.Part.{Part}
 use Rattle.write_words.specs.declared.line.Shape.{Shape}
 use Rattle.text_bytes.specs.declared.answer.Written.{Written}
 use Rattle.write_words.specs.Growing.{Grew, partText}
-use Rattle.write_words.specs.NodeText.{setText, wordsText, nodeTexts}
-use Rattle.write_words.specs.Text.{rangeText, predicateText, fieldText, edgeText, treeText, shapeOf, valueBy, valueOf, keyPart, keyText, lineOf, sizeOf}
+use Rattle.write_words.specs.NodeText.{predicateText, setText, nodeTexts}
+use Rattle.write_words.specs.Text.{rangeText, fieldText, edgeText, startsBehind, treeText, shapeOf, valueBy, valueOf, keyPart, keyText, lineOf, sizeOf}
 use Rattle.write_words.proofs.GrowingLaws.{grew-none, grew-then, part-grew}
 
 -- `range`
@@ -24,12 +27,6 @@ unfolding rangeText
 range-is ws at a b r old cur mid new x y e f g h k =
     rw (← e, ← f, ← append-assoc (signed (unbiased x)) (44 ∷ []) (signed (unbiased y)))
     (grew-then (signed (unbiased x) ++ 44 ∷ []) (signed (unbiased y)) at b r old mid new (grew-then (signed (unbiased x)) (44 ∷ []) at a b old cur mid g h) k)
-
--- `predicate`
-pub predicate-is : (ws later cut : List ℕ) (n : ℕ) (at r : Written) (old new : Bytes) → later ≡ drop 1 ws → n ≡ getD ws 0 0 → cut ≡ take n later →
-    Grew (wordsText cut) at old new r → Grew (predicateText ws) at old new r
-unfolding predicateText
-predicate-is ws later cut n at r old new e f g k = rw (← f, ← e, ← g) k
 
 -- `field` and `edge`
 pub field-is : (n : ℕ) (at a r : Written) (old mid new : Bytes) → Grew (decimal n) at old mid a → Grew (44 ∷ []) a mid new r → Grew (fieldText n) at old new r
@@ -44,10 +41,15 @@ edge-is ws later x y z ex ey ez el at a b c r o p q s new g1 g2 g3 g4 =
     let h3 = grew-then (fieldText x ++ fieldText y) (fieldText z) at b c o q s h2 g3 in
     rw (← ex, ← ey, ← ez, ← el) (grew-then (fieldText x ++ fieldText y ++ fieldText z) (predicateText later) at c r o s new h3 g4)
 
--- `tree`
-pub tree-is : (ws later : List ℕ) (n : ℕ) (at r : Written) (old new : Bytes) → later ≡ drop 1 ws → n ≡ getD ws 0 0 → Grew (joined space (nodeTexts n later)) at old new r → Grew (treeText ws) at old new r
+-- `starts` and `tree`
+pub starts-is : (ws r : List ℕ) (root number first : ℕ) → root ≡ nodesPlace ws 0 → number ≡ skipFrom ws 64 1 root → first ≡ firstStart ws number → r ≡ drop first ws → r ≡ startsBehind ws
+unfolding startsBehind startsAt
+starts-is ws r root number first e f g h = rw (h, g, f, e)
+
+pub tree-is : (ws later ps : List ℕ) (n : ℕ) (at r : Written) (old new : Bytes) → later ≡ drop 1 ws → n ≡ getD ws 0 0 → ps ≡ startsBehind ws → Grew (joined space (nodeTexts n later ps)) at old new r
+    → Grew (treeText ws) at old new r
 unfolding treeText
-tree-is ws later n at r old new e f g = rw (← f, ← e) g
+tree-is ws later ps n at r old new e f g h = rw (← f, ← e, ← g) h
 
 -- `among_keys`, `shape_of` and `size`, by the key
 module _ (key k : Key) (e : key ≡ k) where

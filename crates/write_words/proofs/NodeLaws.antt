@@ -7,6 +7,7 @@ use native.Mathlib.Omega.{arith}
 use native.Mathlib.Numerals.{add-one}
 use borrow.Author.Tests.{ne-eqb}
 use lib.ListN.{getD, drop}
+use lib.Seq.{getD-drop}
 use lib.Dec.{eqb}
 use Rattle.model.specs.Basic.{keep, countUp}
 use Rattle.model.specs.Table.{bit}
@@ -17,9 +18,9 @@ use Rattle.format.specs.Spelling.{textOfList}
 use Rattle.text_bytes.specs.declared.answer.Written.{Written}
 use Rattle.table_tree.specs.Sets.{oneWord}
 use Rattle.table_tree.proofs.SetLaws.{set-of-one}
-use Rattle.table_places.specs.Outline.{reach}
+use Rattle.table_places.specs.Outline.{reach, nodesPlace, afterPredicate}
 use Rattle.write_words.specs.Growing.{Grew, between}
-use Rattle.write_words.specs.NodeText.{memberText, setText, nodeBy, nodeText, sizeBy, nodeSize, nodeTexts}
+use Rattle.write_words.specs.NodeText.{predicateText, memberText, setText, isIni, overText, nodeBy, nodeText, sizeBy, nodeSize, startsAfter, nodeTexts}
 use Rattle.write_words.proofs.GrowingLaws.{grew-none, grew-then}
 use Rattle.table_places.proofs.OutlineLaws.{reach-drop}
 use Rattle.write_words.proofs.JoinLaws.{isNone, joined-snoc, map-append}
@@ -120,23 +121,59 @@ module _ (both : ℕ) (at : Written) (old : Bytes) where
 
 pub ruleset set-laws = (set-none, set-first, set-on, set-later, set-all)
 
+-- past the predicate at a place
+past-predicate : (t : List ℕ) (at : ℕ) → drop (afterPredicate t at) t ≡ drop (getD (drop at t) 0 0) (drop 1 (drop at t))
+unfolding afterPredicate nodesPlace
+past-predicate t at =
+    let none : at + 0 ≡ at = omega arith in
+    let n : getD t at 0 ≡ getD (drop at t) 0 0 = ap (λ (k : ℕ). getD t k 0) (sym none) ∙ sym (getD-drop at t 0 0) in
+    reach-drop t (reach t at 1) (getD t at 0) ∙ rw n (ap (drop (getD (drop at t) 0 0)) (reach-drop t at 1))
+
+-- `is_ini`, by the words, and `over` and `after` by the answer
+pub ini-is : (ws : List ℕ) (w a b : ℕ) → a ≡ getD ws 1 0 → b ≡ getD ws 2 0 → w ≡ getD ws 0 0 → (eqb w 1 && (eqb a 0 && eqb b 0)) ≡ isIni ws
+unfolding isIni
+ini-is ws w a b e f g = rw (e, f, g)
+
+module _ (ws ps : List ℕ) (b : Bool) (e : b ≡ isIni ws) where
+  module _ (at p r : Written) (old mid new : Bytes) where
+    pub over-ini : b ≡ true → Grew (105 ∷ 110 ∷ 105 ∷ 32 ∷ []) at old mid p → Grew (predicateText ps) p mid new r → Grew (overText (isIni ws) ws ps) at old new r
+    unfolding overText
+    over-ini z g h = rw (← e, z) (grew-then (105 ∷ 110 ∷ 105 ∷ 32 ∷ []) (predicateText ps) at p r old mid new g h)
+
+    pub over-syn : b ≡ false → (x y : ℕ) → x ≡ getD ws 1 0 → y ≡ getD ws 2 0 → Grew (115 ∷ 121 ∷ 110 ∷ 32 ∷ []) at old mid p → Grew (setText x y) p mid new r
+        → Grew (overText (isIni ws) ws ps) at old new r
+    unfolding overText
+    over-syn z x y f k g h = rw (← e, z, ← f, ← k) (grew-then (115 ∷ 121 ∷ 110 ∷ 32 ∷ []) (setText x y) at p r old mid new g h)
+
+  pub after-ini : b ≡ true → (at r : ℕ) → r ≡ afterPredicate ps at → drop r ps ≡ startsAfter (isIni ws) (drop at ps)
+  unfolding startsAfter
+  after-ini z at r f = rw (← e, z) (ap (λ (n : ℕ). drop n ps) f ∙ past-predicate ps at)
+
+  pub after-other : b ≡ false → (at : ℕ) → drop at ps ≡ startsAfter (isIni ws) (drop at ps)
+  unfolding startsAfter
+  after-other z at = rw (← e, z)
+
+pub ruleset over-laws = (over-ini, over-syn)
+
+pub ruleset after-laws = (after-ini, after-other)
+
 -- `node` and `size`, by the first word
-module _ (ws : List ℕ) (w : ℕ) (e : w ≡ getD ws 0 0) (at r : Written) (old new : Bytes) where
-  pub node-par : w ≡ 0 → Grew (112 ∷ 97 ∷ 114 ∷ []) at old new r → Grew (nodeText ws) at old new r
+module _ (ws ps : List ℕ) (w : ℕ) (e : w ≡ getD ws 0 0) (at r : Written) (old new : Bytes) where
+  pub node-par : w ≡ 0 → Grew (112 ∷ 97 ∷ 114 ∷ []) at old new r → Grew (nodeText ws ps) at old new r
   unfolding nodeText nodeBy
   node-par z g = rw (← e, z) g
 
-  pub node-syn : w ≡ 1 → (a b : ℕ) → a ≡ getD ws 1 0 → b ≡ getD ws 2 0 → (p : Written) (mid : Bytes) → Grew (115 ∷ 121 ∷ 110 ∷ 32 ∷ []) at old mid p → Grew (setText a b) p mid new r → Grew (nodeText ws) at old new r
+  pub node-over : w ≡ 1 → Grew (overText (isIni ws) ws ps) at old new r → Grew (nodeText ws ps) at old new r
   unfolding nodeText nodeBy
-  node-syn z a b f k p mid g h = rw (← e, z, ← f, ← k) (grew-then (115 ∷ 121 ∷ 110 ∷ 32 ∷ []) (setText a b) at p r old mid new g h)
+  node-over z g = rw (← e, z) g
 
-  pub node-leaf : (w ≡ 0 → ⊥) → (w ≡ 1 → ⊥) → (p : Written) (mid : Bytes) → Grew (97 ∷ []) at old mid p → Grew (decimal (w - 2)) p mid new r → Grew (nodeText ws) at old new r
+  pub node-leaf : (w ≡ 0 → ⊥) → (w ≡ 1 → ⊥) → (p : Written) (mid : Bytes) → Grew (97 ∷ []) at old mid p → Grew (decimal (w - 2)) p mid new r → Grew (nodeText ws ps) at old new r
   unfolding nodeText
   node-leaf y z p mid g h =
       let s : w ≡ suc (suc (w - 2)) = omega arith in
       rw (← e, s) (unfold nodeBy in grew-then (97 ∷ []) (decimal (w - 2)) at p r old mid new g h)
 
-pub ruleset node-laws = (node-par, node-syn, node-leaf)
+pub ruleset node-laws = (node-par, node-over, node-leaf)
 
 module _ (ws : List ℕ) (w : ℕ) (e : w ≡ getD ws 0 0) where
   pub size-syn : w ≡ 1 → 3 ≡ nodeSize ws
@@ -154,49 +191,68 @@ module _ (ws : List ℕ) (w : ℕ) (e : w ≡ getD ws 0 0) where
 
 pub ruleset size-laws = (size-syn, size-other)
 
--- the words after n nodes
+-- the words after n nodes, and the P's after those of n nodes
 unfoldable pub afterNodes : ℕ → List ℕ → List ℕ
 afterNodes zero ws = ws
 afterNodes (suc n) ws = afterNodes n (drop (nodeSize ws) ws)
+
+unfoldable pub afterStarts : ℕ → (ws ps : List ℕ) → List ℕ
+afterStarts zero ws ps = ps
+afterStarts (suc n) ws ps = afterStarts n (drop (nodeSize ws) ws) (startsAfter (isIni ws) ps)
 
 after-more : (n : ℕ) (ws : List ℕ) → afterNodes (suc n) ws ≡ drop (nodeSize (afterNodes n ws)) (afterNodes n ws)
 unfolding afterNodes
 after-more zero ws = refl
 after-more (suc n) ws = after-more n (drop (nodeSize ws) ws)
 
-texts-more : (n : ℕ) (ws : List ℕ) → nodeTexts (suc n) ws ≡ nodeTexts n ws ++ nodeText (afterNodes n ws) ∷ []
-unfolding afterNodes nodeTexts
-texts-more zero ws = refl
-texts-more (suc n) ws = ap (λ (l : List Bytes). nodeText ws ∷ l) (texts-more n (drop (nodeSize ws) ws))
+starts-more : (n : ℕ) (ws ps : List ℕ) → afterStarts (suc n) ws ps ≡ startsAfter (isIni (afterNodes n ws)) (afterStarts n ws ps)
+unfolding afterNodes afterStarts
+starts-more zero ws ps = refl
+starts-more (suc n) ws ps = starts-more n (drop (nodeSize ws) ws) (startsAfter (isIni ws) ps)
 
-texts-none : (n : ℕ) (ws : List ℕ) → isNone (nodeTexts n ws) ≡ eqb n 0
+texts-more : (n : ℕ) (ws ps : List ℕ) → nodeTexts (suc n) ws ps ≡ nodeTexts n ws ps ++ nodeText (afterNodes n ws) (afterStarts n ws ps) ∷ []
+unfolding afterNodes afterStarts nodeTexts
+texts-more zero ws ps = refl
+texts-more (suc n) ws ps = ap (λ (l : List Bytes). nodeText ws ps ∷ l) (texts-more n (drop (nodeSize ws) ws) (startsAfter (isIni ws) ps))
+
+texts-none : (n : ℕ) (ws ps : List ℕ) → isNone (nodeTexts n ws ps) ≡ eqb n 0
 unfolding nodeTexts isNone
-texts-none zero ws = refl
-texts-none (suc n) ws = sym (ne-eqb (suc n) 0 (λ e. omega arith))
+texts-none zero ws ps = refl
+texts-none (suc n) ws ps = sym (ne-eqb (suc n) 0 (λ e. omega arith))
+
+-- where the walk of `nodes` is after n nodes: the words after them stand from `next` on, the P's from `start` on
+pub record Walked (ws ps : List ℕ) (n next start : ℕ) : Type 0 where
+  pub nodes : drop next ws ≡ afterNodes n ws
+  pub starts : drop start ps ≡ afterStarts n ws ps
 
 -- the turns of `nodes`
-module _ (ws : List ℕ) (at : Written) (old : Bytes) where
-  pub nodes-none : Grew (joined space (nodeTexts 0 ws)) at old old at
+module _ (ws ps : List ℕ) (at : Written) (old : Bytes) where
+  pub nodes-none : Grew (joined space (nodeTexts 0 ws ps)) at old old at
   unfolding nodeTexts joined
   nodes-none = grew-none at old
 
-  pub nodes-first : drop 0 ws ≡ afterNodes 0 ws
-  unfolding afterNodes
-  nodes-first = refl
+  pub nodes-first : Walked ws ps 0 0 0
+  unfolding afterNodes afterStarts
+  nodes-first = record { nodes = refl; starts = refl }
 
-  pub nodes-all : (i n : ℕ) → i ≤ n → n ≤ i → (cur : Bytes) (end : Written) → Grew (joined space (nodeTexts i ws)) at old cur end → Grew (joined space (nodeTexts n ws)) at old cur end
+  pub nodes-all : (i n : ℕ) → i ≤ n → n ≤ i → (cur : Bytes) (end : Written) → Grew (joined space (nodeTexts i ws ps)) at old cur end → Grew (joined space (nodeTexts n ws ps)) at old cur end
   nodes-all i n h k cur end inv = let z : i ≡ n = omega arith in rw z at inv
 
-  module _ (i next : ℕ) (stands : drop next ws ≡ afterNodes i ws) (here : List ℕ) (e : here ≡ drop next ws) where
-    pub nodes-on : (cur : Bytes) (end : Written) → Grew (joined space (nodeTexts i ws)) at old cur end → (a r : Written) (mid new : Bytes) → Grew (between (eqb i 0) (32 ∷ [])) end cur mid a → Grew (nodeText here) a mid new r → Grew (joined space (nodeTexts (i + 1) ws)) at old new r
-    nodes-on cur end inv a r mid new g k =
-        let h = grew-then (joined space (nodeTexts i ws)) (between (eqb i 0) (32 ∷ [])) at end a old cur mid inv g in
-        let n : afterNodes i ws ≡ here = sym stands ∙ sym e in
-        rw (add-one i, texts-more i ws, n, joined-snoc space (nodeTexts i ws) (nodeText here), texts-none i ws)
-        (grew-then (joined space (nodeTexts i ws) ++ between (eqb i 0) (32 ∷ [])) (nodeText here) at a r old mid new h k)
+  module _ (i next start : ℕ) (w : Walked ws ps i next start) (here : List ℕ) (e : here ≡ drop next ws) where
+    pub nodes-on : (p : List ℕ) → p ≡ drop start ps → (cur : Bytes) (end : Written) → Grew (joined space (nodeTexts i ws ps)) at old cur end → (a r : Written) (mid new : Bytes)
+        → Grew (between (eqb i 0) (32 ∷ [])) end cur mid a → Grew (nodeText here p) a mid new r → Grew (joined space (nodeTexts (i + 1) ws ps)) at old new r
+    nodes-on p f cur end inv a r mid new g k =
+        let h = grew-then (joined space (nodeTexts i ws ps)) (between (eqb i 0) (32 ∷ [])) at end a old cur mid inv g in
+        let n : afterNodes i ws ≡ here = sym (w .nodes) ∙ sym e in
+        let m : afterStarts i ws ps ≡ p = sym (w .starts) ∙ sym f in
+        rw (add-one i, texts-more i ws ps, n, m, joined-snoc space (nodeTexts i ws ps) (nodeText here p), texts-none i ws ps)
+        (grew-then (joined space (nodeTexts i ws ps) ++ between (eqb i 0) (32 ∷ [])) (nodeText here p) at a r old mid new h k)
 
-    pub nodes-next : (s then : ℕ) → s ≡ nodeSize here → then ≡ reach ws next s → drop then ws ≡ afterNodes (i + 1) ws
-    nodes-next s then f g =
-        rw (g, add-one i, after-more i ws, ← stands, f, e) (reach-drop ws next (nodeSize (drop next ws)))
+    pub nodes-next : (s then later : ℕ) → s ≡ nodeSize here → then ≡ reach ws next s → drop later ps ≡ startsAfter (isIni here) (drop start ps) → Walked ws ps (i + 1) then later
+    nodes-next s then later f g h =
+        record {
+          nodes = rw (g, add-one i, after-more i ws, ← w .nodes, f, e) (reach-drop ws next (nodeSize (drop next ws)));
+          starts = rw (add-one i, starts-more i ws ps, ← w .nodes, ← e, ← w .starts) h;
+        }
 
 pub ruleset nodes-laws = (nodes-none, nodes-first, nodes-all, nodes-on, nodes-next)

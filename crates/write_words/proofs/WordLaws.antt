@@ -3,7 +3,7 @@ use Prim.Native.Nat.{ℕ, _+_, _≤_, _<_}
 use mathlib.Core.Path.{_≡_, refl, sym, ap}
 use mathlib.Core.List.{List, [], _∷_, _++_, map, append-nil}
 use native.Mathlib.Numerals.{add-one}
-use lib.ListN.{length, getD, take}
+use lib.ListN.{length, getD, take, drop}
 use lib.Seq.{take-suc, take-all}
 use lib.Dec.{eqb}
 use Rattle.format.specs.Bytes.{Bytes, bytes, ledBy, joined, space}
@@ -17,7 +17,7 @@ use Rattle.node_words.proofs.NodeLaws.{word-by, Other, by-others}
 use Rattle.text_bytes.specs.declared.answer.Written.{Written}
 use Rattle.write_words.specs.declared.growing.Part.{Part}
 use Rattle.write_words.specs.Growing.{Grew, between, partText}
-use Rattle.write_words.specs.NodeText.{wordText, wordsText, namePart, nameText, argumentText}
+use Rattle.write_words.specs.NodeText.{wordText, wordsText, predicateText, namePart, nameText, argumentText}
 use Rattle.write_words.proofs.GrowingLaws.{grew-none, grew-then, part-grew}
 use Rattle.write_words.proofs.JoinLaws.{isNone, joined-snoc, map-append, none-taken}
 
@@ -115,3 +115,9 @@ module _ (ws : List ℕ) (at : Written) (old : Bytes) where
         rw (words-more ws i h) (grew-then (wordsText (take i ws) ++ between (eqb i 0) (32 ∷ [])) (wordText (getD ws i 0)) at a r old mid new e k)
 
 pub ruleset words-laws = (words-none, words-all, words-on)
+
+-- `counted`
+pub counted-is : (ws later cut : List ℕ) (n : ℕ) (at r : Written) (old new : Bytes) → later ≡ drop 1 ws → n ≡ getD ws 0 0 → cut ≡ take n later →
+    Grew (wordsText cut) at old new r → Grew (predicateText ws) at old new r
+unfolding predicateText
+counted-is ws later cut n at r old new e f g k = rw (← f, ← e, ← g) k

@@ -1,8 +1,9 @@
 -- What is written for words, on any words: the nodes of predicates, sets, and the nodes of the tree.
 use Prim.Native.Nat.{ℕ, zero, suc}
-use mathlib.Core.Bool.{Bool, true, false}
+use mathlib.Core.Bool.{Bool, true, false, _&&_}
 use mathlib.Core.List.{List, [], _∷_, _++_, map}
-use lib.ListN.{getD, drop}
+use lib.ListN.{getD, take, drop}
+use lib.Dec.{eqb}
 use Rattle.model.specs.Table.{unbiased, wordOf, setOf}
 use Rattle.node_words.specs.declared.Node.{Node}
 use Rattle.node_words.specs.declared.Node.the-variants.{All, Any, Not, Imp, Eq, Le, Number, Old, New, Add, Sub, Mul}
@@ -19,6 +20,10 @@ wordText w = joined space (spelled (wordOf w))
 
 unfoldable pub wordsText : List ℕ → Bytes
 wordsText ws = joined space (map wordText ws)
+
+-- the predicate that some words begin with: its count of nodes, and the nodes
+unfoldable pub predicateText : List ℕ → Bytes
+predicateText ws = wordsText (take (getD ws 0 0) (drop 1 ws))
 
 -- the same in two parts, the node's name and its argument
 unfoldable pub nameText : Node → Bytes
@@ -78,15 +83,24 @@ unfoldable pub memberText : (isIn first : Bool) → ℕ → Bytes
 memberText true first k = between first (comma ∷ []) ++ decimal k
 memberText false first k = []
 
--- The node of the tree that some words begin with, how many words it has, and n nodes.
-unfoldable pub nodeBy : ℕ → List ℕ → Bytes
-nodeBy zero ws = bytes "par"
-nodeBy (suc zero) ws = bytes "syn " ++ setText (getD ws 1 0) (getD ws 2 0)
-nodeBy (suc (suc k)) ws = 'a ∷ decimal k
+-- The node of the tree that some words begin with; an `ini` is a `syn` with no action, and its P is the one that the
+-- words `ps` begin with.
+unfoldable pub isIni : List ℕ → Bool
+isIni ws = eqb (getD ws 0 0) 1 && (eqb (getD ws 1 0) 0 && eqb (getD ws 2 0) 0)
 
-unfoldable pub nodeText : List ℕ → Bytes
-nodeText ws = nodeBy (getD ws 0 0) ws
+unfoldable pub overText : (ini : Bool) (ws ps : List ℕ) → Bytes
+overText true ws ps = bytes "ini " ++ predicateText ps
+overText false ws ps = bytes "syn " ++ setText (getD ws 1 0) (getD ws 2 0)
 
+unfoldable pub nodeBy : ℕ → (ws ps : List ℕ) → Bytes
+nodeBy zero ws ps = bytes "par"
+nodeBy (suc zero) ws ps = overText (isIni ws) ws ps
+nodeBy (suc (suc k)) ws ps = 'a ∷ decimal k
+
+unfoldable pub nodeText : (ws ps : List ℕ) → Bytes
+nodeText ws ps = nodeBy (getD ws 0 0) ws ps
+
+-- how many words it has, and the P's after it: those after its own, if it is an `ini`
 unfoldable pub sizeBy : ℕ → ℕ
 sizeBy zero = 1
 sizeBy (suc zero) = 3
@@ -95,6 +109,11 @@ sizeBy (suc (suc k)) = 1
 unfoldable pub nodeSize : List ℕ → ℕ
 nodeSize ws = sizeBy (getD ws 0 0)
 
-unfoldable pub nodeTexts : ℕ → List ℕ → List Bytes
-nodeTexts zero ws = []
-nodeTexts (suc n) ws = nodeText ws ∷ nodeTexts n (drop (nodeSize ws) ws)
+unfoldable pub startsAfter : (ini : Bool) → List ℕ → List ℕ
+startsAfter true ps = drop (getD ps 0 0) (drop 1 ps)
+startsAfter false ps = ps
+
+-- n nodes
+unfoldable pub nodeTexts : ℕ → (ws ps : List ℕ) → List Bytes
+nodeTexts zero ws ps = []
+nodeTexts (suc n) ws ps = nodeText ws ps ∷ nodeTexts n (drop (nodeSize ws) ws) (startsAfter (isIni ws) ps)

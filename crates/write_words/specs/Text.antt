@@ -3,7 +3,7 @@
 use Prim.Native.Nat.{ℕ, zero, suc, _+_}
 use mathlib.Core.Bool.{true, false}
 use mathlib.Core.List.{List, [], _∷_, _++_}
-use lib.ListN.{getD, take, drop}
+use lib.ListN.{getD, drop}
 use Rattle.model.specs.Bounds.{tableWords}
 use Rattle.model.specs.Lines.{format, actions, variables, variable, automata, sync, locations, init, inv, edges}
 use Rattle.model.specs.Lines.{edge, compose}
@@ -16,18 +16,16 @@ use Rattle.line_order.specs.declared.Key.the-variants.{Format, Actions, Variabl
 use Rattle.line_order.specs.declared.Key.the-variants.{Locations, Init, Inv, Edges, Edge, Compose, End}
 use Rattle.line_order.specs.declared.Due.{Due}
 use Rattle.line_order.specs.Due.{isEnd, dueFirst, dueAfter}
+use Rattle.table_places.specs.Starts.{startsAt, firstStart}
 use Rattle.write_words.specs.declared.growing.Part.{Part}
 use Rattle.write_words.specs.Growing.{part}
-use Rattle.write_words.specs.NodeText.{wordsText, setText, nodeTexts}
+use Rattle.write_words.specs.NodeText.{predicateText, setText, nodeTexts}
 use Rattle.write_words.specs.declared.line.Shape.{Shape}
 use Rattle.write_words.specs.declared.line.Shape.the-variants as S
 
 -- The values of lines.
 unfoldable pub rangeText : List ℕ → Bytes
 rangeText ws = signed (unbiased (getD ws 0 0)) ++ (comma ∷ signed (unbiased (getD ws 1 0)))
-
-unfoldable pub predicateText : List ℕ → Bytes
-predicateText ws = wordsText (take (getD ws 0 0) (drop 1 ws))
 
 -- a number and a comma
 unfoldable pub fieldText : ℕ → Bytes
@@ -36,8 +34,12 @@ fieldText n = decimal n ++ (comma ∷ [])
 unfoldable pub edgeText : List ℕ → Bytes
 edgeText ws = fieldText (getD ws 0 0) ++ fieldText (getD ws 1 0) ++ fieldText (getD ws 2 0) ++ predicateText (drop 3 ws)
 
+-- the P's of the tree: they stand behind its nodes, after their number
+unfoldable pub startsBehind : List ℕ → List ℕ
+startsBehind ws = drop (firstStart ws (startsAt ws 0)) ws
+
 unfoldable pub treeText : List ℕ → Bytes
-treeText ws = joined space (nodeTexts (getD ws 0 0) (drop 1 ws))
+treeText ws = joined space (nodeTexts (getD ws 0 0) (drop 1 ws) (startsBehind ws))
 
 unfoldable pub valueOf : Key → List ℕ → Bytes
 valueOf Format ws = decimal (getD ws 0 0)

@@ -1,13 +1,14 @@
 // One line: its key, its value and a line feed.
 use crate::growing::Part;
 use crate::growing::{self};
+use crate::predicate::{self};
 use crate::read::{self};
 use line_order::Key;
 use table_places::word32;
 use text_bytes::Written;
 ghost use mathlib.Core.Path.{_≡_};
 ghost use Rattle.write_words.specs.Growing.{Grew};
-ghost use Rattle.write_words.specs.Text.{rangeText, predicateText, fieldText, edgeText, treeText};
+ghost use Rattle.write_words.specs.Text.{rangeText, fieldText, edgeText, startsBehind, treeText};
 ghost use Rattle.write_words.specs.Text.{shapeOf, valueOf, keyPart, keyText, lineOf, sizeOf};
 
 // Both ends of a range.
@@ -17,14 +18,6 @@ fn range(ws: &[u32], out: &mut [u8], at: Written) -> Written
     let a = growing::biased(word32(ws, 0), out, at);
     let b = growing::put(b",", out, a);
     growing::biased(word32(ws, 1), out, b)
-}
-
-// A predicate: its count of nodes, and the nodes.
-fn predicate(ws: &[u32], out: &mut [u8], at: Written) -> Written
-    ensures { λ r. ⌜ Grew (predicateText (now (ws .entry))) at (now (out .entry)) (now (out .exit)) r ⌝ }
-{
-    let n = read::count(ws, 0);
-    crate::predicate::words(read::first(read::rest(ws, 1), n), out, at)
 }
 
 // A number and a comma.
@@ -42,15 +35,23 @@ fn edge(ws: &[u32], out: &mut [u8], at: Written) -> Written
     let a = field(word32(ws, 0), out, at);
     let b = field(word32(ws, 1), out, a);
     let c = field(word32(ws, 2), out, b);
-    predicate(read::rest(ws, 3), out, c)
+    predicate::counted(read::rest(ws, 3), out, c)
 }
 
-// The composition: its count of nodes, and the nodes.
+// The tree's P's: behind its nodes and their number.
+fn starts(ws: &[u32]) -> &[u32]
+    ensures { λ r. ⌜ now r ≡ startsBehind (now (ws .entry)) ⌝ }
+{
+    let number = table_tree::skip(ws, table_places::nodes_at(ws, 0));
+    read::rest(ws, table_places::first_start(ws, number))
+}
+
+// The composition: its count of nodes, the nodes, and the P's of its `ini`.
 fn tree(ws: &[u32], out: &mut [u8], at: Written) -> Written
     ensures { λ r. ⌜ Grew (treeText (now (ws .entry))) at (now (out .entry)) (now (out .exit)) r ⌝ }
 {
     let n = read::count(ws, 0);
-    crate::tree::nodes(read::rest(ws, 1), n, out, at)
+    crate::tree::nodes(read::rest(ws, 1), n, starts(ws), out, at)
 }
 
 // What a line's value is, by its key.
@@ -92,7 +93,7 @@ fn value(key: Key, ws: &[u32], out: &mut [u8], at: Written) -> Written
         Shape::Number => growing::number(word32(ws, 0), out, at),
         Shape::Range => range(ws, out, at),
         Shape::Set => crate::tree::set(word32(ws, 0), word32(ws, 1), out, at),
-        Shape::Predicate => predicate(ws, out, at),
+        Shape::Predicate => predicate::counted(ws, out, at),
         Shape::Edge => edge(ws, out, at),
         Shape::Tree => tree(ws, out, at),
         Shape::Nothing => at,

@@ -1,11 +1,13 @@
 // Predicates: the nodes of a predicate, each one word, and spaces between them.
 use crate::growing::Part;
 use crate::growing::{self};
+use crate::read::{self};
 use node_words::Node;
 use text_bytes::Written;
 ghost use mathlib.Core.Path.{_≡_};
 ghost use Rattle.write_words.specs.Growing.{Grew};
 ghost use Rattle.write_words.specs.NodeText.{namePart, nameText, argumentText, wordText, wordsText};
+ghost use Rattle.write_words.specs.NodeText.{predicateText};
 
 // Where a node's name stands among all names.
 fn among_names(node: Node) -> Part
@@ -59,7 +61,7 @@ fn word(w: u32, out: &mut [u8], at: Written) -> Written
     argument(node, out, a)
 }
 
-pub(crate) fn words(ws: &[u32], out: &mut [u8], at: Written) -> Written
+fn words(ws: &[u32], out: &mut [u8], at: Written) -> Written
     ensures { λ r. ⌜ Grew (wordsText (now (ws .entry))) at (now (out .entry)) (now (out .exit)) r ⌝ }
 {
     let mut end = at;
@@ -70,4 +72,12 @@ pub(crate) fn words(ws: &[u32], out: &mut [u8], at: Written) -> Written
         i += 1;
     }
     end
+}
+
+// A predicate: its count of nodes, and the nodes.
+pub(crate) fn counted(ws: &[u32], out: &mut [u8], at: Written) -> Written
+    ensures { λ r. ⌜ Grew (predicateText (now (ws .entry))) at (now (out .entry)) (now (out .exit)) r ⌝ }
+{
+    let n = read::count(ws, 0);
+    words(read::first(read::rest(ws, 1), n), out, at)
 }

@@ -1,23 +1,25 @@
 -- Line by line: what the writer writes for a model's table is the model's text.
 use Prim.Native.Nat.{ℕ, zero, suc, _+_, _≤_, _<_}
 use mathlib.Core.Path.{_≡_, refl, sym, _∙_, ap, ap₂}
-use mathlib.Core.Bool.{true}
-use mathlib.Core.List.{List, [], _∷_, _++_, map, flatMap, append-assoc, append-nil}
+use mathlib.Core.Bool.{true, not}
+use mathlib.Core.List.{List, [], _∷_, _++_, flatMap, append-assoc, append-nil}
 use mathlib.Core.Option.{none}
 use native.Mathlib.Omega.{arith}
 use lib.Dec.{leb}
-use lib.ListN.{length, getD, drop, length-map}
-use lib.Seq.{drop-at}
+use borrow.Author.Tests.{ltb-false}
+use lib.ListN.{length, getD, drop}
 use Rattle.model.specs.Basic.{lacks, between}
-use Rattle.model.specs.Bounds.{leastNumber, greatestNumber}
-use Rattle.model.specs.Predicate.{Pred, words, nodeCount}
+use Rattle.model.specs.Bounds.{maxTreeNodes, leastNumber, greatestNumber}
+use Rattle.model.specs.Predicate.{Pred, nodeCount}
+use Rattle.model.specs.Composition.{Tree, treeSize}
 use Rattle.model.specs.Model.{Model}
 use Rattle.model.specs.Lines.{Key as LineKey, format, actions, compose, Entry, formatLine, actionsLine, variablesLine, variableLine, automataLine, syncLine, locationsLine, initLine, invLine, edgesLine, edgeLine, composeLine, keyOf, lines, dueAtFirst, thenDue, Reading, atFirst, noted}
-use Rattle.model.specs.Limits.{numbersInRange, rises, treeRises, contentFault, faultOf, withinLimits, limits}
+use Rattle.model.specs.Limits.{numbersInRange, rises, treeRises, listsFilled, isDisordered, isTooLarge, contentFault, faultOf, withinLimits, limits}
 use Rattle.model.specs.Lawful.{Lawful}
-use Rattle.model.specs.Table.{code, setWords, predWords, lineWords, sheetWords, Opened, unopened, opened, openTable}
+use Rattle.model.specs.Table.{setWords, predWords, lineWords, sheetWords, Opened, unopened, opened, openTable}
 use Rattle.model.proofs.Tests.{and-left, and-right}
-use Rattle.model.proofs.Decode.{number-back, none-lacks, in-range, unsaid}
+use Rattle.model.proofs.Decode.{number-back, none-lacks, unbroken, in-range, unsaid, lists-filled}
+use Rattle.model.proofs.LimitLines.{starts-clear}
 use Rattle.model.proofs.Bits.{set-back}
 use Rattle.model.proofs.LinesLaws.{Follows, follow-lines}
 use Rattle.model.proofs.LimitsLaws.{lawful-is}
@@ -40,12 +42,21 @@ use Rattle.write_words.specs.Text.{rangeText, fieldText, edgeText, valueOf, key
 use Rattle.write_words.specs.declared.WriteAnswer.{WriteAnswer}
 use Rattle.write_words.specs.declared.WriteAnswer.the-variants as W
 use Rattle.write_words.specs.Answer.{copyAnswer, roomAnswer, given, Answered}
-use Rattle.writer.proofs.TextLaws.{predicate-text, tree-text}
+use Rattle.writer.proofs.TextLaws.{predicate-text, past-nodes, tree-text}
 use Rattle.write_words.proofs.SheetLaws.{lines-end, lines-on, with-room}
 
 -- four items with commas between them
 fields : (a b c t : Bytes) → (a ++ (comma ∷ [])) ++ (b ++ (comma ∷ [])) ++ (c ++ (comma ∷ [])) ++ t ≡ a ++ (comma ∷ (b ++ (comma ∷ (c ++ (comma ∷ (t ++ []))))))
 fields a b c t = simp (append-assoc, append-nil)
+
+-- row 16
+few-nodes : (r : Reading) (c : Tree) → faultOf r (composeLine c) ≡ none → treeSize c ≤ maxTreeNodes
+unfolding faultOf contentFault isTooLarge lacks
+few-nodes r c h =
+    let a = unbroken 5 (not (treeRises (r .model .actions) c)) _ (unbroken 3 (not (numbersInRange (composeLine c))) _ h .1) .1 in
+    let b = none-lacks _ (starts-clear r c _ .0 (ap lacks a) .5) in
+    let d = unbroken 14 (isDisordered (length (r .model .automata)) c) _ (unbroken 13 (not (listsFilled c)) _ b .1) .1 in
+    ltb-false maxTreeNodes (treeSize c) (unbroken 16 (isTooLarge (treeSize c)) none d .0)
 
 -- the value of a line that breaks no row
 value-text : (r : Reading) (e : Entry) (rest : List ℕ) → faultOf r e ≡ none → valueOf (codeOf (keyOf e)) (lineWords e ++ rest) ≡ valueText e
@@ -72,7 +83,7 @@ value-text r (edgeLine e) rest h =
     fields (decimal (e .from)) (decimal (e .action)) (decimal (e .to)) (textOfPred (e .update))
 value-text r (composeLine c) rest h =
     let up : treeRises (r .model .actions) c ≡ true = unsaid r (composeLine c) 5 (treeRises (r .model .actions) c) _ h refl in
-    tree-text (r .model .actions) c rest up (in-range r (composeLine c) h)
+    tree-text (r .model .actions) c rest up (lists-filled r c h) (in-range r (composeLine c) h) (few-nodes r c h)
 
 key-text : (e : Entry) → keyText (codeOf (keyOf e)) ≡ spelling (keyOf e)
 unfolding keyText codeOf keyOf
@@ -112,10 +123,10 @@ due-counted (composeLine c) d rest = refl
 
 -- past a predicate's words
 past-predicate : (p : Pred) (rest : List ℕ) → drop (1 + nodeCount p) (predWords p ++ rest) ≡ rest
-unfolding predWords nodeCount
+unfolding predWords
 past-predicate p rest =
-    let e : 1 + length (words p) ≡ suc (length (words p)) = omega arith in
-    rw e (drop-at (map code (words p)) rest (length (words p)) (length-map (words p) code))
+    let e : 1 + nodeCount p ≡ suc (nodeCount p) = omega arith in
+    rw e (past-nodes p rest)
 
 past-edge : (a b c n : ℕ) (ws : List ℕ) → drop (4 + n) (a ∷ b ∷ c ∷ ws) ≡ drop (1 + n) ws
 past-edge a b c n ws =

@@ -56,7 +56,7 @@ pub fn sentence(number: u32) -> &'static str {
         5 => "a list of actions does not rise, or has 0 or an action above the highest",
         6 => "this is no predicate",
         7 => "the sheet has no such variable",
-        8 => "an init or inv cannot have a new value",
+        8 => "an init, an inv or a start condition cannot have a new value",
         9 => "the predicate is deeper than 24",
         10 => "an expression can leave the 32-bit numbers",
         11 => "with this line the predicates have more than 4,096 nodes",

@@ -95,6 +95,13 @@ fn deepest_tree() -> String {
     format!("format=1\nactions=1\nvariables=1\nvariable=0,1\nautomata=1\n{automaton}compose={}a0\n", "syn 1 ".repeat(63))
 }
 
+/// One automaton under 63 `ini`; the innermost has this predicate.
+fn deepest_start(predicate: &str) -> String {
+    let automaton = "sync=\nlocations=1\ninit=all 0\ninv=all 0\nedges=1\nedge=0,1,0,all 0\n";
+    let compose = format!("{}ini {predicate} a0", "ini all 0 ".repeat(62));
+    format!("format=1\nactions=1\nvariables=1\nvariable=0,1\nautomata=1\n{automaton}compose={compose}\n")
+}
+
 /// Sixteen automata with three variables each, which must all choose before the step judge has an answer.
 fn deepest_search(compose: &str) -> String {
     let automaton = |k: usize| {
@@ -110,13 +117,20 @@ fn good_texts() -> Vec<String> {
     let [left, right] = deep_trees();
     let mut texts = vec![sixteen("all 0", "all 0", &left), sixteen("all 0", "all 0", &right), most_merged_edges(), deepest_tree()];
     texts.extend(deep_predicates().iter().map(|predicate| sixteen(predicate, predicate, &left)));
+    texts.extend(deep_predicates().iter().map(|predicate| deepest_start(predicate)));
+    // As deep as can be merged.
+    texts.push(deepest_start(&format!("not {}eq v0 0{}", "eq if ".repeat(10), " 0 v0 0".repeat(10))));
     texts
 }
 
 /// Lines that nest as deep as a text can.
 fn bad_texts() -> Vec<String> {
     let words = ["not ", "imp all 0 ", "all 512 ", "eq if ", "eq add "];
-    words.iter().map(|word| format!("{HEAD}sync=\nlocations=1\ninit={}all 0\n", word.repeat(60_000 / word.len()))).collect()
+    let nested = |word: &str| word.repeat(60_000 / word.len()) + "all 0";
+    let starts = ["ini ", "ini all 0 ", "ini not ", "par ini all 512 "];
+    let inits = words.iter().map(|word| format!("{HEAD}sync=\nlocations=1\ninit={}\n", nested(word)));
+    let deep = words.iter().map(|word| deepest_start(&nested(word)));
+    inits.chain(deep).chain(starts.iter().map(|word| deepest_start(&nested(word)))).collect()
 }
 
 fn table_of(text: &str) -> Vec<u32> {
@@ -159,7 +173,7 @@ fn merging() {
     let tables = tables();
     within("MERGE", move || {
         let merged = tables.iter().filter(|table| merge(table, &mut out).is_ok()).count();
-        assert_eq!(merged, 2, "the one with 408 edges and the deepest tree; the others have too many edges merged");
+        assert_eq!(merged, 3, "the one with 408 edges, the deepest tree and the last start; others have too many edges or levels");
     });
 }
 

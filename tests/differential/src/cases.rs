@@ -144,6 +144,75 @@ const CHANGES: &[Change] = &[
     ("faults_6_and_7", 8, "init=eq v9", 6),
     ("faults_6_and_12", 11, "edge=0,3,0,eq v0", 6),
     ("faults_7_and_8", 8, "init=eq n9 0", 7),
+    // Start conditions that are sound: alone, one over the other, over and under a syn.
+    ("ini_always", 12, "compose=ini all 0 a0", 0),
+    ("ini_never", 12, "compose=ini any 0 a0", 0),
+    ("ini_valve", 12, "compose=ini eq v0 0 a0", 0),
+    ("ini_over_ini", 12, "compose=ini le v0 0 ini eq v0 1 a0", 0),
+    ("ini_over_syn", 12, "compose=ini eq v0 0 syn 2 a0", 0),
+    ("ini_under_syn", 12, "compose=syn 2 ini eq v0 0 a0", 0),
+    ("ini_with_count", 12, "compose=ini all 2 le 0 v0 any 1 not eq v0 1 a0", 0),
+    ("ini_with_if", 12, "compose=ini le if imp eq v0 0 any 0 sub v0 1 mul 2 v0 2 a0", 0),
+    // Row 3 in a start condition, and in the tree behind one.
+    ("ini_count_513", 12, "compose=ini any 513 a0", 3),
+    ("ini_count_v600", 12, "compose=ini any v600 a0", 3),
+    ("ini_number_32767", 12, "compose=ini le -32768 32767 a0", 0),
+    ("ini_number_32768", 12, "compose=ini le v0 32768 a0", 3),
+    ("ini_number_leading_zero", 12, "compose=ini eq v0 01 a0", 3),
+    ("ini_number_with_comma", 12, "compose=ini le 1,2 0 a0", 3),
+    ("ini_variable_48", 12, "compose=ini eq v48 0 a0", 3),
+    ("ini_leaf_16", 12, "compose=ini any 0 a16", 3),
+    ("ini_list_64", 12, "compose=ini all 0 syn 64 a0", 3),
+    // Row 5: a list behind syn, wherever that stands.
+    ("ini_list_falls", 12, "compose=ini all 0 syn 2,1 a0", 5),
+    ("ini_list_in_predicate", 12, "compose=ini not syn 3 a0", 5),
+    // Row 6: no predicate behind the word; the word where none can be.
+    ("ini_alone", 12, "compose=ini", 6),
+    ("ini_last", 12, "compose=a0 ini", 6),
+    ("ini_and_leaf", 12, "compose=ini a0", 6),
+    ("ini_and_number", 12, "compose=ini 1 a0", 6),
+    ("ini_and_variable", 12, "compose=ini v0 a0", 6),
+    ("ini_and_par", 12, "compose=ini par all 0 a0", 6),
+    ("ini_and_ini", 12, "compose=ini ini all 0 a0", 6),
+    ("ini_inside_ini", 12, "compose=ini not ini all 0 a0", 6),
+    ("ini_short", 12, "compose=ini le v0 a0", 6),
+    ("ini_count_short", 12, "compose=ini all 2 any 0 a0", 6),
+    ("ini_count_v1", 12, "compose=ini all v1 a0", 6),
+    ("ini_two_spaces", 12, "compose=ini  all 0 a0", 6),
+    ("ini_in_init", 8, "init=ini all 0 all 0", 6),
+    ("ini_in_inv", 9, "inv=ini all 0", 6),
+    ("ini_in_edge", 11, "edge=0,1,0,ini eq n0 1", 6),
+    // Rows 7, 8 and 10, also where the tree is ill-formed, and in the second of two.
+    ("ini_variable_47", 12, "compose=ini eq v47 0 a0", 7),
+    ("ini_variable_1", 12, "compose=ini le v1 0 a0", 7),
+    ("ini_variable_1_no_tree", 12, "compose=ini le v1 0", 7),
+    ("ini_new_1", 12, "compose=ini eq n1 0 a0", 7),
+    ("ini_new_0", 12, "compose=ini eq n0 0 a0", 8),
+    ("ini_new_0_in_guard", 12, "compose=ini le if eq n0 0 0 1 2 a0", 8),
+    ("ini_new_0_second", 12, "compose=ini all 0 ini eq n0 0 a0", 8),
+    ("ini_new_0_behind_tree", 12, "compose=a0 ini eq n0 0", 8),
+    ("ini_interval_max", 12, "compose=ini le mul mul 32767 32767 2 v0 a0", 0),
+    ("ini_interval_past_max", 12, "compose=ini le mul mul 32767 32767 add v0 2 v0 a0", 10),
+    ("ini_interval_guard", 12, "compose=ini eq v0 if le mul mul 32767 32767 -3 0 0 1 a0", 10),
+    ("ini_interval_no_leaf", 12, "compose=par ini le mul mul 32767 32767 3 0", 10),
+    // Row 13: a sound predicate, and no tree.
+    ("ini_no_tree", 12, "compose=ini all 0", 13),
+    ("ini_no_list", 12, "compose=syn ini all 0 a0", 13),
+    ("ini_behind_tree", 12, "compose=a0 ini all 0", 13),
+    ("ini_two_predicates", 12, "compose=ini all 0 all 0 a0", 13),
+    ("ini_two_trees", 12, "compose=ini all 0 a0 a0", 13),
+    ("ini_two_spaces_behind", 12, "compose=ini all 0  a0", 13),
+    ("ini_space_last", 12, "compose=ini all 0 a0 ", 13),
+    ("ini_capital", 12, "compose=Ini all 0 a0", 13),
+    ("ini_digit", 12, "compose=ini0 all 0 a0", 13),
+    ("ini_leaf_1", 12, "compose=ini all 0 a1", 14),
+    // The smallest row of the whole line, whichever predicate breaks it.
+    ("ini_faults_3_and_6", 12, "compose=ini a0 ini eq v99 0 a0", 3),
+    ("ini_faults_5_and_6", 12, "compose=ini syn 1,1 a0", 5),
+    ("ini_faults_6_and_7", 12, "compose=ini eq v1 0 ini eq v0", 6),
+    ("ini_faults_7_and_8", 12, "compose=par ini eq n0 0 a0 ini eq v1 0 a1", 7),
+    ("ini_faults_8_and_10", 12, "compose=ini le mul mul 32767 32767 3 0 ini eq n0 0 a0", 8),
+    ("ini_faults_13_and_14", 12, "compose=ini all 0 a1 ini all 0", 13),
 ];
 
 /// Every case.
@@ -153,6 +222,8 @@ pub fn all() -> Vec<Case> {
     cases.extend(reader_limits());
     cases.extend(merger_limits());
     cases.extend(repeats());
+    cases.extend(starts());
+    cases.extend(starts_in_trees());
     cases
 }
 
@@ -198,6 +269,17 @@ fn nodes(count: usize) -> String {
     parts.extend(((count - 1) % 513 > 0).then_some((count - 1) % 513));
     let parts: Vec<String> = parts.into_iter().map(flat).collect();
     format!("all {} {}", parts.len(), parts.join(" "))
+}
+
+/// A predicate of so many nodes, at most 1,537, in a short text.
+fn short(nodes: usize) -> String {
+    let (pairs, rest) = ((nodes - 1) / 3, (nodes - 1) % 3);
+    format!("all {}{}{}", pairs + rest, " eq 0 0".repeat(pairs), " all 0".repeat(rest))
+}
+
+/// Three start conditions with so many nodes together, from 3,075 up; a tree is still lacking.
+fn three_starts(nodes: usize) -> String {
+    format!("ini {0} syn 1 ini {0} ini {1}", short(1_537), short(nodes - 3_074))
 }
 
 /// A predicate of this depth.
@@ -331,6 +413,63 @@ fn repeats() -> Vec<Case> {
     ]
 }
 
+/// Both sides of what is counted of start conditions.
+fn starts() -> Vec<Case> {
+    let under = |compose: String| small(&[(12, &format!("compose={compose}"))]);
+    let one = |p: String| under(format!("ini {p} a0"));
+    let two = |p: String, q: String| under(format!("ini {p} syn 1 ini {q} a0"));
+    let tree = |count: usize, leaf: &str| under("ini eq v0 0 ".repeat(count) + leaf);
+    let mixed = |count: usize| under("syn 1 ini not any 0 ".repeat(count / 2) + &"syn 2 ".repeat(count % 2) + "a0");
+    let large = |key: &str, nodes: usize| format!("{key}{}", short(nodes));
+    let last = |edge: usize| {
+        let lines = [large("init=", 1_537), large("inv=", 1_537), large("edge=0,1,0,", edge)];
+        small(&[(8, &lines[0]), (9, &lines[1]), (11, &lines[2]), (12, "compose=ini all 0 a0")])
+    };
+    let merged = |nodes: usize| plain(0, "", &[vec![]], &format!("{} a0", three_starts(nodes)));
+    vec![
+        case("ini_count_512", one(short(1_537)), None),
+        // In the merged init it stands one level further down.
+        case("ini_depth_23", one(depth(23)), None),
+        case("ini_depth_24", one(depth(24)), Some((33, 0))),
+        case("ini_depth_25", one(depth(25)), Some((9, 12))),
+        case("ini_depth_25_no_tree", under(format!("ini {}", depth(25))), Some((9, 12))),
+        // The small sheet has 5 nodes besides. Merged, 4,096 are too many.
+        case("ini_nodes_4096", under(three_starts(4_091) + " a0"), Some((34, 0))),
+        case("ini_nodes_4097", under(three_starts(4_092) + " a0"), Some((11, 12))),
+        case("ini_nodes_4096_no_tree", under(three_starts(4_091)), Some((13, 12))),
+        case("ini_nodes_4097_no_tree", under(three_starts(4_092)), Some((11, 12))),
+        case("ini_nodes_4096_by_one", last(1_021), Some((34, 0))),
+        case("ini_nodes_4097_by_one", last(1_022), Some((11, 12))),
+        case("ini_merged_nodes_4096", merged(4_084), None),
+        case("ini_merged_nodes_4097", merged(4_085), Some((34, 0))),
+        // An ini is one node of the tree, whatever its predicate has.
+        case("ini_tree_64", tree(63, "a0"), None),
+        case("ini_tree_65", tree(64, "a0"), Some((16, 12))),
+        case("ini_tree_65_leaf_1", tree(64, "a1"), Some((14, 12))),
+        case("ini_syn_tree_64", mixed(63), None),
+        case("ini_syn_tree_65", mixed(64), Some((16, 12))),
+        case("ini_faults_8_and_9", two(depth(25), "eq n0 0".to_string()), Some((8, 12))),
+        case("ini_faults_9_and_10", two("le mul mul 32767 32767 3 0".to_string(), depth(25)), Some((9, 12))),
+    ]
+}
+
+/// Where start conditions stand in a tree: their order in the merged init, what they share, whom they are asked of.
+fn starts_in_trees() -> Vec<Case> {
+    let three = vec![edges(1, 1); 3];
+    let ordered = "ini le v0 4 par par ini le v0 0 syn 1 ini le v0 1 a0 a1 syn 2 ini le v0 2 ini le v0 3 a2";
+    let two = [vec!["0,1,0,all 0".to_string()], vec!["0,2,0,eq n0 0".to_string()]];
+    let most = small(&[(7, &format!("locations=32\n{}", "init=all 0\ninv=all 0\n".repeat(31)).trim_end())]);
+    vec![
+        case("ini_cold_oven", OVEN.replace("compose=", "compose=ini eq v0 0 "), None),
+        case("ini_in_order", plain(1, "", &three, ordered), None),
+        case("ini_leaves_swapped", plain(1, "", &two, "par ini all 0 a1 ini all 0 a0"), Some((14, 18))),
+        case("ini_shares", plain(1, "", &[edges(2, 1), edges(2, 1)], "par ini all 0 syn 1 a0 syn 1 ini all 0 a1"), None),
+        case("ini_beside", plain(1, "", &two, "par a0 ini eq v0 0 a1"), None),
+        case("ini_twice", plain(1, "", &two, "ini le v0 0 par a0 ini not eq v0 0 a1"), None),
+        case("ini_most_parts", most.replace("compose=", &format!("compose={}", "ini all 0 ".repeat(63))), None),
+    ]
+}
+
 /// Proposals made by hand, each with its answer, after the text that they are put to; written as in judge.txt.
 pub const JUDGED: &[(&str, &[&str])] = &[
     (
@@ -374,4 +513,45 @@ pub const JUDGED: &[(&str, &[&str])] = &[
     ("pasted_product", &["step 0|0,0|0|1|0,0|1|yes True", "step 0|0,0|0|1|0,0|0|yes True", "step 0|0,0|0|0|0,0|0|no"]),
     ("variable_0", &["step 0|0|1|1|0|1|no", "step 0|0|0|1|0|1|yes False", "step 1|0|1|1|0|1|yes False", "step 1|0|0|2|0|1|no"]),
     ("edge_to_0", &["step 1|0|0|0|0|0|yes False", "step 1|0|0|0|0|1|no", "env 1|0|0|1|yes"]),
+    (
+        "ini_cold_oven",
+        &[
+            // At the start the valve must be shut before the step; what it is afterwards is not asked.
+            "step 0|0,0|0|2|0,0|1|yes False",
+            "step 0|0,0|0|1|1,0|0|yes True",
+            "step 0|0,0|1|1|1,0|0|no",
+            "step 0|0,0|1|2|0,0|1|no",
+            "env 0|0,0|0|1|yes",
+            "env 0|0,0|1|0|no",
+            // Running it plays no part.
+            "step 1|0,0|1|1|1,0|0|yes True",
+            "env 1|0,0|1|0|yes",
+            // init is asked as ever, and the rows come first.
+            "step 0|1,0|0|2|1,0|0|no",
+            "step 2|0,0|1|1|1,0|0|refused 20",
+            "step 0|0,0|1|1|1,0|0,0|refused 21",
+            "step 0|0,0|1|1|2,0|0|refused 22",
+            "step 0|0,0|2|1|1,0|0|refused 23",
+            "step 0|0,0|1|3|1,0|0|refused 24",
+            "env 0|0,0|1|2|refused 23",
+        ],
+    ),
+    // Asked also where the other side takes.
+    (
+        "ini_beside",
+        &[
+            "step 0|0,0|0|1|0,0|0|yes False",
+            "step 0|0,0|1|1|0,0|1|no",
+            "step 0|0,0|1|2|0,0|0|no",
+            "step 1|0,0|1|1|0,0|1|yes False",
+            "env 0|0,0|1|1|no",
+            "env 0|0,0|0|1|yes",
+        ],
+    ),
+    // Each of them is asked: here one or the other fails, whatever the value.
+    ("ini_twice", &["step 0|0,0|0|1|0,0|0|no", "step 0|0,0|1|1|0,0|1|no", "env 0|0,0|0|0|no", "step 1|0,0|0|1|0,0|0|yes False"]),
+    ("ini_never", &["step 0|0|0|1|0|1|no", "env 0|0|0|0|no", "step 1|0|0|1|0|1|yes False", "env 1|0|0|0|yes"]),
+    ("ini_always", &["step 0|0|0|1|0|1|yes False", "env 0|0|0|1|yes"]),
+    ("ini_over_syn", &["step 0|0|0|1|0|1|yes False", "step 0|0|1|1|0|1|no", "step 1|0|1|1|0|1|yes False"]),
+    ("ini_shares", &["step 0|0,0|0|1|0,0|0|yes True"]),
 ];

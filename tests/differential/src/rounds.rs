@@ -75,13 +75,8 @@ pub fn fixed(comparison: &mut Comparison) {
     }
     let (_, table) = comparison.read(OVEN.as_bytes(), &empty);
     let model = reader::read(OVEN.as_bytes(), TABLE_WORDS).expect("the oven is accepted");
-    for at in (0..60).chain([TABLE_WORDS - 2, TABLE_WORDS - 1]) {
-        for word in [0, table[at].wrapping_add(1), table[at].wrapping_sub(1), random.draw() as u32] {
-            let mut damaged = table.clone();
-            damaged[at] = word;
-            on_any_table(comparison, &mut random, &model, &damaged);
-        }
-    }
+    each_word(comparison, &mut random, &model, &table, 0..60);
+    each_word(comparison, &mut random, &model, &table, TABLE_WORDS - 2..TABLE_WORDS);
     for length in [0, 1, 2, 100, 8_190, 8_191, 8_192, 8_193, 9_000] {
         let mut lent = table.clone();
         lent.resize(length, 5);
@@ -91,9 +86,36 @@ pub fn fixed(comparison: &mut Comparison) {
         comparison.read(&vec![b'x'; TEXT_BYTES + 1], &lent);
     }
     runs::oven_lists(comparison, &mut random, &model, &table);
+    cold_oven(comparison, &mut random, &empty);
     long_texts(comparison, &empty);
+    long_compositions(comparison, &empty);
     pairs_of_words(comparison, &empty);
     lines_with_many_faults(comparison, &empty);
+    starts_with_many_faults(comparison, &empty);
+}
+
+/// Tables with one of these words changed.
+fn each_word(comparison: &mut Comparison, random: &mut Random, model: &Model, table: &[u32], places: std::ops::Range<usize>) {
+    for at in places {
+        for word in [0, table[at].wrapping_add(1), table[at].wrapping_sub(1), random.draw() as u32] {
+            let mut damaged = table.to_vec();
+            damaged[at] = word;
+            on_any_table(comparison, random, model, &damaged);
+        }
+    }
+}
+
+/// The oven with start conditions: every small damage of its composition, in the text and in the table.
+fn cold_oven(comparison: &mut Comparison, random: &mut Random, empty: &[u32]) {
+    let head = OVEN.trim_end_matches("compose=par a0 a1\n").as_bytes();
+    let line = b"compose=ini eq v0 0 par a0 syn 2 ini le v0 1 a1\n";
+    for damaged in every_damage(line) {
+        comparison.read(&[head, &damaged].concat(), empty);
+    }
+    let text = [head, line].concat();
+    let (_, table) = comparison.read(&text, empty);
+    let model = reader::read(&text, TABLE_WORDS).expect("it is accepted");
+    each_word(comparison, random, &model, &table, 46..72);
 }
 
 /// Texts at the limit of bytes, and lines that nest as deep as a text can.
@@ -117,10 +139,28 @@ fn long_texts(comparison: &mut Comparison, table: &[u32]) {
         let text = format!("{head}{}{last}\n", word.repeat(60_000 / word.len()));
         comparison.read(text.as_bytes(), table);
     }
-    let middle = "all 0\ninv=all 0\nedges=0\ncompose=";
-    for (word, last) in [("syn 1 ", "a0"), ("par ", "a0"), ("syn ", ""), ("par a0 ", "a0"), ("syn 0 ", "a0")] {
-        let text = format!("{head}{middle}{}{last}\n", word.repeat(60_000 / word.len()));
-        comparison.read(text.as_bytes(), table);
+}
+
+/// Compositions that nest as deep as a text can, and start conditions that do.
+fn long_compositions(comparison: &mut Comparison, table: &[u32]) {
+    for (first, word, last) in [
+        ("", "syn 1 ", "a0"),
+        ("", "par ", "a0"),
+        ("", "syn ", ""),
+        ("", "par a0 ", "a0"),
+        ("", "syn 0 ", "a0"),
+        ("", "ini all 0 ", "a0"),
+        ("", "par ini all 0 ", "a0"),
+        ("", "ini ", "all 0 a0"),
+        ("", "ini all 512 ", "a0"),
+        ("", "ini eq if ", "a0"),
+        ("ini ", "not ", "all 0 a0"),
+        ("ini ", "all 1 ", "all 0 a0"),
+        ("ini eq ", "add 0 ", "0 0 a0"),
+        ("ini ", "eq if ", "a0"),
+    ] {
+        let compose = format!("{first}{}{last}", word.repeat(60_000 / word.len()));
+        comparison.read(&small_sheet("all 0", "0,1,0,all 0", &compose), table);
     }
 }
 
@@ -130,13 +170,14 @@ fn small_sheet(init: &str, edge: &str, compose: &str) -> Vec<u8> {
     format!("{head}\ninit={init}\ninv=all 0\nedges=1\nedge={edge}\ncompose={compose}\n").into_bytes()
 }
 
-/// Each two words after each other, in a predicate and in a composition.
+/// Each two words after each other, in a predicate, in a composition and behind `ini`.
 fn pairs_of_words(comparison: &mut Comparison, table: &[u32]) {
     for first in TOKENS {
         for second in TOKENS {
             let pair = format!("{first} {second}");
             comparison.read(&small_sheet(&pair, "0,1,0,all 0", "a0"), table);
             comparison.read(&small_sheet("all 0", "0,1,0,all 0", &format!("{pair} a0")), table);
+            comparison.read(&small_sheet("all 0", "0,1,0,all 0", &format!("ini {pair} a0")), table);
         }
     }
 }
@@ -161,6 +202,26 @@ fn lines_with_many_faults(comparison: &mut Comparison, table: &[u32]) {
         for back in ["a0", "a1", "a16", "a0 a0", "a0 a1", "par a0 a0", "foo", "syn 2,2 a0", "syn", "syn a0 a0"] {
             comparison.read(&small_sheet("all 0", "0,1,0,all 0", &format!("{front}{back}")), table);
             comparison.read(&small_sheet("all 0", "0,1,0,all 0", &format!("{tall}{front}{back}")), table);
+        }
+    }
+}
+
+/// Compositions with two start conditions: the smallest row of both counts, and it comes before those of the tree.
+fn starts_with_many_faults(comparison: &mut Comparison, table: &[u32]) {
+    let deep = format!("{}all 0", "not ".repeat(24));
+    // 4,092 nodes: the init, the inv, the edge and one node more make 4,096.
+    let large =
+        format!("all 8{}{}", format!(" all 511{}", " all 0".repeat(511)).repeat(7), format!(" all 506{}", " all 0".repeat(506)));
+    let starts: Vec<&str> = STARTS.iter().copied().chain([deep.as_str(), large.as_str()]).collect();
+    let tall = "syn 1 ".repeat(63);
+    for first in &starts {
+        for second in &starts {
+            for (front, middle, back) in
+                [("", " ", " a0"), ("", " syn 1 ", " a1"), ("par ", " a0 ", ""), ("a0 ", " ", ""), (&tall, " ", " a0")]
+            {
+                let compose = format!("{front}ini {first}{middle}ini {second}{back}");
+                comparison.read(&small_sheet("all 0", "0,1,0,all 0", &compose), table);
+            }
         }
     }
 }

@@ -4,10 +4,11 @@ use differential::compare::Comparison;
 use differential::generate::{self, Random};
 use differential::reference::judge::{step_of, Proposal, REFUSED};
 use differential::reference::merge::{count_all, definition_4, distinct, moves, once, Takers};
-use differential::reference::model::{Model, EDGES, TABLE_WORDS, TEXT_BYTES};
+use differential::reference::model::{Model, Predicate, EDGES, TABLE_WORDS, TEXT_BYTES};
 use differential::reference::run::{List, ENVIRONMENT};
 use differential::reference::{self, table};
 use differential::rounds::{self, OVEN};
+use differential::vectors::program;
 use differential::watch::Watch;
 use std::time::Duration;
 
@@ -23,9 +24,9 @@ fn step(text: &str, phase: u32, from: ([u32; 2], i32), action: u32, to: ([u32; 2
     Reference.step(&table_of(text), &proposal, action)
 }
 
-fn environment(phase: u32, from: ([u32; 2], i32), value: i32) -> u32 {
+fn environment(text: &str, phase: u32, from: ([u32; 2], i32), value: i32) -> u32 {
     let proposal = Proposal { phase, locations: &from.0, values: &[from.1], new_locations: &from.0, new_values: &[value] };
-    Reference.environment(&table_of(OVEN), &proposal)
+    Reference.environment(&table_of(text), &proposal)
 }
 
 #[test]
@@ -34,12 +35,88 @@ fn on_that_oven() {
     assert_eq!(step(OVEN, 0, ([0, 0], 0), 2, ([0, 0], 1)), 1);
     assert_eq!(step(OVEN, 1, ([1, 0], 0), 2, ([1, 0], 1)), 0);
     assert_eq!(step(OVEN, 0, ([1, 0], 0), 2, ([1, 0], 0)), 0);
-    assert_eq!(environment(1, ([1, 0], 0), 0), 1);
-    assert_eq!(environment(1, ([1, 0], 0), 1), 0);
+    assert_eq!(environment(OVEN, 1, ([1, 0], 0), 0), 1);
+    assert_eq!(environment(OVEN, 1, ([1, 0], 0), 1), 0);
     assert_eq!(step(OVEN, 1, ([0, 0], 1), 1, ([1, 0], 1)), 0);
     assert_eq!(step(OVEN, 1, ([0, 0], 1), 0, ([0, 0], 1)), 0);
     let unshared = OVEN.replacen("sync=1", "sync=", 1);
     assert_eq!(step(&unshared, 0, ([0, 0], 0), 1, ([1, 0], 0)), 0);
+}
+
+/// The oven with another composition.
+fn composed(compose: &str) -> String {
+    OVEN.replace("par a0 a1", compose)
+}
+
+#[test]
+fn a_start_condition_is_asked_in_phase_0() {
+    let cold = composed("ini eq v0 0 par a0 a1");
+    assert_eq!(step(&cold, 0, ([0, 0], 1), 1, ([1, 0], 0)), 0);
+    assert_eq!(step(&cold, 1, ([0, 0], 1), 1, ([1, 0], 0)), 2);
+    assert_eq!(step(&cold, 0, ([0, 0], 0), 2, ([0, 0], 1)), 1);
+    assert_eq!(environment(&cold, 0, ([0, 0], 0), 1), 1);
+    assert_eq!(environment(&cold, 0, ([0, 0], 1), 0), 0);
+    assert_eq!(environment(&cold, 1, ([0, 0], 1), 0), 1);
+    // Over the door alone, which is still.
+    assert_eq!(step(&composed("par ini eq v0 0 a0 a1"), 0, ([0, 0], 1), 2, ([0, 0], 1)), 0);
+}
+
+#[test]
+fn the_merged_init_has_the_start_conditions_behind_its_implications() {
+    let text = composed("ini le v0 1 par ini eq v0 0 syn 2 ini le 0 v0 a0 ini not eq v0 1 a1");
+    let merged = String::from_utf8(program(&Reference, text.as_bytes())).expect("a text");
+    let implications = "imp eq v1 0 all 0 imp eq v1 1 any 0 imp eq v2 0 all 0";
+    let init = format!("init=all 7 {implications} le v0 1 eq v0 0 le 0 v0 not eq v0 1\n");
+    assert!(merged.contains(&init), "{merged}");
+    let plain = String::from_utf8(program(&Reference, composed("par syn 2 a0 a1").as_bytes())).expect("a text");
+    assert_eq!(merged.replace(&init, &format!("init=all 3 {implications}\n")), plain);
+}
+
+#[test]
+fn start_conditions_stand_behind_the_tree_in_the_table() {
+    let table = table_of(&composed("ini eq v0 0 par a0 ini all 0 a1"));
+    let end = [5, 1, 0, 0, 0, 2, 1, 0, 0, 3, 2, 3, 4, 7, 524_294, 1, 0];
+    // The oven's composition begins at word 47.
+    assert_eq!(table[47..47 + end.len()], end);
+    assert!(table[47 + end.len()..].iter().all(|word| *word == 0));
+    let refused = |at: usize, word: u32| {
+        let mut damaged = table.clone();
+        damaged[at] = word;
+        reference::open(&damaged) == Err(19)
+    };
+    // An `ini` too many or too few, in the tree or behind it; a new value; an action for an `ini`.
+    assert!(refused(57, 1) && refused(57, 3) && refused(54, 2) && refused(60, 8) && refused(49, 2));
+}
+
+/// The row that a small sheet with this init and this composition gets; 0: it is accepted.
+fn row_of(init: &str, compose: &str) -> u32 {
+    let head = "format=1\nactions=2\nvariables=1\nvariable=0,1\nautomata=1\nsync=\nlocations=1";
+    let text = format!("{head}\ninit={init}\ninv=all 0\nedges=0\ncompose={compose}\n");
+    calls::row(Reference.read(text.as_bytes(), &mut vec![0; TABLE_WORDS]))
+}
+
+/// Behind `ini` stand the words that an init could have; what is left is the tree.
+#[test]
+fn a_start_condition_ends_where_its_words_are_complete() {
+    let words = ["all", "any", "0", "1", "2", "not", "imp", "eq", "le", "if", "add", "v0", "all 0", "any 1", "eq v0 0", "le"];
+    let (mut whole, mut more, mut none) = (0, 0, 0);
+    let mut random = Random::new(1);
+    for _ in 0..20_000 {
+        let drawn: Vec<&str> = (0..1 + random.below(6)).map(|_| random.pick(&words)).collect();
+        let line = drawn.join(" ");
+        let tokens: Vec<&str> = line.split(' ').collect();
+        let sound = (1..=tokens.len()).find(|length| row_of(&tokens[..*length].join(" "), "a0") == 0);
+        let expected = match sound {
+            Some(length) if length == tokens.len() => 0,
+            Some(_) => 13,
+            None => 6,
+        };
+        assert_eq!(row_of("all 0", &format!("ini {line} a0")), expected, "{line}");
+        whole += (expected == 0) as usize;
+        more += (expected == 13) as usize;
+        none += (expected == 6) as usize;
+    }
+    assert!(whole > 400 && more > 2_000 && none > 10_000, "{whole} {more} {none}");
 }
 
 /// A list on the oven from location 0 of both and value 0, and what is then in the place of six answers and of the state at the end.
@@ -84,6 +161,20 @@ fn a_middle_row_beats_a_later_one() {
     assert_eq!(refusal(8, "init=eq n9 0"), (7, 8));
     assert_eq!(refusal(13, "edge=0,3,0,eq v0"), (6, 13));
     assert_eq!(refusal(21, "compose=par a1 syn 2,1 a0"), (5, 21));
+    let deep = "not ".repeat(24) + "all 0";
+    let large = format!("all 9{}", format!(" all 500{}", " all 0".repeat(500)).repeat(9));
+    let faults = ["eq v0 99999", "syn 2,1", "eq v0", "eq v1 0", "eq n0 0", &deep, "le mul mul 32767 32767 3 0", &large];
+    let rows = [3, 5, 6, 7, 8, 9, 10, 11];
+    for (i, first) in faults.iter().enumerate() {
+        for (j, second) in faults.iter().enumerate() {
+            // With a word between them, the first takes none of the second's.
+            let line = format!("compose=ini {first} a0 ini {second}");
+            assert_eq!(refusal(21, &line), (rows[i.min(j)], 21), "{line}");
+        }
+        assert_eq!(refusal(21, &format!("compose=par a1 ini all 0 ini {first}")), (rows[i], 21));
+    }
+    assert_eq!(refusal(21, "compose=par a1 ini all 0"), (13, 21));
+    assert_eq!(refusal(21, "compose=par a1 ini all 0 a0"), (14, 21));
 }
 
 /// Whether these takers allow the step: each takes its edge, all others are still, and who changes a variable mentions it.
@@ -101,7 +192,8 @@ fn allows(model: &Model, proposal: &Proposal, takers: &Takers) -> bool {
         let started = proposal.phase == 1 || locations[from].init.holds(old, old);
         moves && started && locations[from].invariant.holds(old, old) && locations[to].invariant.holds(new, new)
     };
-    framed && (0..model.automata.len()).all(automaton_allows)
+    let started = proposal.phase == 1 || model.composition.starts().iter().all(|p| p.holds(old, old));
+    framed && started && (0..model.automata.len()).all(automaton_allows)
 }
 
 /// The search of the reference's judge against a trial of every merged edge.
@@ -156,6 +248,16 @@ enum Wrong {
     Still,
     End,
     Size,
+    Start,
+}
+
+/// The table with start conditions that always hold.
+fn unstarted(table: &[u32]) -> Vec<u32> {
+    let Ok(mut model) = reference::open(table) else {
+        return table.to_vec();
+    };
+    model.composition.starts_mut().into_iter().for_each(|p| *p = Predicate::All(Vec::new()));
+    reference::table(&model)
 }
 
 impl Sheets for Wrong {
@@ -181,10 +283,11 @@ impl Sheets for Wrong {
 
     fn step(&self, table: &[u32], proposal: &Proposal, action: u32) -> u32 {
         let answer = Reference.step(table, proposal, action);
-        if matches!(self, Wrong::Mark) && answer == 1 {
-            2
-        } else {
-            answer
+        match self {
+            Wrong::Mark if answer == 1 => 2,
+            // Start conditions are not asked.
+            Wrong::Start if answer == 0 => Reference.step(&unstarted(table), proposal, action),
+            _ => answer,
         }
     }
 
@@ -229,11 +332,15 @@ impl Sheets for Wrong {
 
 #[test]
 fn wrong_calls_are_noticed() {
-    for wrong in [Wrong::Answer, Wrong::Table, Wrong::Buffer, Wrong::Mark, Wrong::Rest, Wrong::Still, Wrong::End, Wrong::Size] {
+    use Wrong::*;
+    for wrong in [Answer, Table, Buffer, Mark, Rest, Still, End, Size, Start] {
         let mut comparison = Comparison::new(&wrong);
         comparison.quiet = true;
         rounds::fixed(&mut comparison);
-        (1..20).for_each(|seed| rounds::round(&mut comparison, seed));
+        let mut seeds = 1..20;
+        while let Some(seed) = seeds.next().filter(|_| comparison.failed == 0) {
+            rounds::round(&mut comparison, seed);
+        }
         assert!(comparison.failed > 0);
     }
 }

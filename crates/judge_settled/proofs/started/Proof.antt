@@ -10,6 +10,9 @@ enum-told c = search needs
 all-hold-requires : tie.Need-all-hold-requires
 all-hold-requires c κs = search needs
 
+starts-hold-requires : tie.Need-starts-hold-requires
+starts-hold-requires c κs = search needs
+
 enum-told-2 : tie.Need-enum-told-2
 enum-told-2 c = search needs
 
@@ -20,4 +23,4 @@ returns-2 : tie.Need-returns-2
 returns-2 c = search (needs, started-laws)
 
 pub started-spec : {M : Type 1} → statement M
-started-spec = tie.close (tie.spec enum-told all-hold-requires enum-told-2 returns returns-2)
+started-spec = tie.close (tie.spec enum-told all-hold-requires starts-hold-requires enum-told-2 returns returns-2)

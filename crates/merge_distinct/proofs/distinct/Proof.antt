@@ -13,11 +13,8 @@ part-requires c κs = search needs
 automata-requires : tie.Need-automata-requires
 automata-requires c κs = search needs
 
-nodes-at-requires : tie.Need-nodes-at-requires
-nodes-at-requires c κs = search needs
-
-skip-requires : tie.Need-skip-requires
-skip-requires c κs = search needs
+tree-end-requires : tie.Need-tree-end-requires
+tree-end-requires c κs = search needs
 
 part-requires-2 : tie.Need-part-requires-2
 part-requires-2 c κs = search needs
@@ -32,7 +29,6 @@ distinct-spec =
     first-automaton-requires
     part-requires
     automata-requires
-    nodes-at-requires
-    skip-requires
+    tree-end-requires
     part-requires-2
     returns)

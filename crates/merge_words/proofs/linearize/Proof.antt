@@ -19,6 +19,9 @@ returns c = search (needs, linearize-laws)
 functions-of-requires : tie.Need-functions-of-requires
 functions-of-requires c κs = search needs
 
+starts-of-requires : tie.Need-starts-of-requires
+starts-of-requires c κs = search needs
+
 functions-of-requires-2 : tie.Need-functions-of-requires-2
 functions-of-requires-2 c κs = search needs
 
@@ -43,6 +46,7 @@ linearize-spec =
     refused-requires
     returns
     functions-of-requires
+    starts-of-requires
     functions-of-requires-2
     gather-requires
     gather-requires-2

@@ -142,6 +142,12 @@ returns-11 : tie.Need-returns-11
 unfolding lineWith lineWithAfter
 returns-11 c = search (needs, dispatch-laws)
 
+same-length-7 : tie.Need-same-length-7
+same-length-7 c = search needs
+
+same-length-8 : tie.Need-same-length-8
+same-length-8 c = search needs
+
 returns-12 : tie.Need-returns-12
 unfolding lineWith lineWithAfter
 returns-12 c = search (needs, dispatch-laws)
@@ -196,5 +202,7 @@ read-with-spec =
     same-length-5
     same-length-6
     returns-11
+    same-length-7
+    same-length-8
     returns-12
     returns-13)

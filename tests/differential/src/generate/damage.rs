@@ -16,6 +16,7 @@ pub const TOKENS: &[&str] = &[
     "if",
     "par",
     "syn",
+    "ini",
     "a0",
     "a1",
     "a15",
@@ -57,12 +58,43 @@ pub const TOKENS: &[&str] = &[
     "v01",
     "all 0",
     "any 0",
+    "ini all 0",
     "+1",
     "1x",
 ];
 const NUMBERS: &[i64] = &[
     0, 1, 2, 3, 15, 16, 17, 31, 32, 33, 47, 48, 49, 63, 64, 65, 511, 512, 513, 4_096, 32_767, 32_768, -1, -32_768, -32_769, 65_536,
     99_999_999,
+];
+/// What can stand behind `ini`: good, ill-formed, with a fault, or nothing.
+pub const STARTS: &[&str] = &[
+    "all 0",
+    "any 0",
+    "eq v0 0",
+    "all 2 le v0 1 not any 0",
+    "le if eq v0 0 1 2 v0",
+    "",
+    "a0",
+    "v0",
+    "eq v0",
+    "all 2 all 0",
+    "all",
+    "all v1",
+    "all v600",
+    "all 513",
+    "ini all 0",
+    "par",
+    "syn 1",
+    "syn 2,1",
+    "eq v0 00",
+    "eq v48 0",
+    "eq v47 0",
+    "eq n0 0",
+    "eq n47 0",
+    "eq 0 if eq n0 0 1 2",
+    "le mul mul 32767 32767 2 0",
+    "le mul mul 32767 32767 3 0",
+    "le if le mul mul 32767 32767 3 0 0 1 0",
 ];
 const BYTES: &[u8] = b"\n\r\t ,=-0123456789vnaALsyn\x00\x1f\x20\x7e\x7f\x80\xff";
 
@@ -76,9 +108,10 @@ pub fn damaged_text(random: &mut Random, text: &[u8]) -> Vec<u8> {
 }
 
 fn damaged_once(random: &mut Random, text: &[u8]) -> Vec<u8> {
-    match random.below(11) {
+    match random.below(13) {
         0 | 1 => damaged_byte(random, text),
         9 | 10 => rewritten_line(random, text),
+        11 | 12 => more_starts(random, text),
         2 | 3 => damaged_parts(random, text, b'\n'),
         4 | 5 => damaged_token(random, text),
         6 | 7 => damaged_number(random, text),
@@ -166,12 +199,44 @@ fn rewritten_line(random: &mut Random, text: &[u8]) -> Vec<u8> {
 }
 
 fn word(random: &mut Random, in_composition: bool) -> &'static str {
-    let usual: &[&str] =
-        if in_composition { &["par", "syn", "a0", "a1", "1", "2,1", "1,2"] } else { &["all", "any", "eq", "v0", "n0", "1", "not"] };
+    let usual: &[&str] = if in_composition {
+        &["par", "syn", "ini", "a0", "a1", "1", "2,1", "1,2", "ini all 0", "eq v0 0"]
+    } else {
+        &["all", "any", "eq", "v0", "n0", "1", "not"]
+    };
     if random.percent(60) {
         random.pick(usual)
     } else {
         random.pick(TOKENS)
+    }
+}
+
+/// A composition with an `ini` more, or some: anywhere, behind the tree too, and with any predicate or none.
+fn more_starts(random: &mut Random, text: &[u8]) -> Vec<u8> {
+    let mut lines: Vec<Vec<u8>> = text.split(|byte| *byte == b'\n').map(<[u8]>::to_vec).collect();
+    let Some(line) = lines.iter_mut().find(|line| line.starts_with(b"compose=")) else {
+        return text.to_vec();
+    };
+    for _ in 0..random.pick(&[1, 1, 2, 3]) {
+        let more = format!("ini {}", behind_ini(random));
+        let places: Vec<usize> = (8..line.len()).filter(|i| matches!(line[i - 1], b'=' | b' ')).chain([line.len()]).collect();
+        let at = random.pick(&places);
+        let more = if at == line.len() { format!(" {more}") } else { format!("{more} ") };
+        line.splice(at..at, more.into_bytes());
+    }
+    lines.join(&b'\n')
+}
+
+/// What stands behind an `ini`; some are around the limits of depth and nodes.
+fn behind_ini(random: &mut Random) -> String {
+    match random.below(12) {
+        0 => "not ".repeat(22 + random.below(3)) + "all 0",
+        1 => {
+            let part = format!(" all 512{}", " all 0".repeat(512));
+            let parts = random.below(9);
+            format!("all {parts}{}", part.repeat(parts))
+        }
+        _ => random.pick(STARTS).to_string(),
     }
 }
 
@@ -225,12 +290,16 @@ pub fn every_damage(text: &[u8]) -> Vec<Vec<u8>> {
     all
 }
 
-/// A table with some words changed.
+/// A table with some words changed; one in four of them is among the last, the composition's.
 pub fn damaged_table(random: &mut Random, table: &[u32]) -> Vec<u32> {
     let mut damaged = table.to_vec();
     let used = table.iter().rposition(|word| *word != 0).map_or(1, |last| last + 2).min(table.len());
     loop {
-        let at = if random.percent(97) { random.below(used) } else { random.below(table.len()) };
+        let at = match random.below(100) {
+            0..=2 => random.below(table.len()),
+            3..=27 => used - 1 - random.below(used.min(16)),
+            _ => random.below(used),
+        };
         match random.below(12) {
             0 | 1 => damaged[at] = 0,
             2 | 3 => damaged[at] = damaged[at].wrapping_add(1),

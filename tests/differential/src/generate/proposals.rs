@@ -1,8 +1,10 @@
 //! States, and proposals from them: good, doubtful and faulty.
+use super::predicates::always;
 use super::Random;
 use crate::reference::judge::{environment_of, step_of, Proposal, NO, REFUSED};
 use crate::reference::model::*;
 use crate::reference::run::{List, ENVIRONMENT};
+use std::borrow::Cow;
 
 #[derive(Clone, Debug, PartialEq)]
 pub struct State {
@@ -87,12 +89,20 @@ fn any_state(random: &mut Random, model: &Model) -> State {
     }
 }
 
-/// A state; where some are found easily, one in which the automata can be still.
+/// The model whose start conditions hold always.
+fn unstarted(model: &Model) -> Model {
+    let mut unstarted = model.clone();
+    unstarted.composition.starts_mut().into_iter().for_each(|p| *p = always());
+    unstarted
+}
+
+/// A state; where some are found easily, one in which the automata can be still, or could but for a start condition.
 pub fn state(random: &mut Random, model: &Model) -> State {
+    let asked = if random.percent(40) { Cow::Owned(unstarted(model)) } else { Cow::Borrowed(model) };
     let mut drawn = any_state(random, model);
     for _ in 0..12 {
         let stay = Proposed { action: None, locations: Vec::new(), values: drawn.values.clone() };
-        if stay.answer(model, &drawn) != NO {
+        if stay.answer(&asked, &drawn) != NO {
             break;
         }
         drawn = any_state(random, model);
@@ -100,12 +110,13 @@ pub fn state(random: &mut Random, model: &Model) -> State {
     drawn
 }
 
-/// A proposal from a state; where one is found easily, one that is answered with yes.
+/// A proposal from a state; where one is found easily, one that is answered with yes, or would be but for a start condition.
 pub fn proposal(random: &mut Random, model: &Model, state: &State) -> Proposed {
+    let asked = if state.phase == 0 { Cow::Owned(unstarted(model)) } else { Cow::Borrowed(model) };
     let tries = random.pick(&[1, 1, 10]);
     let mut drawn = any_proposal(random, model, state);
     for _ in 1..tries {
-        if drawn.answer(model, state) != NO {
+        if drawn.answer(&asked, state) != NO {
             break;
         }
         drawn = any_proposal(random, model, state);
@@ -191,7 +202,7 @@ fn choose_takers<'a>(
                 takers.push((*k, random.pick(&fitting)));
             }
         }
-        Composition::Syn(_, inner) => choose_takers(random, model, state, inner, action, takers),
+        Composition::Syn(_, inner) | Composition::Ini(_, inner) => choose_takers(random, model, state, inner, action, takers),
         Composition::Par(left, right) => {
             let in_left = left.shares(action, &model.automata);
             let in_right = right.shares(action, &model.automata);

@@ -16,8 +16,9 @@ struct Shape {
     depth: usize,
     /// Of a hundred actions, how many are in an automaton's set.
     shared: usize,
-    /// How many `syn` the composition has.
+    /// How many `syn` the composition has, and how many `ini`.
     syns: usize,
+    inis: usize,
 }
 
 /// A sheet, mostly one that is accepted.
@@ -67,6 +68,7 @@ fn small(random: &mut Random) -> Model {
         depth: 1 + random.below(5),
         shared: random.pick(&[20, 50, 80]),
         syns: random.below(4),
+        inis: random.pick(&[0, 0, 0, 1, 1, 2, 4]),
     };
     model(random, &shape)
 }
@@ -81,6 +83,7 @@ fn middle(random: &mut Random) -> Model {
         depth: 1 + random.below(7),
         shared: random.pick(&[10, 40]),
         syns: random.below(10),
+        inis: random.pick(&[0, 0, 1, 3]),
     };
     model(random, &shape)
 }
@@ -101,6 +104,7 @@ fn covering(random: &mut Random) -> Model {
         depth: 2,
         shared: random.pick(&[60, 90, 100]),
         syns: random.below(6),
+        inis: random.pick(&[0, 0, 1, 2]),
     };
     let mut drawn = model(random, &shape);
     drawn.ranges = vec![(0, 3); shape.variables];
@@ -126,6 +130,7 @@ fn wide(random: &mut Random) -> Model {
         depth: 2,
         shared: 50,
         syns: random.below(2),
+        inis: random.below(2),
     };
     let mut drawn = model(random, &shape);
     drawn.ranges = vec![(0, 3); shape.variables];
@@ -158,7 +163,10 @@ fn equal_edges(random: &mut Random) -> Model {
     if random.percent(50) {
         automata[15].edges.truncate(random.below(3));
     }
-    let composition = tree(random, 0, 16);
+    let mut composition = tree(random, 0, 16);
+    if random.percent(50) {
+        composition = with_ini(random, composition, Predicate::Le(Expression::Old(0), Expression::Number(2)));
+    }
     Model { actions: 1, ranges: vec![range; 1 + random.below(2)], automata, composition }
 }
 
@@ -175,6 +183,10 @@ fn model(random: &mut Random, shape: &Shape) -> Model {
         for _ in 0..shape.syns.min(TREE_NODES - composition.nodes()) {
             composition = with_syn(random, composition, shape.actions);
         }
+    }
+    for _ in 0..shape.inis.min(TREE_NODES - composition.nodes()) {
+        let start = start(random, &ranges, shape.depth);
+        composition = with_ini(random, composition, start);
     }
     Model { actions: shape.actions as u32, ranges, automata, composition }
 }
@@ -198,6 +210,15 @@ fn automaton(random: &mut Random, shape: &Shape, ranges: &[Range]) -> Automaton 
     let asked = |random: &mut Random| if random.percent(60) { always() } else { predicate(random, &scope, shape.depth) };
     let locations = (0..count).map(|_| Location { init: asked(random), invariant: asked(random) }).collect();
     Automaton { sync: set(random, shape.actions, shape.shared), locations, edges: Vec::new() }
+}
+
+/// A start condition.
+fn start(random: &mut Random, ranges: &[Range], depth: usize) -> Predicate {
+    if random.percent(20) {
+        always()
+    } else {
+        predicate(random, &Scope { ranges, new: false }, depth.max(2))
+    }
 }
 
 fn set(random: &mut Random, actions: usize, shared: usize) -> ActionSet {
@@ -225,21 +246,42 @@ fn tree(random: &mut Random, first: usize, count: usize) -> Composition {
 
 /// The tree with one more `syn`, anywhere.
 fn with_syn(random: &mut Random, composition: Composition, actions: usize) -> Composition {
+    let mut list = set(random, actions, 30);
+    list.insert(1 + random.below(actions) as u32);
+    with_word(random, composition, |part| Composition::Syn(list, part))
+}
+
+/// The tree with one more `ini`, anywhere.
+fn with_ini(random: &mut Random, composition: Composition, start: Predicate) -> Composition {
+    with_word(random, composition, |part| Composition::Ini(start, part))
+}
+
+/// The tree with one more word, over any part of it.
+fn with_word(random: &mut Random, composition: Composition, word: impl FnOnce(Box<Composition>) -> Composition) -> Composition {
     let here = random.percent(30);
     match composition {
         Composition::Par(left, right) if !here => {
             if random.percent(50) {
-                Composition::Par(Box::new(with_syn(random, *left, actions)), right)
+                Composition::Par(Box::new(with_word(random, *left, word)), right)
             } else {
-                Composition::Par(left, Box::new(with_syn(random, *right, actions)))
+                Composition::Par(left, Box::new(with_word(random, *right, word)))
             }
         }
-        Composition::Syn(list, inner) if !here => Composition::Syn(list, Box::new(with_syn(random, *inner, actions))),
-        other => {
-            let mut list = set(random, actions, 30);
-            list.insert(1 + random.below(actions) as u32);
-            Composition::Syn(list, Box::new(other))
-        }
+        Composition::Syn(list, inner) if !here => Composition::Syn(list, Box::new(with_word(random, *inner, word))),
+        Composition::Ini(start, inner) if !here => Composition::Ini(start, Box::new(with_word(random, *inner, word))),
+        other => word(Box::new(other)),
+    }
+}
+
+/// The tree with more words, until it has so many nodes.
+fn fill_tree(random: &mut Random, model: &mut Model, nodes: usize) {
+    while model.composition.nodes() < nodes {
+        let tree = model.composition.clone();
+        model.composition = if model.actions == 0 || random.percent(30) {
+            with_ini(random, tree, always())
+        } else {
+            with_syn(random, tree, model.actions as usize)
+        };
     }
 }
 
@@ -254,16 +296,15 @@ fn limit(random: &mut Random) -> Model {
         depth: 1 + random.below(5),
         shared: random.pick(&[0, 5, 50]),
         syns: random.below(20),
+        inis: random.pick(&[0, 0, 1, 3, 10]),
     };
     let mut drawn = model(random, &shape);
     let past = random.percent(10) as usize;
     if random.percent(50) {
         deepen(random, &mut drawn, DEPTH + past);
     }
-    if random.percent(50) && drawn.actions > 0 {
-        while drawn.composition.nodes() < TREE_NODES + past {
-            drawn.composition = with_syn(random, drawn.composition, shape.actions);
-        }
+    if random.percent(50) {
+        fill_tree(random, &mut drawn, TREE_NODES + past);
     }
     if random.percent(70) {
         pad(random, &mut drawn, NODES + past);
@@ -273,29 +314,38 @@ fn limit(random: &mut Random) -> Model {
     drawn
 }
 
-/// One predicate of exactly this depth.
-fn deepen(random: &mut Random, model: &mut Model, depth: usize) {
+/// One of the model's predicates.
+fn some_place<'m>(random: &mut Random, model: &'m mut Model) -> &'m mut Predicate {
+    let mut starts = model.composition.starts_mut();
+    if !starts.is_empty() && random.percent(40) {
+        return starts.swap_remove(random.below(starts.len()));
+    }
     let k = random.below(model.automata.len());
     let automaton = &mut model.automata[k];
-    let place = match random.below(3) {
+    match random.below(3) {
         0 if !automaton.edges.is_empty() => {
             let edge = random.below(automaton.edges.len());
             &mut automaton.edges[edge].update
         }
         1 => &mut automaton.locations[0].init,
         _ => &mut automaton.locations[0].invariant,
-    };
+    }
+}
+
+/// One predicate of exactly this depth.
+fn deepen(random: &mut Random, model: &mut Model, depth: usize) {
+    let place = some_place(random, model);
     *place = deepened(random, place.clone(), depth);
 }
 
 /// Predicates made plain until the model has at most 4,096 nodes.
 fn lighten(model: &mut Model) {
     let mut nodes = model.nodes();
-    let all = model.automata.iter_mut().flat_map(|automaton| {
+    let of_automata = model.automata.iter_mut().flat_map(|automaton| {
         let asked = automaton.locations.iter_mut().flat_map(|location| [&mut location.init, &mut location.invariant]);
         asked.chain(automaton.edges.iter_mut().map(|edge| &mut edge.update))
     });
-    for place in all {
+    for place in of_automata.chain(model.composition.starts_mut()) {
         if nodes <= NODES {
             return;
         }
@@ -308,14 +358,7 @@ fn lighten(model: &mut Model) {
 fn pad(random: &mut Random, model: &mut Model, nodes: usize) {
     lighten(model);
     let lacking = nodes.saturating_sub(model.nodes());
-    let k = random.below(model.automata.len());
-    let automaton = &mut model.automata[k];
-    let place = if random.percent(50) && !automaton.edges.is_empty() {
-        let last = automaton.edges.len() - 1;
-        &mut automaton.edges[last].update
-    } else {
-        &mut automaton.locations[0].init
-    };
+    let place = some_place(random, model);
     let size = place.nodes() + lacking;
     if lacking > 0 {
         *place = padding(size);
@@ -333,6 +376,7 @@ fn merging_limit(random: &mut Random) -> Model {
         depth: 1 + random.below(3),
         shared: 30,
         syns: random.below(5),
+        inis: random.pick(&[0, 0, 1, 2]),
     };
     let mut drawn = model(random, &shape);
     let past = random.percent(40) as usize;
@@ -373,10 +417,11 @@ fn pad_merged(model: &mut Model, nodes: usize) {
     let Ok(merged) = crate::reference::merged(model) else {
         return;
     };
-    // A node more in an init is one more in the merged init.
+    // A node more in an init or in a start condition is one more in the merged init.
     let init = &mut model.automata[0].locations[0].init;
-    let size = init.nodes() + nodes.saturating_sub(merged.nodes());
-    *init = padding(size);
+    let place = model.composition.starts_mut().pop().unwrap_or(init);
+    let size = place.nodes() + nodes.saturating_sub(merged.nodes());
+    *place = padding(size);
 }
 
 /// The model with faults of rows 4 to 16, as its text will have them: one or several.
@@ -393,38 +438,53 @@ pub fn faulty_sheet(random: &mut Random, model: &Model) -> Model {
 fn break_row(random: &mut Random, model: &mut Model) {
     let k = random.below(model.automata.len());
     let variables = model.ranges.len();
-    let outside = Expression::Old(variables + random.below(48 - variables.min(47)));
     let past = random.below(2);
-    match random.below(11) {
+    match random.below(12) {
         0 if variables > 0 => model.ranges[random.below(variables)] = (random.pick(&[1, 32_767]), random.pick(&[1, 0, -32_768])),
-        1 => put_somewhere(random, &mut model.automata[k], Predicate::Eq(outside, Expression::Number(0))),
-        2 => {
-            let new = Expression::New(random.below(variables.max(1)));
-            put_somewhere(random, &mut model.automata[k], Predicate::Le(new, Expression::Number(1)));
+        1 | 2 => {
+            let p = faulty_predicate(random, model);
+            put_somewhere(random, &mut model.automata[k], p);
         }
         3 => deepen(random, model, DEPTH + past),
-        4 => {
-            let p = around_32_bits(random, past == 1);
-            put_somewhere(random, &mut model.automata[k], p);
+        4 | 11 => {
+            for _ in 0..1 + random.below(3) {
+                let p = faulty_predicate(random, model);
+                model.composition = with_ini(random, model.composition.clone(), p);
+            }
         }
         5 => pad(random, model, NODES + past),
         6 if !model.automata[k].edges.is_empty() => misdirect(random, model.actions, &mut model.automata[k]),
-        7 => model.composition = tree(random, past, model.automata.len()),
+        7 => {
+            let tree = tree(random, past, model.automata.len());
+            model.composition = if random.percent(50) { tree } else { with_ini(random, tree, always()) };
+        }
         8 if model.automata[k].edges.len() > 1 => {
             let total = model.edges();
             let edge = Edge { update: always(), ..model.automata[k].edges[0].clone() };
             let count = model.automata[k].edges.len() + (EDGES + past).saturating_sub(total);
             model.automata[k].edges.resize(count, edge);
         }
-        9 if model.actions > 0 => {
-            while model.composition.nodes() < TREE_NODES + past {
-                model.composition = with_syn(random, model.composition.clone(), model.actions as usize);
-            }
-        }
+        9 => fill_tree(random, model, TREE_NODES + past),
         _ => {
             let action = random.pick(&[0, model.actions + 1, 63]);
             model.automata[k].sync.insert(action);
         }
+    }
+}
+
+/// A predicate that breaks one of the rows 7 to 11 in most places, or nearly does.
+fn faulty_predicate(random: &mut Random, model: &Model) -> Predicate {
+    let variables = model.ranges.len();
+    let past = random.below(2);
+    match random.below(7) {
+        0 | 1 => {
+            let outside = Expression::Old(variables + random.below(48 - variables.min(47)));
+            Predicate::Eq(outside, Expression::Number(0))
+        }
+        2 | 3 => Predicate::Le(Expression::New(random.below(variables.max(1))), Expression::Number(1)),
+        4 => deepened(random, always(), DEPTH + past),
+        5 => padding((NODES + past).saturating_sub(model.nodes()).max(1)),
+        _ => around_32_bits(random, past == 1),
     }
 }
 

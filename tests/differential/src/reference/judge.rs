@@ -42,7 +42,7 @@ pub fn step_of(model: &Model, proposal: &Proposal, action: u32) -> u32 {
     if action > model.actions {
         return REFUSED + 24;
     }
-    if !allowed(model, proposal, action) {
+    if !started(model, proposal) || !allowed(model, proposal, action) {
         return NO;
     }
     if model.composition.shares(action, &model.automata) {
@@ -57,7 +57,7 @@ pub fn environment_of(model: &Model, proposal: &Proposal) -> u32 {
     if let Some(row) = refusal(model, proposal) {
         return REFUSED + row;
     }
-    if (0..model.automata.len()).all(|i| still(model, proposal, i)) {
+    if started(model, proposal) && (0..model.automata.len()).all(|i| still(model, proposal, i)) {
         YES
     } else {
         NO
@@ -88,6 +88,12 @@ pub fn refusal(model: &Model, proposal: &Proposal) -> Option<u32> {
 
 fn location<'a>(model: &'a Model, i: usize, list: &[u32]) -> &'a Location {
     &model.automata[i].locations[list[i] as usize]
+}
+
+/// What phase 0 asks of every step, whoever takes: each `ini` of the composition holds of the old values.
+fn started(model: &Model, proposal: &Proposal) -> bool {
+    let old = proposal.values;
+    proposal.phase == 1 || model.composition.starts().iter().all(|p| p.holds(old, old))
 }
 
 /// What both rules ask of the old location: init in phase 0, and inv.
@@ -176,7 +182,7 @@ impl Search<'_> {
                 let covers = self.covers[*k].clone();
                 covers.iter().any(|cover| self.can(rest, uncovered & !cover))
             }
-            Composition::Syn(_, inner) => self.can(&[&[inner.as_ref()], rest].concat(), uncovered),
+            Composition::Syn(_, inner) | Composition::Ini(_, inner) => self.can(&[&[inner.as_ref()], rest].concat(), uncovered),
             Composition::Par(left, right) => {
                 let in_left = left.shares(self.action, &self.model.automata);
                 let in_right = right.shares(self.action, &self.model.automata);

@@ -49,11 +49,12 @@ pub fn once(edges: &[Edge]) -> Vec<Edge> {
 /// The merged model with an edge for each choice of takers, in the paper's order.
 pub fn definition_4(model: &Model) -> Model {
     let pointers = model.automata.iter().map(|automaton| (0, automaton.locations.len() as i32 - 1));
+    let starts = model.composition.starts().into_iter().cloned().collect();
     let automaton = Automaton {
         sync: model.composition.sync(&model.automata),
         locations: vec![Location {
-            init: by_location(model, |location| &location.init),
-            invariant: by_location(model, |location| &location.invariant),
+            init: Predicate::All([by_location(model, |location| &location.init), starts].concat()),
+            invariant: Predicate::All(by_location(model, |location| &location.invariant)),
         }],
         edges: (0..=model.actions).flat_map(|action| merged_edges(model, action)).collect(),
     };
@@ -66,7 +67,7 @@ pub fn definition_4(model: &Model) -> Model {
 }
 
 /// Where a pointer names a location, what that location asks.
-fn by_location(model: &Model, asked: fn(&Location) -> &Predicate) -> Predicate {
+fn by_location(model: &Model, asked: fn(&Location) -> &Predicate) -> Vec<Predicate> {
     let mut operands = Vec::new();
     for (i, automaton) in model.automata.iter().enumerate() {
         for (j, location) in automaton.locations.iter().enumerate() {
@@ -74,7 +75,7 @@ fn by_location(model: &Model, asked: fn(&Location) -> &Predicate) -> Predicate {
             operands.push(Predicate::Imp(Box::new(here), Box::new(asked(location).clone())));
         }
     }
-    Predicate::All(operands)
+    operands
 }
 
 fn is(pointer: Expression, location: usize) -> Predicate {
@@ -101,7 +102,7 @@ pub fn moves<'a>(model: &'a Model, composition: &Composition, action: u32) -> Ve
             let edges = model.automata[*k].edges.iter().filter(|edge| edge.action == action);
             edges.map(|edge| vec![(*k, edge)]).collect()
         }
-        Composition::Syn(_, inner) => moves(model, inner, action),
+        Composition::Syn(_, inner) | Composition::Ini(_, inner) => moves(model, inner, action),
         Composition::Par(left, right) => {
             let in_left = left.shares(action, &model.automata);
             let in_right = right.shares(action, &model.automata);
@@ -133,7 +134,7 @@ pub fn count_all(model: &Model) -> u128 {
 fn count(model: &Model, composition: &Composition, action: u32) -> u128 {
     match composition {
         Composition::Leaf(k) => model.automata[*k].edges.iter().filter(|edge| edge.action == action).count() as u128,
-        Composition::Syn(_, inner) => count(model, inner, action),
+        Composition::Syn(_, inner) | Composition::Ini(_, inner) => count(model, inner, action),
         Composition::Par(left, right) => {
             let in_left = left.shares(action, &model.automata);
             let in_right = right.shares(action, &model.automata);

@@ -44,6 +44,8 @@ pub enum Expression {
 pub enum Composition {
     Par(Box<Composition>, Box<Composition>),
     Syn(ActionSet, Box<Composition>),
+    /// A start condition, and what it stands over.
+    Ini(Predicate, Box<Composition>),
     Leaf(usize),
 }
 
@@ -241,7 +243,7 @@ impl Composition {
     pub fn nodes(&self) -> usize {
         match self {
             Composition::Par(left, right) => 1 + left.nodes() + right.nodes(),
-            Composition::Syn(_, inner) => 1 + inner.nodes(),
+            Composition::Syn(_, inner) | Composition::Ini(_, inner) => 1 + inner.nodes(),
             Composition::Leaf(_) => 1,
         }
     }
@@ -250,16 +252,37 @@ impl Composition {
     pub fn leaves(&self) -> Vec<usize> {
         match self {
             Composition::Par(left, right) => [left.leaves(), right.leaves()].concat(),
-            Composition::Syn(_, inner) => inner.leaves(),
+            Composition::Syn(_, inner) | Composition::Ini(_, inner) => inner.leaves(),
             Composition::Leaf(k) => vec![*k],
         }
     }
 
-    /// Its synchronising set: of `par` the union, of `syn` the list added.
+    /// The predicates of its `ini`: from left to right, the outer first.
+    pub fn starts(&self) -> Vec<&Predicate> {
+        match self {
+            Composition::Par(left, right) => [left.starts(), right.starts()].concat(),
+            Composition::Syn(_, inner) => inner.starts(),
+            Composition::Ini(p, inner) => [vec![p], inner.starts()].concat(),
+            Composition::Leaf(_) => Vec::new(),
+        }
+    }
+
+    /// The same, to be changed.
+    pub fn starts_mut(&mut self) -> Vec<&mut Predicate> {
+        match self {
+            Composition::Par(left, right) => left.starts_mut().into_iter().chain(right.starts_mut()).collect(),
+            Composition::Syn(_, inner) => inner.starts_mut(),
+            Composition::Ini(p, inner) => std::iter::once(p).chain(inner.starts_mut()).collect(),
+            Composition::Leaf(_) => Vec::new(),
+        }
+    }
+
+    /// Its synchronising set: of `par` the union, of `syn` the list added, of `ini` what it stands over.
     pub fn sync(&self, automata: &[Automaton]) -> ActionSet {
         match self {
             Composition::Par(left, right) => &left.sync(automata) | &right.sync(automata),
             Composition::Syn(list, inner) => list | &inner.sync(automata),
+            Composition::Ini(_, inner) => inner.sync(automata),
             Composition::Leaf(k) => automata[*k].sync.clone(),
         }
     }
@@ -269,6 +292,7 @@ impl Composition {
         match self {
             Composition::Par(left, right) => left.shares(action, automata) || right.shares(action, automata),
             Composition::Syn(list, inner) => list.contains(&action) || inner.shares(action, automata),
+            Composition::Ini(_, inner) => inner.shares(action, automata),
             Composition::Leaf(k) => automata[*k].sync.contains(&action),
         }
     }
@@ -282,6 +306,7 @@ impl Model {
             all.extend(automaton.locations.iter().flat_map(|location| [&location.init, &location.invariant]));
             all.extend(automaton.edges.iter().map(|edge| &edge.update));
         }
+        all.extend(self.composition.starts());
         all
     }
 

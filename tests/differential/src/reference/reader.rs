@@ -150,31 +150,42 @@ impl<'a> Sheet<'a> {
 
     /// Rows 6 to 11, from tokens whose numbers are sound.
     fn predicate(&mut self, tokens: &[&[u8]], new_allowed: bool) -> Result<Predicate, Refusal> {
-        let Some((words, depth)) = words(tokens).and_then(|words| depth(&words).map(|depth| (words, depth))) else {
+        let mut one = self.predicates(&[tokens], new_allowed)?;
+        Ok(one.remove(0))
+    }
+
+    /// Rows 6 to 11 for all predicates of a line: each row is asked of all of them before the next one is.
+    fn predicates(&mut self, all: &[&[&[u8]]], new_allowed: bool) -> Result<Vec<Predicate>, Refusal> {
+        let Some(all) = all.iter().map(|tokens| words(tokens)).collect::<Option<Vec<_>>>() else {
+            return self.refuse(6);
+        };
+        let Some(depths) = all.iter().map(|words| depth(words)).collect::<Option<Vec<_>>>() else {
             return self.refuse(6);
         };
         let declared = |word: &Word| !matches!(word, Word::Old(k) | Word::New(k) if *k >= self.ranges.len());
-        self.require(words.iter().all(declared), 7)?;
-        self.require(new_allowed || !words.iter().any(|word| matches!(word, Word::New(_))), 8)?;
-        self.require(depth <= DEPTH, 9)?;
-        let predicate = predicate_of(&mut words.iter());
-        self.require(predicate.keeps_to_32_bits(&self.ranges), 10)?;
-        self.nodes += words.len();
+        self.require(all.iter().flatten().all(declared), 7)?;
+        self.require(new_allowed || !all.iter().flatten().any(|word| matches!(word, Word::New(_))), 8)?;
+        self.require(depths.iter().all(|depth| *depth <= DEPTH), 9)?;
+        let predicates: Vec<Predicate> = all.iter().map(|words| predicate_of(&mut words.iter())).collect();
+        self.require(predicates.iter().all(|predicate| predicate.keeps_to_32_bits(&self.ranges)), 10)?;
+        self.nodes += all.iter().map(Vec::len).sum::<usize>();
         self.require(self.nodes <= NODES, 11)?;
-        Ok(predicate)
+        Ok(predicates)
     }
 
     fn composition(&mut self, automata: usize) -> Result<Composition, Refusal> {
         let tokens = parts(self.value("compose=")?, b' ');
         self.require(numbers_sound(&tokens), 3)?;
         self.require(lists_rise(&tokens, self.actions), 5)?;
-        let Some(branches) = branches(&tokens) else {
+        let (starts, tree) = apart(&tokens);
+        let starts = self.predicates(&starts, false)?;
+        let Some(branches) = branches(&tree) else {
             return self.refuse(13);
         };
         let leaves = branches.iter().filter_map(|branch| if let Branch::Leaf(k) = branch { Some(*k) } else { None });
         self.require(leaves.eq(0..automata), 14)?;
         self.require(branches.len() <= TREE_NODES, 16)?;
-        Ok(composition_of(&mut branches.iter()))
+        Ok(composition_of(&mut branches.iter(), &mut starts.into_iter()))
     }
 }
 
@@ -255,6 +266,47 @@ fn lists_rise(tokens: &[&[u8]], highest: u32) -> bool {
         .windows(2)
         .filter(|pair| pair[0] == b"syn" && starts_number(pair[1]))
         .all(|pair| rises_within(&actions(pair[1]).expect("row 3 does not hold"), highest))
+}
+
+/// The tokens of a composition: those of the predicate behind each `ini`, and all others. An `ini` inside of such a predicate
+/// breaks it; so what is behind that one need not be looked at.
+fn apart<'t>(tokens: &'t [&'t [u8]]) -> (Vec<&'t [&'t [u8]]>, Vec<&'t [u8]>) {
+    let (mut starts, mut tree) = (Vec::new(), Vec::new());
+    let mut rest = tokens;
+    while let Some((token, mut behind)) = rest.split_first() {
+        tree.push(*token);
+        if *token == b"ini" {
+            let start;
+            (start, behind) = behind.split_at(predicate_length(behind));
+            starts.push(start);
+        }
+        rest = behind;
+    }
+    (starts, tree)
+}
+
+/// How many tokens belong to the predicate at the front: up to where none is wanted, or all.
+fn predicate_length(tokens: &[&[u8]]) -> usize {
+    let mut wanted = 1;
+    let before = std::iter::once(&b""[..]).chain(tokens.iter().copied());
+    for (k, (before, token)) in before.zip(tokens).enumerate() {
+        wanted = wanted - 1 + called_for(before, token);
+        if wanted == 0 {
+            return k + 1;
+        }
+    }
+    tokens.len()
+}
+
+/// How many more tokens a token of a predicate calls for. A count, which is a token of its own, calls for as many operands.
+fn called_for(before: &[u8], token: &[u8]) -> usize {
+    match (before, token) {
+        (b"all" | b"any", count) => number(count, 0, HIGHEST_COUNT).unwrap_or(0) as usize,
+        (_, b"all" | b"any" | b"not") => 1,
+        (_, b"imp" | b"eq" | b"le" | b"add" | b"sub" | b"mul") => 2,
+        (_, b"if") => 3,
+        _ => 0,
+    }
 }
 
 /// A node of a predicate, without its operands.
@@ -377,10 +429,11 @@ fn expression_of<'w>(words: &mut impl Iterator<Item = &'w Word>) -> Expression {
 enum Branch {
     Par,
     Syn(ActionSet),
+    Ini,
     Leaf(usize),
 }
 
-/// The nodes of the one composition that the tokens make; none where they make none.
+/// The nodes of the one composition that the tokens make, of which no predicate is a part; none where they make none.
 fn branches(tokens: &[&[u8]]) -> Option<Vec<Branch>> {
     let mut branches = Vec::new();
     let mut tokens = tokens.iter();
@@ -395,6 +448,7 @@ fn branches(tokens: &[&[u8]]) -> Option<Vec<Branch>> {
                 branches.push(Branch::Par);
             }
             b"syn" => branches.push(Branch::Syn(actions(tokens.next()?)?.into_iter().collect())),
+            b"ini" => branches.push(Branch::Ini),
             [b'a', k @ ..] => {
                 owed -= 1;
                 branches.push(Branch::Leaf(number(k, 0, AUTOMATA - 1)? as usize));
@@ -405,10 +459,18 @@ fn branches(tokens: &[&[u8]]) -> Option<Vec<Branch>> {
     (owed == 0).then_some(branches)
 }
 
-fn composition_of<'b>(branches: &mut impl Iterator<Item = &'b Branch>) -> Composition {
-    match branches.next().expect("well-formed") {
-        Branch::Par => Composition::Par(Box::new(composition_of(branches)), Box::new(composition_of(branches))),
-        Branch::Syn(list) => Composition::Syn(list.clone(), Box::new(composition_of(branches))),
+/// The tree of the nodes, each `ini` with the next of the predicates.
+fn composition_of<'b>(
+    branches: &mut impl Iterator<Item = &'b Branch>,
+    starts: &mut impl Iterator<Item = Predicate>,
+) -> Composition {
+    let branch = branches.next().expect("well-formed");
+    let start = if matches!(branch, Branch::Ini) { starts.next() } else { None };
+    let mut inner = || Box::new(composition_of(branches, starts));
+    match branch {
+        Branch::Par => Composition::Par(inner(), inner()),
+        Branch::Syn(list) => Composition::Syn(list.clone(), inner()),
+        Branch::Ini => Composition::Ini(start.expect("each has one"), inner()),
         Branch::Leaf(k) => Composition::Leaf(*k),
     }
 }

@@ -17,6 +17,9 @@ pub fn table(model: &Model) -> Vec<u32> {
     }
     out.push(model.composition.nodes() as u32);
     put_composition(&mut out, &model.composition);
+    let starts = model.composition.starts();
+    out.push(starts.len() as u32);
+    starts.iter().for_each(|p| put_counted(&mut out, p));
     out.resize(TABLE_WORDS, 0);
     out
 }
@@ -89,6 +92,7 @@ fn put_expression(out: &mut Vec<u32>, expression: &Expression) {
     }
 }
 
+/// The tree. An `ini` stands here as a `syn` with no action; the predicates come behind.
 fn put_composition(out: &mut Vec<u32>, composition: &Composition) {
     match composition {
         Composition::Par(left, right) => {
@@ -99,6 +103,10 @@ fn put_composition(out: &mut Vec<u32>, composition: &Composition) {
         Composition::Syn(list, inner) => {
             out.push(1);
             put_set(out, list);
+            put_composition(out, inner);
+        }
+        Composition::Ini(_, inner) => {
+            out.extend([1, 0, 0]);
             put_composition(out, inner);
         }
         Composition::Leaf(k) => out.push(2 + *k as u32),
@@ -141,7 +149,10 @@ impl Words<'_> {
         let count = self.up_to(AUTOMATA)?;
         let automata = (0..count).map(|_| self.automaton()).collect::<Option<_>>()?;
         let _nodes = self.next()?;
-        let composition = self.composition(TREE_NODES)?;
+        let mut composition = self.composition(TREE_NODES)?;
+        let count = self.up_to(TREE_NODES as i64)?;
+        let starts = (0..count).map(|_| self.counted()).collect::<Option<Vec<_>>>()?;
+        composition.starts_mut().into_iter().zip(starts).for_each(|(place, start)| *place = start);
         Some(Model { actions, ranges, automata, composition })
     }
 
@@ -219,12 +230,19 @@ impl Words<'_> {
         })
     }
 
-    /// A composition of at most this depth.
+    /// A composition of at most this depth; the predicates of its `ini` are still to come.
     fn composition(&mut self, depth: usize) -> Option<Composition> {
         let depth = depth.checked_sub(1)?;
         Some(match self.next()? {
             0 => Composition::Par(Box::new(self.composition(depth)?), Box::new(self.composition(depth)?)),
-            1 => Composition::Syn(self.set()?, Box::new(self.composition(depth)?)),
+            1 => {
+                let (list, inner) = (self.set()?, Box::new(self.composition(depth)?));
+                if list.is_empty() {
+                    Composition::Ini(Predicate::All(Vec::new()), inner)
+                } else {
+                    Composition::Syn(list, inner)
+                }
+            }
             leaf => Composition::Leaf(leaf as usize - 2),
         })
     }
@@ -245,15 +263,20 @@ fn automaton_within(automaton: &Automaton, model: &Model) -> bool {
     let edge_within = |edge: &Edge| {
         edge.from < locations && edge.to < locations && edge.action <= model.actions && predicate_within(&edge.update, model)
     };
-    let state_within = |p: &Predicate| predicate_within(p, model) && p.mentions_new() == 0;
+    let of_states = |location: &Location| state_within(&location.init, model) && state_within(&location.invariant, model);
     set_within(&automaton.sync, model)
         && locations > 0
-        && automaton.locations.iter().all(|location| state_within(&location.init) && state_within(&location.invariant))
+        && automaton.locations.iter().all(of_states)
         && automaton.edges.iter().all(edge_within)
 }
 
 fn set_within(set: &ActionSet, model: &Model) -> bool {
     set.iter().all(|action| (1..=model.actions).contains(action))
+}
+
+/// A predicate of old values alone.
+fn state_within(predicate: &Predicate, model: &Model) -> bool {
+    predicate_within(predicate, model) && predicate.mentions_new() == 0
 }
 
 fn predicate_within(predicate: &Predicate, model: &Model) -> bool {
@@ -270,12 +293,14 @@ fn composition_within(composition: &Composition, model: &Model) -> bool {
     composition.nodes() <= TREE_NODES
         && composition.leaves().into_iter().eq(0..model.automata.len())
         && lists_within(composition, model)
+        && composition.starts().iter().all(|p| state_within(p, model))
 }
 
 fn lists_within(composition: &Composition, model: &Model) -> bool {
     match composition {
         Composition::Par(left, right) => lists_within(left, model) && lists_within(right, model),
         Composition::Syn(list, inner) => !list.is_empty() && set_within(list, model) && lists_within(inner, model),
+        Composition::Ini(_, inner) => lists_within(inner, model),
         Composition::Leaf(_) => true,
     }
 }

@@ -76,6 +76,7 @@ fn composition(c: &Composition) -> String {
     match c {
         Composition::Par(left, right) => format!("par {} {}", composition(left), composition(right)),
         Composition::Syn(actions, inner) => format!("syn {} {}", list(actions), composition(inner)),
+        Composition::Ini(p, inner) => format!("ini {} {}", predicate(p), composition(inner)),
         Composition::Leaf(k) => format!("a{k}"),
     }
 }

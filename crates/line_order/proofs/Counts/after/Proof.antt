@@ -61,6 +61,9 @@ with-nodes-requires-3 c κs = search needs
 enum-told-12 : tie.Need-enum-told-12
 enum-told-12 c = search needs
 
+with-nodes-requires-4 : tie.Need-with-nodes-requires-4
+with-nodes-requires-4 c κs = search needs
+
 enum-told-13 : tie.Need-enum-told-13
 enum-told-13 c = search needs
 
@@ -110,7 +113,7 @@ returns-11 c = rw (c .before .before .enum-told11 .given .1, c .with-nodes3 .ens
 
 returns-12 : tie.Need-returns-12
 unfolding countsAfter
-returns-12 c = rw (c .enum-told12 .given .1)
+returns-12 c = rw (c .before .enum-told12 .given .1, c .with-nodes4 .ensures)
 
 returns-13 : tie.Need-returns-13
 unfolding countsAfter
@@ -139,6 +142,7 @@ after-spec =
     add-requires-4
     with-nodes-requires-3
     enum-told-12
+    with-nodes-requires-4
     enum-told-13
     returns
     returns-2

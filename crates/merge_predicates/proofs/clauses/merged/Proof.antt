@@ -4,26 +4,17 @@ use borrow.Author.Needs.{needs}
 use Rattle.merge_predicates.proofs.clauses.merged.Statement.{statement}
 use Rattle.merge_predicates.proofs.clauses.merged.Tie as tie
 
-slice-aggregate-merged-nodes : tie.Need-slice-aggregate-merged-nodes
-slice-aggregate-merged-nodes c = search needs
-
-merged-nodes-requires : tie.Need-merged-nodes-requires
-merged-nodes-requires c κs = search needs
-
-put-requires : tie.Need-put-requires
-put-requires c κs = search needs
-
-all-node-requires : tie.Need-all-node-requires
-all-node-requires c κs = search needs
-
-put-requires-2 : tie.Need-put-requires-2
-put-requires-2 c κs = search needs
+opening-requires : tie.Need-opening-requires
+opening-requires c κs = search needs
 
 slice-aggregate-at-automata : tie.Need-slice-aggregate-at-automata
 slice-aggregate-at-automata c = search needs
 
 at-automata-requires : tie.Need-at-automata-requires
 at-automata-requires c κs = search needs
+
+copied-requires : tie.Need-copied-requires
+copied-requires c κs = search needs
 
 returns : tie.Need-returns
 returns c = search (needs, merged-is)
@@ -32,11 +23,8 @@ pub merged-spec : {M : Type 1} → statement M
 merged-spec =
     tie.close
     (tie.spec
-    slice-aggregate-merged-nodes
-    merged-nodes-requires
-    put-requires
-    all-node-requires
-    put-requires-2
+    opening-requires
     slice-aggregate-at-automata
     at-automata-requires
+    copied-requires
     returns)

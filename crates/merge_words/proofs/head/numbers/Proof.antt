@@ -1,5 +1,5 @@
 -- `merge_words::head::numbers` meets its contract: its words, one by one.
-use Rattle.merge_words.proofs.HeadLaws.{three-words}
+use Rattle.merge_words.proofs.HeadLaws.{numbers-are}
 use borrow.Author.Needs.{needs}
 use Rattle.merge_words.proofs.head.numbers.Statement.{statement}
 use Rattle.merge_words.proofs.head.numbers.Tie as tie
@@ -17,7 +17,7 @@ put-requires-3 : tie.Need-put-requires-3
 put-requires-3 c κs = search needs
 
 returns : tie.Need-returns
-returns c = search (needs, three-words)
+returns c = search (needs, numbers-are)
 
 pub numbers-spec : {M : Type 1} → statement M
 numbers-spec =

@@ -1,5 +1,5 @@
--- `merge_words::head::tail` meets its contract: one word, then the other.
-use Rattle.merge_words.proofs.HeadLaws.{two-words}
+-- `merge_words::head::tail` meets its contract: its words, one by one.
+use Rattle.merge_words.proofs.HeadLaws.{three-words}
 use borrow.Author.Needs.{needs}
 use Rattle.merge_words.proofs.head.tail.Statement.{statement}
 use Rattle.merge_words.proofs.head.tail.Tie as tie
@@ -10,8 +10,11 @@ put-requires c κs = search needs
 put-requires-2 : tie.Need-put-requires-2
 put-requires-2 c κs = search needs
 
+put-requires-3 : tie.Need-put-requires-3
+put-requires-3 c κs = search needs
+
 returns : tie.Need-returns
-returns c = search (needs, two-words)
+returns c = search (needs, three-words)
 
 pub tail-spec : {M : Type 1} → statement M
-tail-spec = tie.close (tie.spec put-requires put-requires-2 returns)
+tail-spec = tie.close (tie.spec put-requires put-requires-2 put-requires-3 returns)

@@ -4,6 +4,9 @@ use borrow.Author.Needs.{needs}
 use Rattle.merge_words.proofs.sheet.location.Statement.{statement}
 use Rattle.merge_words.proofs.sheet.location.Tie as tie
 
+no-starts-requires : tie.Need-no-starts-requires
+no-starts-requires c κs = search needs
+
 put-requires : tie.Need-put-requires
 put-requires c κs = search needs
 
@@ -17,4 +20,5 @@ returns : tie.Need-returns
 returns c = search (needs, location-is)
 
 pub location-spec : {M : Type 1} → statement M
-location-spec = tie.close (tie.spec put-requires merged-requires merged-requires-2 returns)
+location-spec =
+    tie.close (tie.spec no-starts-requires put-requires merged-requires merged-requires-2 returns)

@@ -16,6 +16,12 @@ slice-aggregate-merged-nodes c = search needs
 merged-nodes-requires : tie.Need-merged-nodes-requires
 merged-nodes-requires c κs = search needs
 
+starts-deep-requires : tie.Need-starts-deep-requires
+starts-deep-requires c κs = search needs
+
+starts-nodes-requires : tie.Need-starts-nodes-requires
+starts-nodes-requires c κs = search needs
+
 returns : tie.Need-returns
 returns c = search (needs, predicate-is)
 
@@ -27,4 +33,6 @@ predicate-spec =
     merged-deep-requires
     slice-aggregate-merged-nodes
     merged-nodes-requires
+    starts-deep-requires
+    starts-nodes-requires
     returns)

@@ -7,6 +7,9 @@ use Rattle.merge_words.proofs.survey.start.Tie as tie
 predicate-requires : tie.Need-predicate-requires
 predicate-requires c κs = search needs
 
+no-starts-requires : tie.Need-no-starts-requires
+no-starts-requires c κs = search needs
+
 predicate-requires-2 : tie.Need-predicate-requires-2
 predicate-requires-2 c κs = search needs
 
@@ -17,4 +20,6 @@ returns : tie.Need-returns
 returns c = search (needs, start-is)
 
 pub start-spec : {M : Type 1} → statement M
-start-spec = tie.close (tie.spec predicate-requires predicate-requires-2 add-requires returns)
+start-spec =
+    tie.close
+    (tie.spec predicate-requires no-starts-requires predicate-requires-2 add-requires returns)

@@ -3,8 +3,10 @@
 use Rattle.read_composition.proofs.ComposeLaws.{read-laws}
 use Prim.Native.Nat.{_+_, _-_, _≤_}
 use mathlib.Core.Path.{_≡_}
+use mathlib.Core.List.{[]}
 use lib.ListN.{length}
 use Rattle.format.specs.Bytes.{space}
+use Rattle.format.specs.Tokens.{outside}
 use Rattle.read_composition.specs.Token.{kindsOf}
 use Rattle.read_composition.specs.Read.{outcome, walk}
 use Rattle.text_bytes.proofs.Parting.{partsFrom, turn-laws}
@@ -15,7 +17,7 @@ use Rattle.read_composition.proofs.compose.read.Tie as tie
 
 abbrev Inv-loop : tie.InvT-loop
 Inv-loop part automata out₀ at₀ due₀ w₀ out at due w =
-    (at ≤ length part + 1) × Within w at × (outcome automata part out₀ ≡ walk automata w out (kindsOf due (partsFrom space part at)))
+    (at ≤ length part + 1) × Within w at × (outcome automata part out₀ ≡ walk automata w out (kindsOf due (outside 0 [] (partsFrom space part at))))
 
 abbrev μ-loop : tie.MeasureT-loop
 μ-loop part automata out₀ at₀ due₀ w₀ out at due w = length part + 1 - at
@@ -56,11 +58,14 @@ step-requires c κs = (search (needs, read-laws), search needs, search needs, se
 is-syn-requires : tie.Need-is-syn-requires Inv-loop μ-loop
 is-syn-requires c κs = search needs
 
-add-at : tie.Need-add-at Inv-loop μ-loop
-add-at c = search needs
+add-beyond : tie.Need-add-beyond Inv-loop μ-loop
+add-beyond c = search needs
+
+beyond-requires : tie.Need-beyond-requires Inv-loop μ-loop
+beyond-requires c κs = search needs
 
 loop-less : tie.Need-loop-less Inv-loop μ-loop
-loop-less c = search (needs, turn-laws)
+loop-less c = search (needs, read-laws)
 
 loop-again : tie.Need-loop-again Inv-loop μ-loop
 loop-again c = search (needs, read-laws)
@@ -89,7 +94,8 @@ read-spec =
     put-requires
     step-requires
     is-syn-requires
-    add-at
+    add-beyond
+    beyond-requires
     loop-less
     loop-again
     ended-requires

@@ -22,23 +22,29 @@ enum-told-3 c = search needs
 add-t8 : tie.Need-add-t8
 add-t8 c = search needs
 
+enum-told-4 : tie.Need-enum-told-4
+enum-told-4 c = search needs
+
+add-t9 : tie.Need-add-t9
+add-t9 c = search needs
+
 enum-known-k : tie.Need-enum-known-k
 enum-known-k c = search needs
 
-sub-t9 : tie.Need-sub-t9
-sub-t9 c = search needs
+sub-t10 : tie.Need-sub-t10
+sub-t10 c = search needs
 
-add-t10 : tie.Need-add-t10
-add-t10 c = search needs
+add-t11 : tie.Need-add-t11
+add-t11 c = search needs
 
 index-requires : tie.Need-index-requires
 index-requires c κs = search needs
 
-add-t14 : tie.Need-add-t14
-add-t14 c = search needs
+add-t15 : tie.Need-add-t15
+add-t15 c = search needs
 
-enum-told-4 : tie.Need-enum-told-4
-enum-told-4 c = search needs
+enum-told-5 : tie.Need-enum-told-5
+enum-told-5 c = search needs
 
 returns : tie.Need-returns
 returns c = search (needs, step-laws)
@@ -55,6 +61,9 @@ returns-4 c = search (needs, step-laws)
 returns-5 : tie.Need-returns-5
 returns-5 c = search (needs, step-laws)
 
+returns-6 : tie.Need-returns-6
+returns-6 c = search (needs, step-laws)
+
 pub step-spec : {M : Type 1} → statement M
 step-spec =
     tie.close
@@ -65,14 +74,17 @@ step-spec =
     enum-told-2
     enum-told-3
     add-t8
-    enum-known-k
-    sub-t9
-    add-t10
-    index-requires
-    add-t14
     enum-told-4
+    add-t9
+    enum-known-k
+    sub-t10
+    add-t11
+    index-requires
+    add-t15
+    enum-told-5
     returns
     returns-2
     returns-3
     returns-4
-    returns-5)
+    returns-5
+    returns-6)

@@ -19,11 +19,20 @@ same-requires c κs = search needs
 returns-2 : tie.Need-returns-2
 returns-2 c = search (needs, word-laws)
 
-leaf-requires : tie.Need-leaf-requires
-leaf-requires c κs = search needs
+slice-aggregate-same-2 : tie.Need-slice-aggregate-same-2
+slice-aggregate-same-2 c = search needs
+
+same-requires-2 : tie.Need-same-requires-2
+same-requires-2 c κs = search needs
 
 returns-3 : tie.Need-returns-3
 returns-3 c = search (needs, word-laws)
+
+leaf-requires : tie.Need-leaf-requires
+leaf-requires c κs = search needs
+
+returns-4 : tie.Need-returns-4
+returns-4 c = search (needs, word-laws)
 
 pub word-spec : {M : Type 1} → statement M
 word-spec =
@@ -34,5 +43,8 @@ word-spec =
     slice-aggregate-same
     same-requires
     returns-2
+    slice-aggregate-same-2
+    same-requires-2
+    returns-3
     leaf-requires
-    returns-3)
+    returns-4)

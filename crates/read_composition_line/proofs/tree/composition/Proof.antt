@@ -1,5 +1,6 @@
 -- `composition` meets its contract.
 use Rattle.read_composition_line.proofs.CompositionLaws.{composition-laws}
+use Rattle.read_predicate.proofs.ScratchLaws.{scratch-laws}
 use Rattle.model.proofs.Tests.{not-true, not-false}
 use borrow.Author.Needs.{needs}
 use Rattle.read_composition_line.proofs.tree.composition.Statement.{statement}
@@ -12,7 +13,7 @@ misformed-requires : tie.Need-misformed-requires
 misformed-requires c κs = search needs
 
 returns : tie.Need-returns
-returns c = search (needs, composition-laws)
+returns c = (search (needs, composition-laws), (search (needs, composition-laws), search (needs, scratch-laws)))
 
 slice-aggregate-value : tie.Need-slice-aggregate-value
 slice-aggregate-value c = search needs
@@ -24,7 +25,7 @@ numbers-sound-requires : tie.Need-numbers-sound-requires
 numbers-sound-requires c κs = search needs
 
 returns-2 : tie.Need-returns-2
-returns-2 c = search (needs, composition-laws, not-true, not-false)
+returns-2 c = (search (needs, composition-laws, not-true, not-false), (search (needs, composition-laws, not-true, not-false), search (needs, scratch-laws)))
 
 capped-requires : tie.Need-capped-requires
 capped-requires c κs = search needs
@@ -33,13 +34,19 @@ lists-sound-requires : tie.Need-lists-sound-requires
 lists-sound-requires c κs = search needs
 
 returns-3 : tie.Need-returns-3
-returns-3 c = search (needs, composition-laws, not-true, not-false)
+returns-3 c = (search (needs, composition-laws, not-true, not-false), (search (needs, composition-laws, not-true, not-false), search (needs, scratch-laws)))
 
-tree-requires : tie.Need-tree-requires
-tree-requires c κs = search needs
+composed-requires : tie.Need-composed-requires
+composed-requires c κs = search needs
+
+same-length : tie.Need-same-length
+same-length c = search needs
+
+same-length-2 : tie.Need-same-length-2
+same-length-2 c = search needs
 
 returns-4 : tie.Need-returns-4
-returns-4 c = search (needs, composition-laws, not-false)
+returns-4 c = (search (needs, composition-laws, not-false), (search (needs, composition-laws, not-false), search (needs, scratch-laws)))
 
 pub composition-spec : {M : Type 1} → statement M
 composition-spec =
@@ -55,5 +62,7 @@ composition-spec =
     capped-requires
     lists-sound-requires
     returns-3
-    tree-requires
+    composed-requires
+    same-length
+    same-length-2
     returns-4)

@@ -1,5 +1,5 @@
 -- `append_nodes` meets its contract: each way out is a law of PredicateLaws.
-use Rattle.read_predicate_line.proofs.PredicateLaws.{more-laws}
+use Rattle.table_append.proofs.Joined.{more-laws}
 use borrow.Author.Needs.{needs}
 use Rattle.read_predicate_line.proofs.predicates.append_nodes.Statement.{statement}
 use Rattle.read_predicate_line.proofs.predicates.append_nodes.Tie as tie

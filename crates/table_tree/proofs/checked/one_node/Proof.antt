@@ -1,5 +1,5 @@
 -- `table_tree::checked::one_node` meets its contract: each way out is a law of CheckLaws.
-use Rattle.table_tree.proofs.CheckLaws.{step-laws}
+use Rattle.table_tree.proofs.CheckLaws.{step-laws, unfilled-few}
 use borrow.Author.Needs.{needs}
 use Rattle.table_tree.proofs.checked.one_node.Statement.{statement}
 use Rattle.table_tree.proofs.checked.one_node.Tie as tie
@@ -13,8 +13,8 @@ node-at-requires c κs = search needs
 enum-known-f : tie.Need-enum-known-f
 enum-known-f c = search needs
 
-add-t15 : tie.Need-add-t15
-add-t15 c = search needs
+add-t16 : tie.Need-add-t16
+add-t16 c = search needs
 
 enum-known-f-2 : tie.Need-enum-known-f-2
 enum-known-f-2 c = search needs
@@ -22,17 +22,22 @@ enum-known-f-2 c = search needs
 set-sound-requires : tie.Need-set-sound-requires
 set-sound-requires c κs = search needs
 
-set-filled-requires : tie.Need-set-filled-requires
-set-filled-requires c κs = search needs
+unfilled-requires : tie.Need-unfilled-requires
+unfilled-requires c κs = search needs
+
+add-t20 : tie.Need-add-t20
+add-t20 c =
+    let few = unfilled-few _ _ (c .unfilled .ensures) in
+    search needs
 
 enum-known-f-3 : tie.Need-enum-known-f-3
 enum-known-f-3 c = search needs
 
-sub-t22 : tie.Need-sub-t22
-sub-t22 c = search needs
+sub-t23 : tie.Need-sub-t23
+sub-t23 c = search needs
 
-add-t23 : tie.Need-add-t23
-add-t23 c = search needs
+add-t24 : tie.Need-add-t24
+add-t24 c = search needs
 
 enum-told : tie.Need-enum-told
 enum-told c = search needs
@@ -62,13 +67,14 @@ one-node-spec =
     returns
     node-at-requires
     enum-known-f
-    add-t15
+    add-t16
     enum-known-f-2
     set-sound-requires
-    set-filled-requires
+    unfilled-requires
+    add-t20
     enum-known-f-3
-    sub-t22
-    add-t23
+    sub-t23
+    add-t24
     enum-told
     returns-2
     returns-3

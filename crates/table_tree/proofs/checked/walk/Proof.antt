@@ -1,5 +1,5 @@
 -- `table_tree::checked::walk` meets its contract: from each turn on, the definition goes on to the same answer. Each node owes at most one
--- subtree more, and has at most one leaf. The measure is the nodes left.
+-- subtree more, and is at most one leaf or `ini` more. The measure is the nodes left.
 use mathlib.Core.Path.{_≡_}
 use Prim.Native.Nat.{_+_, _≤_}
 use Rattle.table_tree.specs.Checked.{checkFrom}
@@ -9,11 +9,11 @@ use Rattle.table_tree.proofs.checked.walk.Statement.{statement}
 use Rattle.table_tree.proofs.checked.walk.Tie as tie
 
 abbrev Inv-loop : tie.InvT-loop
-Inv-loop words at count actions automata left₀ next₀ owed₀ leaves₀ left next owed leaves =
-    (owed + left ≤ count + 1) × (leaves + left ≤ count) × (checkFrom words actions automata left next owed leaves ≡ checkFrom words actions automata count at 1 0)
+Inv-loop words at count actions automata left₀ next₀ owed₀ leaves₀ inis₀ left next owed leaves inis =
+    (owed + left ≤ count + 1) × (leaves + left ≤ count) × (inis + left ≤ count) × (checkFrom words actions automata left next owed leaves inis ≡ checkFrom words actions automata count at 1 0 0)
 
 abbrev μ-loop : tie.MeasureT-loop
-μ-loop words at count actions automata left₀ next₀ owed₀ leaves₀ left next owed leaves = left
+μ-loop words at count actions automata left₀ next₀ owed₀ leaves₀ inis₀ left next owed leaves inis = left
 
 loop-holds : tie.Need-loop-holds Inv-loop μ-loop
 loop-holds c = search needs

@@ -25,8 +25,8 @@ field-requires-3 c κs = search needs
 rest-requires : tie.Need-rest-requires
 rest-requires c κs = search needs
 
-predicate-requires : tie.Need-predicate-requires
-predicate-requires c κs = search needs
+counted-requires : tie.Need-counted-requires
+counted-requires c κs = search needs
 
 same-length : tie.Need-same-length
 same-length c = search needs
@@ -45,6 +45,6 @@ edge-spec =
     word32-requires-3
     field-requires-3
     rest-requires
-    predicate-requires
+    counted-requires
     same-length
     returns)

@@ -10,6 +10,9 @@ count-requires c κs = search needs
 rest-requires : tie.Need-rest-requires
 rest-requires c κs = search needs
 
+starts-requires : tie.Need-starts-requires
+starts-requires c κs = search needs
+
 nodes-requires : tie.Need-nodes-requires
 nodes-requires c κs = search needs
 
@@ -20,4 +23,4 @@ returns : tie.Need-returns
 returns c = search (needs, tree-is)
 
 pub tree-spec : {M : Type 1} → statement M
-tree-spec = tie.close (tie.spec count-requires rest-requires nodes-requires same-length returns)
+tree-spec = tie.close (tie.spec count-requires rest-requires starts-requires nodes-requires same-length returns)

@@ -38,8 +38,8 @@ set-requires c κs = search needs
 enum-told-4 : tie.Need-enum-told-4
 enum-told-4 c = search needs
 
-predicate-requires : tie.Need-predicate-requires
-predicate-requires c κs = search needs
+counted-requires : tie.Need-counted-requires
+counted-requires c κs = search needs
 
 enum-told-5 : tie.Need-enum-told-5
 enum-told-5 c = search needs
@@ -117,7 +117,7 @@ value-spec =
     word32-requires-3
     set-requires
     enum-told-4
-    predicate-requires
+    counted-requires
     enum-told-5
     edge-requires
     enum-told-6

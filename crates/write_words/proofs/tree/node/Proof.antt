@@ -19,20 +19,8 @@ same-length c = search needs
 returns : tie.Need-returns
 returns c = search (needs, node-laws)
 
-slice-aggregate-put-2 : tie.Need-slice-aggregate-put-2
-slice-aggregate-put-2 c = search needs
-
-put-requires-2 : tie.Need-put-requires-2
-put-requires-2 c κs = search needs
-
-word32-requires-2 : tie.Need-word32-requires-2
-word32-requires-2 c κs = search needs
-
-word32-requires-3 : tie.Need-word32-requires-3
-word32-requires-3 c κs = search needs
-
-set-requires : tie.Need-set-requires
-set-requires c κs = search needs
+over-requires : tie.Need-over-requires
+over-requires c κs = search needs
 
 same-length-2 : tie.Need-same-length-2
 same-length-2 c = search needs
@@ -40,11 +28,11 @@ same-length-2 c = search needs
 returns-2 : tie.Need-returns-2
 returns-2 c = search (needs, node-laws)
 
-slice-aggregate-put-3 : tie.Need-slice-aggregate-put-3
-slice-aggregate-put-3 c = search needs
+slice-aggregate-put-2 : tie.Need-slice-aggregate-put-2
+slice-aggregate-put-2 c = search needs
 
-put-requires-3 : tie.Need-put-requires-3
-put-requires-3 c κs = search needs
+put-requires-2 : tie.Need-put-requires-2
+put-requires-2 c κs = search needs
 
 sub-number : tie.Need-sub-number
 sub-number c = search needs
@@ -67,15 +55,11 @@ node-spec =
     put-requires
     same-length
     returns
-    slice-aggregate-put-2
-    put-requires-2
-    word32-requires-2
-    word32-requires-3
-    set-requires
+    over-requires
     same-length-2
     returns-2
-    slice-aggregate-put-3
-    put-requires-3
+    slice-aggregate-put-2
+    put-requires-2
     sub-number
     number-requires
     same-length-3

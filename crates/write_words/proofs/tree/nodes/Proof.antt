@@ -1,8 +1,6 @@
--- The first i nodes are written, and the words after them stand from `next` on.
-use Rattle.write_words.proofs.NodeLaws.{nodes-laws, afterNodes}
+-- The first i nodes are written, and the walk is after them.
+use Rattle.write_words.proofs.NodeLaws.{nodes-laws, Walked}
 use Prim.Native.Nat.{_-_, _≤_}
-use mathlib.Core.Path.{_≡_}
-use lib.ListN.{drop}
 use Rattle.format.specs.Bytes.{joined, space}
 use Rattle.write_words.specs.Growing.{Grew}
 use Rattle.write_words.specs.NodeText.{nodeTexts}
@@ -11,13 +9,19 @@ use Rattle.write_words.proofs.tree.nodes.Statement.{statement}
 use Rattle.write_words.proofs.tree.nodes.Tie as tie
 
 abbrev Inv-loop : tie.InvT-loop
-Inv-loop ws n out₀ end₀ next₀ i₀ t9 out end next i = (i ≤ n) × (drop next ws ≡ afterNodes i ws) × Grew (joined space (nodeTexts i ws)) end₀ out₀ out end
+Inv-loop ws n ps out₀ end₀ next₀ start₀ i₀ t13 out end next start i = (i ≤ n) × Walked ws ps i next start × Grew (joined space (nodeTexts i ws ps)) end₀ out₀ out end
 
 abbrev μ-loop : tie.MeasureT-loop
-μ-loop ws n out₀ end₀ next₀ i₀ t9 out end next i = n - i
+μ-loop ws n ps out₀ end₀ next₀ start₀ i₀ t13 out end next start i = n - i
 
 loop-holds : tie.Need-loop-holds Inv-loop μ-loop
 loop-holds c = search (needs, nodes-laws)
+
+rest-requires : tie.Need-rest-requires Inv-loop μ-loop
+rest-requires c κs = search needs
+
+after-requires : tie.Need-after-requires Inv-loop μ-loop
+after-requires c κs = search needs
 
 slice-aggregate-apart : tie.Need-slice-aggregate-apart Inv-loop μ-loop
 slice-aggregate-apart c = search needs
@@ -25,14 +29,11 @@ slice-aggregate-apart c = search needs
 apart-requires : tie.Need-apart-requires Inv-loop μ-loop
 apart-requires c κs = search needs
 
-rest-requires : tie.Need-rest-requires Inv-loop μ-loop
-rest-requires c κs = search needs
+rest-requires-2 : tie.Need-rest-requires-2 Inv-loop μ-loop
+rest-requires-2 c κs = search needs
 
 node-requires : tie.Need-node-requires Inv-loop μ-loop
 node-requires c κs = search needs
-
-rest-requires-2 : tie.Need-rest-requires-2 Inv-loop μ-loop
-rest-requires-2 c κs = search needs
 
 size-requires : tie.Need-size-requires Inv-loop μ-loop
 size-requires c κs = search needs
@@ -62,11 +63,12 @@ nodes-spec =
     Inv-loop
     μ-loop
     loop-holds
+    rest-requires
+    after-requires
     slice-aggregate-apart
     apart-requires
-    rest-requires
-    node-requires
     rest-requires-2
+    node-requires
     size-requires
     step-requires
     add-i

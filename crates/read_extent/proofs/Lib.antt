@@ -1,0 +1,3 @@
+pub mod CallsLaws
+pub mod PlacesLaws
+pub mod Extents

@@ -1,0 +1,6 @@
+pub mod PartLaws
+pub mod JudgingLaws
+pub mod WordsLaws
+pub mod TextLaws
+pub mod Least
+pub mod StartRows

@@ -1,0 +1,4 @@
+pub mod Texts
+pub mod Judged
+pub mod Words
+pub mod Rows
