@@ -29,7 +29,7 @@
 
 /* The version of these declarations. The first number changes when a call that was right is right no more. */
 #define SHEET_VERSION_MAJOR 2
-#define SHEET_VERSION_MINOR 0
+#define SHEET_VERSION_MINOR 1
 #define SHEET_VERSION_PATCH 0
 
 /* The words that a table has at least. A longer one keeps its rest. docs/TABLE.md has its layout. */
@@ -99,6 +99,7 @@ enum sheet_row {
     SHEET_ROW_MERGED_DEPTH = 33,
     SHEET_ROW_MERGED_NODES = 34,
     SHEET_ROW_BUFFER_SHORT = 35,
+    SHEET_ROW_WRITES = 44,
     SHEET_LISTS_UNEVEN = 101,
     SHEET_ANSWERS_SHORT = 102,
     SHEET_END_SHORT = 103
@@ -112,7 +113,7 @@ static inline const char *sheet_sentence(uint32_t number)
     case 2: return "the line is not the one that is due, or has a wrong number of fields, a forbidden byte or no LF";
     case 3: return "a number is misspelled or out of its range";
     case 4: return "a variable's least value is above its greatest";
-    case 5: return "a list of actions does not rise, or has 0 or an action above the highest";
+    case 5: return "a list does not rise, or a list of actions has 0 or an action above the highest";
     case 6: return "this is no predicate";
     case 7: return "the sheet has no such variable";
     case 8: return "an init, an inv or a start condition cannot have a new value";
@@ -136,6 +137,7 @@ static inline const char *sheet_sentence(uint32_t number)
     case 33: return "merged, a predicate is deeper than 24";
     case 34: return "merged, the predicates have more than 4,096 nodes";
     case 35: return "the buffer is shorter than the text";
+    case 44: return "the list is not that of the variables whose new value the edge mentions";
     case 101: return "the list does not have a location for each automaton and a value for each variable at each action";
     case 102: return "there are fewer places for answers than actions";
     case 103: return "there are too few places for the locations or values at the end";
@@ -147,8 +149,8 @@ static inline const char *sheet_sentence(uint32_t number)
 extern "C" {
 #endif
 
-/* Reads a text into the first 8,192 words of a table. 0: accepted. Else row * 2^32 + line: rows 1 to 16, or 18 for a
- * table that is too short. Lines count from 1; rows 1 and 18 have line 0. */
+/* Reads a text, of format 1 or 2, into the first 8,192 words of a table. 0: accepted. Else row * 2^32 + line: rows 1 to
+ * 16 and 44, or 18 for a table that is too short. Lines count from 1; rows 1 and 18 have line 0. */
 uint64_t sheet_read(const uint8_t *text, size_t text_length, uint32_t *table, size_t table_length);
 
 /* The numbers of the table's sheet, by which a caller makes its lists: SHEET_ACTIONS (the highest action),
@@ -160,9 +162,9 @@ uint64_t sheet_size(const uint32_t *table, size_t table_length);
  * short buffer. The bytes behind the text stay as they were. */
 uint64_t sheet_write(const uint32_t *table, size_t table_length, uint8_t *out, size_t out_length);
 
-/* Writes the text of one automaton that does exactly what all automata of the table do together, equal edges once:
- * edges * 2^17 + length. Else row * 2^32: 18 or 19 for the table, 31 to 34 for a limit that the merged sheet breaks,
- * 35 for a short buffer. The bytes behind the text stay as they were. */
+/* Writes the text of one automaton that does exactly what all automata of the table do together, equal edges once, in
+ * the format of the table's own text: edges * 2^17 + length. Else row * 2^32: 18 or 19 for the table, 31 to 34 for a
+ * limit that the merged sheet breaks, 35 for a short buffer. The bytes behind the text stay as they were. */
 uint64_t sheet_merge(const uint32_t *table, size_t table_length, uint8_t *out, size_t out_length);
 
 /* May the composition take the action, from a phase (0 start, 1 running), locations and values to new locations and

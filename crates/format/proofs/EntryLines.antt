@@ -3,7 +3,7 @@ use Prim.Native.Nat.{ℕ}
 use mathlib.Core.Path.{_≡_, refl, sym, _∙_, ap}
 use mathlib.Core.Bool.{Bool, true, false}
 use mathlib.Core.List.{List, [], _∷_, _++_, append-assoc, map, flatMap}
-use mathlib.Core.Option.{some}
+use mathlib.Core.Option.{Option, none, some}
 use native.Mathlib.Omega.{arith}
 use borrow.Author.Tests.{eqb-true, ne-eqb}
 use lib.Dec.{eqb}
@@ -11,21 +11,23 @@ use lib.ListN.{length, getD, drop}
 use Rattle.model.specs.Basic.{orElse}
 use Rattle.model.specs.Composition.{Tree, leaf}
 use Rattle.model.specs.Limits.{listsFilled, treeInRange}
-use Rattle.model.specs.Lines.{Entry, Key, actions, actionsLine, automata, automataLine, compose, composeLine, edge, edgeLine, edges, edgesLine, format, formatLine, init, initLine, inv, invLine, keyOf, locations, locationsLine, sync, syncLine, variable, variableLine, variables, variablesLine}
+use Rattle.model.specs.Lines.{Entry, Key, atFirst, lines, actions, actionsLine, automata, automataLine, compose, composeLine, edge, edgeLine, edges, edgesLine, format, formatLine, init, initLine, inv, invLine, keyOf, locations, locationsLine, sync, syncLine, variable, variableLine, variables, variablesLine}
+use Rattle.model.specs.Model.{Model}
 use Rattle.model.specs.Parse.{readPred, readTree}
 use Rattle.model.specs.Predicate as P
 use Rattle.model.specs.Predicate.{Pred, all, range}
+use Rattle.model.proofs.LinesLaws.{along, along-lines}
 use Rattle.format.specs.Bytes.{Bytes, LF, comma, joined, ledBy, parts}
 use Rattle.format.specs.Number.{naturalOf, decimal, integerOf, signed}
 use Rattle.format.specs.Reader.{linesOf, ontoLine}
 use Rattle.format.specs.Rows.{Line, entry, field, fields, is, listItems, place, predOf, predTokens, wordsIn, syncList, thePred, theRange, theTree, treeTokens, startsOf, theStarts, nodesIn, treeOf, valueOf}
-use Rattle.format.specs.Spelling.{lineText, spelling, textOfList, textOfPred, textOfTree, valueText}
+use Rattle.format.specs.Spelling.{entryText, lineText, listBehind, listText, spelling, writesKey, textOfList, textOfPred, textOfTree, valueText}
 use Rattle.format.specs.Tokens.{readWords, tokens}
 use Rattle.format.proofs.BytesLaws.{Each, Free, parts-free, parts-joined}
-use Rattle.format.proofs.LineLaws.{lineOf}
+use Rattle.format.proofs.LineLaws.{lineOf, writesLine}
 use Rattle.format.proofs.NumberLaws.{leading}
 use Rattle.format.proofs.PredText.{text-read}
-use Rattle.format.proofs.Spans.{Span, decimal-free, line-span, pred-free, signed-free}
+use Rattle.format.proofs.Spans.{Span, decimal-free, line-span, pred-free, signed-free, writes-span}
 use Rattle.format.proofs.TokenLaws.{count-decimal, integer-signed}
 use Rattle.format.proofs.TreeRead.{counts-back, list-parts, tree-read}
 use Rattle.format.proofs.TreeText.{readComposed}
@@ -44,13 +46,39 @@ unfolding ontoLine
 lines-seam [] t h = lines-at t
 lines-seam (b ∷ s) t h = let l = h .0 in lines-on b (s ++ LF ∷ t) (λ e. omega arith) ∙ ap (ontoLine b) (lines-seam s t (h .1))
 
-pub lines-all : (es : List Entry) → linesOf (flatMap lineText es) ≡ map lineOf es
-unfolding flatMap lineText
-lines-all [] = unfold linesOf in refl
-lines-all (e ∷ es) =
-    ap linesOf (append-assoc (spelling (keyOf e)) (valueText e ++ LF ∷ []) (flatMap lineText es) ∙ ap (λ l. spelling (keyOf e) ++ l) (append-assoc (valueText e) (LF ∷ []) (flatMap lineText es)) ∙ sym (append-assoc (spelling (keyOf e)) (valueText e) (LF ∷ flatMap lineText es))) ∙
-    lines-seam (spelling (keyOf e) ++ valueText e) (flatMap lineText es) (line-span e) ∙
-    ap (λ l. lineOf e ∷ l) (lines-all es)
+-- a key, a value and LF are a line
+line-first : (k v t : Bytes) → Span 32 126 (k ++ v) → linesOf ((k ++ (v ++ LF ∷ [])) ++ t) ≡ record { bytes = k ++ v; ended = true } ∷ linesOf t
+line-first k v t h =
+    ap linesOf (append-assoc k (v ++ LF ∷ []) t ∙ ap (λ l. k ++ l) (append-assoc v (LF ∷ []) t) ∙ sym (append-assoc k v (LF ∷ t))) ∙
+    lines-seam (k ++ v) t h
+
+-- an entry's line, and that of the list behind it
+abbrev pub listLines : Option (List ℕ) → List Line
+listLines none = []
+listLines (some list) = writesLine list ∷ []
+
+abbrev pub linesFor : (format : ℕ) → Entry → List Line
+linesFor f e = lineOf e ∷ listLines (listBehind f e)
+
+list-first-line : (o : Option (List ℕ)) (t : Bytes) → linesOf (listText o ++ t) ≡ listLines o ++ linesOf t
+unfolding listText
+list-first-line none t = refl
+list-first-line (some list) t = line-first writesKey (textOfList list) t (writes-span list)
+
+pub lines-all : (f : ℕ) (es : List Entry) → linesOf (flatMap (entryText f) es) ≡ flatMap (linesFor f) es
+unfolding flatMap entryText lineText
+lines-all f [] = unfold linesOf in refl
+lines-all f (e ∷ es) =
+    let list = listText (listBehind f e) in
+    let later = flatMap (entryText f) es in
+    ap linesOf (append-assoc (lineText e) list later) ∙
+    line-first (spelling (keyOf e)) (valueText e) (list ++ later) (line-span e) ∙
+    ap (λ l. lineOf e ∷ l) (list-first-line (listBehind f e) later ∙ ap (λ l. listLines (listBehind f e) ++ l) (lines-all f es))
+
+-- the lines of a model's text, by the format that has been read
+pub lines-along : (m : Model) → along linesFor atFirst (lines m) ≡ flatMap (linesFor (m .format)) (lines m)
+unfolding listBehind
+lines-along m = along-lines linesFor (λ f h n. refl) m
 
 -- and the lines of a text make it up again
 abbrev feed : Bool → Bytes

@@ -31,13 +31,13 @@ use Rattle.format.proofs.Spans.{Span, decimal-free, line-span, pred-fre
 use Rattle.format.proofs.TokenLaws.{count-decimal, integer-signed, within-signed}
 
 -- its bytes are printable
-print-every : (s : Bytes) → Span 32 126 s → every printable s ≡ true
+pub print-every : (s : Bytes) → Span 32 126 s → every printable s ≡ true
 unfolding every printable
 print-every [] h = refl
 print-every (b ∷ s) h = and-intro (and-intro (le-leb 32 b (h .0 .0)) (le-leb b 126 (h .0 .1))) (print-every s (h .1))
 
 -- it begins with its key
-begins-self : (s v : Bytes) → begins s (s ++ v) ≡ true
+pub begins-self : (s v : Bytes) → begins s (s ++ v) ≡ true
 unfolding begins
 begins-self [] v = refl
 begins-self (b ∷ s) v = rw (eq-eqb b b refl, begins) (begins-self s v)
@@ -75,10 +75,10 @@ within-nat lo hi n = within-signed (pos lo) (pos hi) (pos n)
 pub within-zero : (hi n : ℕ) → within (pos 0) (pos hi) (decimal n) ≡ leb n hi
 within-zero hi n = within-nat 0 hi n ∙ rw (le-leb 0 n (omega arith))
 
-pub every-decimal : (l : List ℕ) → every (within (pos 0) (pos maxActions)) (map decimal l) ≡ every (λ k. leb k maxActions) l
+pub every-decimal : (top : ℕ) (l : List ℕ) → every (within (pos 0) (pos top)) (map decimal l) ≡ every (λ k. leb k top) l
 unfolding every
-every-decimal [] = refl
-every-decimal (k ∷ ks) = and-same (within-zero maxActions k) (every-decimal ks)
+every-decimal top [] = refl
+every-decimal top (k ∷ ks) = and-same (within-zero top k) (every-decimal top ks)
 
 -- a line that is one number breaks row 3 or none
 one-number : (r : Reading) (e : Entry) (b : Bool) → fault r (keyOf e) (lineOf e) ≡ broken 2 (row2 (keyOf e) (lineOf e)) (broken 3 (row3 (keyOf e) (lineOf e)) none) → row3 (keyOf e) (lineOf e) ≡ b → fault r (keyOf e) (lineOf e) ≡ broken 3 b none
@@ -196,7 +196,7 @@ module _ (r : Reading) where
   sync-fault l =
       not-broken 2 (row2 sync (lineOf (syncLine l))) _ (row2-of (syncLine l)) ∙
       ap (λ (v : Bytes). broken 3 (not (every (within (pos 0) (pos maxActions)) (listItems v))) (broken 5 (not (rises (r .model .actions) 0 (map naturalOf (listItems v))) || false) none)) (dropped (spelling sync) (textOfList l)) ∙
-      rw (list-back l, items-back l, every-decimal l, or-false (not (rises (r .model .actions) 0 l)))
+      rw (list-back l, items-back l, every-decimal maxActions l, or-false (not (rises (r .model .actions) 0 l)))
 
   edge-tokens : (e : Edge) → predTokens edge (lineOf (edgeLine e)) ≡ tokens (textOfPred (e .update))
   unfolding predTokens is place field fields valueOf valueText keyOf

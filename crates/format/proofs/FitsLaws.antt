@@ -1,18 +1,19 @@
 -- The text of a model within the limits has at most 65,536 bytes: the longest numbers, lists and trees leave room to spare.
 use Prim.Native.Nat.{ℕ, zero, suc, _+_, _-_, _*_, _/_, _%_, _^_, _≤_, _<_}
-use mathlib.Core.Path.{_≡_, refl, sym, ap, _∙_}
-use mathlib.Core.Bool.{Bool, true, false, _&&_, true≢false, and-eq-true-iff}
+use mathlib.Core.Path.{_≡_, refl, sym, ap, subst, _∙_}
+use mathlib.Core.Bool.{Bool, true, false, _&&_, _||_, true≢false, and-eq-true-iff}
 use mathlib.Core.List.{List, [], _∷_, _++_, map, flatMap, List·Memᴰ, List·Memᴰ·head, List·Memᴰ·tail}
+use mathlib.Core.Option.{none, some}
 use mathlib.Core.Logic.{⊎-elim}
 use native.Mathlib.Omega.{arith}
-use borrow.Author.Tests.{lt-ltb, ltb-true, leb-true}
+use borrow.Author.Tests.{lt-ltb, ltb-true, leb-true, eqb-true, eqb-false}
 use lib.ListN.{length, length-append}
 use lib.IntN.{ℤ, pos, negsuc}
-use lib.Dec.{leb, ltb}
-use Rattle.model.specs.Basic.{between, every, sum, countUp}
-use Rattle.model.specs.Bounds.{maxActions, maxAutomata, maxLocations, maxEdges, maxOperands, maxBytes, leastNumber, greatestNumber}
+use lib.Dec.{leb, ltb, eqb}
+use Rattle.model.specs.Basic.{between, every, exists, keep, sum, countUp}
+use Rattle.model.specs.Bounds.{maxActions, maxAutomata, maxLocations, maxEdges, maxOperands, maxVariables, maxBytes, writesFormat, leastNumber, greatestNumber}
 use Rattle.model.specs.Predicate as P
-use Rattle.model.specs.Predicate.{Pred, all, any, negate, imp, eq, le, Preds, more, operands, Expr, num, old, new, add, sub, mul, choose, Range, Word, words, wordsAll, wordsOf, nodeCount}
+use Rattle.model.specs.Predicate.{Pred, all, any, negate, imp, eq, le, Preds, more, operands, Expr, num, old, new, add, sub, mul, choose, Range, Word, words, wordsAll, wordsOf, nodeCount, Named, nothing, theOld, theNew, named, isNew, isNewOf, mentions, written}
 use Rattle.model.specs.Composition.{Tree, par, syn, ini, leaf, leaves, starts, startNodes, nodes, treeSize}
 use Rattle.model.specs.Model.{Location, Edge, Automaton, Model, edgeTotal}
 use Rattle.model.specs.Lines.{Entry, formatLine, actionsLine, variablesLine, variableLine, automataLine, syncLine, locationsLine, initLine, invLine, edgesLine, edgeLine, composeLine, keyOf, locationLines, automatonLines, lines}
@@ -20,10 +21,10 @@ use Rattle.model.specs.Limits.{inRange, rises, treeRises, treeInRange}
 use Rattle.model.specs.Lawful.{locationNodes, automatonNodes, nodeTotal, LawfulRange, LawfulLocation, LawfulEdge, LawfulAutomaton, LawfulTree, Lawful}
 use Rattle.model.proofs.LimitLines.{tree-ranged}
 use Rattle.model.proofs.Tests.{every-append}
-use Rattle.model.proofs.Lists.{flat-append}
+use Rattle.model.proofs.Lists.{flat-append, keep-append, keep-first, keep-skip, keep-empty, keep-length}
 use Rattle.format.specs.Bytes.{LF, Bytes, bytes, ledBy, joined, space, comma, '0}
 use Rattle.format.specs.Number.{decimalIn, decimal, signed}
-use Rattle.format.specs.Spelling.{spelling, valueText, lineText, textOf, spelled, textOfPred, textOfList, spelledNode, textOfTree}
+use Rattle.format.specs.Spelling.{spelling, valueText, lineText, writesKey, listBehind, listText, entryText, textOf, spelled, textOfPred, textOfList, spelledNode, textOfTree}
 use Rattle.format.proofs.NumberLaws.{split}
 
 -- a number below 10 ^ (d + 1) takes at most d + 1 digits
@@ -71,8 +72,18 @@ size-append (s ∷ a) b = let ih = size-append a b in omega arith
 
 -- Predicates. An expression may take more than 39 bytes for four nodes, as a number does; but two expressions need a
 -- predicate's word, which takes less. So what is over at an expression is owed by a predicate.
+-- A word `nK` is spelled once more in the list behind an edge: that costs 3 bytes, which its own word has left.
+abbrev isNewWord : Word → Bool
+isNewWord w = isNew (named w)
+
+abbrev news : List Word → ℕ
+news ws = length (keep isNewWord ws)
+
+news-append : (a b : List Word) → news (a ++ b) ≡ news a + news b
+news-append a b = ap (length {A = Word}) (keep-append isNewWord a b) ∙ length-append (keep isNewWord a) (keep isNewWord b)
+
 abbrev cost : List Word → ℕ
-cost ws = size (flatMap spelled ws)
+cost ws = size (flatMap spelled ws) + 3 * news ws
 
 record Parts (a b : List Word) : Type 0 where
   first : every inRange a ≡ true
@@ -83,7 +94,8 @@ record Parts (a b : List Word) : Type 0 where
 parts : (a b : List Word) → every inRange (a ++ b) ≡ true → Parts a b
 parts a b h =
     let g = simp (every-append inRange a b, and-eq-true-iff) at h in
-    record { first = g .0; second = g .1; bytes = ap size (flat-append spelled a b) ∙ size-append (flatMap spelled a) (flatMap spelled b); nodes = length-append a b }
+    let e = ap size (flat-append spelled a b) ∙ size-append (flatMap spelled a) (flatMap spelled b) in
+    record { first = g .0; second = g .1; bytes = omega (arith, e, news-append a b); nodes = length-append a b }
 
 -- the K of `all` and `any` takes three digits only where there are operands
 count-width : (k : ℕ) → k ≤ maxOperands → 4 * length (decimal k) ≤ 10 + 9 * k
@@ -91,7 +103,7 @@ count-width zero l = let d = decimal-width 0 0 (omega arith) in omega arith
 count-width (suc k) l = let d = decimal-width 2 (suc k) (omega arith) in omega arith
 
 mutual
-  unfolding words wordsAll wordsOf every inRange flatMap spelled operands
+  unfolding words wordsAll wordsOf every inRange flatMap spelled operands keep isNew named
 
   pred-cost : (p : Pred) → every inRange (words p) ≡ true → 4 * cost (words p) + 9 ≤ 39 * length (words p)
   pred-cost (all ps) h =
@@ -121,9 +133,79 @@ mutual
       let k = parts (wordsOf x) (wordsOf y) (g .second) in
       omega (arith, g .bytes, g .nodes, k .bytes, k .nodes, pred-cost p (g .first), expr-cost x (k .first), expr-cost y (k .second))
 
-pred-size : (p : Pred) → every inRange (words p) ≡ true → 4 * length (textOfPred p) + 13 ≤ 39 * nodeCount p
+pred-size : (p : Pred) → every inRange (words p) ≡ true → 4 * length (textOfPred p) + 12 * news (words p) + 13 ≤ 39 * nodeCount p
 unfolding textOfPred nodeCount
-pred-size p h = omega (arith, pred-cost p h, size-joined space (flatMap spelled (words p)))
+pred-size p h =
+    let c = pred-cost p h in
+    let node : 1 ≤ length (words p) = omega (arith, c) in
+    omega (arith, c, node, size-joined space (flatMap spelled (words p)), keep-length isNewWord (words p))
+
+-- The list behind an edge: no more variables than words `nK`, each with at most two digits and a comma.
+abbrev onto : {A : Type 0} → Bool → A → List A → List A
+onto b x l = elim b [ true ↦ x ∷ l | false ↦ l ]
+
+either-kept : {A : Type 0} (f g : A → Bool) (l : List A) → length (keep (λ x. f x || g x) l) ≤ length (keep f l) + length (keep g l)
+unfolding keep
+either-kept f g [] = omega arith
+either-kept {A} f g (x ∷ l) = go (f x) (g x) (either-kept f g l)
+  where
+    go : (b c : Bool) → length (keep (λ y. f y || g y) l) ≤ length (keep f l) + length (keep g l) → length (onto (b || c) x (keep (λ y. f y || g y) l)) ≤ length (onto b x (keep f l)) + length (onto c x (keep g l))
+    go true true h = omega arith
+    go true false h = omega arith
+    go false true h = omega arith
+    go false false h = omega arith
+
+-- of numbers counted up, at most one is j, and none from past it on
+one-counted : (j n count : ℕ) → length (keep (λ k. eqb k j) (countUp n count)) ≤ 1 - (n - j)
+unfolding keep countUp
+one-counted j n zero = omega arith
+one-counted j n (suc count) = go (eqb n j) refl (one-counted j (suc n) count)
+  where
+    go : (b : Bool) → eqb n j ≡ b → length (keep (λ k. eqb k j) (countUp (suc n) count)) ≤ 1 - (suc n - j) → length (onto b n (keep (λ k. eqb k j) (countUp (suc n) count))) ≤ 1 - (n - j)
+    go true e h = let i = eqb-true n j e in omega arith
+    go false e h = let i = eqb-false n j e in omega arith
+
+abbrev names : List Word → ℕ → Bool
+names ws k = exists (λ w. isNewOf k (named w)) ws
+
+few-written : (n count : ℕ) (ws : List Word) → length (keep (names ws) (countUp n count)) ≤ news ws
+unfolding exists isNewOf isNew
+few-written n count [] = rw (keep-empty (λ k. false) (countUp n count) (λ k i. refl)) (omega arith)
+few-written n count (w ∷ ws) = go (named w) refl (few-written n count ws)
+  where
+    by-name : (x : Named) → named w ≡ x → (most : ℕ) → length (keep (λ k. isNewOf k x || names ws k) (countUp n count)) ≤ most → length (keep (names (w ∷ ws)) (countUp n count)) ≤ most
+    by-name x e most h = subst (λ (y : Named). length (keep (λ k. isNewOf k y || names ws k) (countUp n count)) ≤ most) (sym e) h
+
+    go : (x : Named) → named w ≡ x → length (keep (names ws) (countUp n count)) ≤ news ws → length (keep (names (w ∷ ws)) (countUp n count)) ≤ news (w ∷ ws)
+    go nothing e h = rw (keep-skip isNewWord w ws (ap isNew e)) (by-name nothing e (news ws) h)
+    go (theOld j) e h = rw (keep-skip isNewWord w ws (ap isNew e)) (by-name (theOld j) e (news ws) h)
+    go (theNew j) e h =
+        let b = either-kept (λ k. eqb k j) (names ws) (countUp n count) in
+        rw (keep-first isNewWord w ws (ap isNew e)) (by-name (theNew j) e (suc (news ws)) (omega (arith, b, one-counted j n count, h)))
+
+short-numbers : (f : ℕ → Bool) (n count : ℕ) → n + count ≤ 100 → size (map decimal (keep f (countUp n count))) ≤ 3 * length (keep f (countUp n count))
+unfolding keep countUp
+short-numbers f n zero h = omega arith
+short-numbers f n (suc count) h = go (f n) (short-numbers f (suc n) count (omega arith))
+  where
+    go : (b : Bool) → size (map decimal (keep f (countUp (suc n) count))) ≤ 3 * length (keep f (countUp (suc n) count))
+        → size (map decimal (onto b n (keep f (countUp (suc n) count)))) ≤ 3 * length (onto b n (keep f (countUp (suc n) count)))
+    go true i = let d = decimal-width 1 n (omega arith) in omega arith
+    go false i = i
+
+writes-size : (f : ℕ) (e : Edge) → length (listText (listBehind f (edgeLine e))) ≤ 8 + 3 * news (words (e .update))
+unfolding listBehind listText writesKey textOfList written mentions
+writes-size f e = go (leb writesFormat f)
+  where
+    go : (b : Bool) → length (listText (elim b [ true ↦ some (written (e .update)) | false ↦ none ])) ≤ 8 + 3 * news (words (e .update))
+    go true =
+        let list = written (e .update) in
+        let j = size-joined comma (map decimal list) in
+        let l = length-append (textOfList list) (LF ∷ []) in
+        let k = few-written 0 maxVariables (words (e .update)) in
+        let s = short-numbers (λ k. mentions k (e .update)) 0 maxVariables (omega arith) in
+        omega arith
+    go false = omega arith
 
 -- a list that rises to A takes at most 2 bytes for each number up to 9, and 3 for each from 10 on
 digits : (k : ℕ) → k ≤ maxActions → (length (decimal k) ≤ 2) × (length (decimal k) ≤ 1 + (k - 9))
@@ -189,108 +271,112 @@ tree-size A N c a n h s =
     let w = nodes-size A c a (h .lists) (tree-ranged A N c a n h s) in
     omega (arith, w, size-joined space (flatMap spelledNode (nodes c)), ap (length {A = ℕ}) (h .in-order), count-length 0 N)
 
--- a line: its key, its value and LF
-line-size : (e : Entry) → length (lineText e) ≡ suc (length (spelling (keyOf e)) + length (valueText e))
-unfolding lineText
-line-size e =
-    let p = length-append (spelling (keyOf e)) (valueText e ++ LF ∷ []) in
-    let q = length-append (valueText e) (LF ∷ []) in
-    omega arith
-
-abbrev total : List Entry → ℕ
-total [] = 0
-total (e ∷ es) = length (lineText e) + total es
-
-total-is : (es : List Entry) → length (flatMap lineText es) ≡ total es
-unfolding flatMap
-total-is [] = refl
-total-is (e ∷ es) = let ih = total-is es in let p = length-append (lineText e) (flatMap lineText es) in omega arith
-
-total-append : (a b : List Entry) → total (a ++ b) ≡ total a + total b
-total-append [] b = omega arith
-total-append (e ∷ a) b = let ih = total-append a b in omega arith
-
--- the lines of some variables, locations and edges
-variables-total : (xs : List Range) → ((x : Range) → List·Memᴰ x xs → LawfulRange x) → total (map variableLine xs) ≤ (11 + 2 * longestNumber) * length xs
-unfolding valueText keyOf spelling
-variables-total [] h = omega arith
-variables-total (x ∷ xs) h =
-    let r = h x (List·Memᴰ·head refl) in
-    let e = line-size (variableLine x) in
-    let j = size-joined comma (signed (x .low) ∷ signed (x .high) ∷ []) in
-    let p = signed-width (x .low) (r .low) in
-    let q = signed-width (x .high) (r .high) in
-    let ih = variables-total xs (λ y m. h y (List·Memᴰ·tail m)) in
-    omega arith
-
-module _ (vs : List Range) where
-  locations-total : (xs : List Location) → ((l : Location) → List·Memᴰ l xs → LawfulLocation vs l) → 4 * total (flatMap locationLines xs) ≤ 18 * length xs + 39 * sum (map locationNodes xs)
-  unfolding valueText keyOf spelling flatMap locationLines sum locationNodes
-  locations-total [] h = omega arith
-  locations-total (x ∷ xs) h =
-      let l = h x (List·Memᴰ·head refl) in
-      let e = line-size (initLine (x .init)) in
-      let f = line-size (invLine (x .inv)) in
-      let p = pred-size (x .init) (l .init .ranged) in
-      let q = pred-size (x .inv) (l .inv .ranged) in
-      let ih = locations-total xs (λ y m. h y (List·Memᴰ·tail m)) in
+-- an entry: its line, which is its key, its value and LF; and its list
+module _ (f : ℕ) where
+  entry-size : (e : Entry) → length (entryText f e) ≡ suc (length (spelling (keyOf e)) + length (valueText e)) + length (listText (listBehind f e))
+  unfolding entryText lineText
+  entry-size e =
+      let p = length-append (spelling (keyOf e)) (valueText e ++ LF ∷ []) in
+      let q = length-append (valueText e) (LF ∷ []) in
+      let r = length-append (lineText e) (listText (listBehind f e)) in
       omega arith
 
-  edges-total : (A L : ℕ) → A ≤ maxActions → L ≤ maxLocations → (xs : List Edge) → ((e : Edge) → List·Memᴰ e xs → LawfulEdge vs A L e) → 4 * total (map edgeLine xs) ≤ 47 * length xs + 39 * sum (map (λ e. nodeCount (e .update)) xs)
-  unfolding valueText keyOf spelling sum
-  edges-total A L a l [] h = omega arith
-  edges-total A L a l (x ∷ xs) h =
-      let g = h x (List·Memᴰ·head refl) in
-      let e = line-size (edgeLine x) in
-      let j = size-joined comma (decimal (x .from) ∷ decimal (x .action) ∷ decimal (x .to) ∷ textOfPred (x .update) ∷ []) in
-      let p = pred-size (x .update) (g .update .ranged) in
-      let d₁ = decimal-width 1 (x .from) (omega arith) in
-      let d₂ = decimal-width 1 (x .action) (omega arith) in
-      let d₃ = decimal-width 1 (x .to) (omega arith) in
-      let ih = edges-total A L a l xs (λ y m. h y (List·Memᴰ·tail m)) in
+  abbrev total : List Entry → ℕ
+  total [] = 0
+  total (e ∷ es) = length (entryText f e) + total es
+
+  total-is : (es : List Entry) → length (flatMap (entryText f) es) ≡ total es
+  unfolding flatMap
+  total-is [] = refl
+  total-is (e ∷ es) = let ih = total-is es in let p = length-append (entryText f e) (flatMap (entryText f) es) in omega arith
+
+  total-append : (a b : List Entry) → total (a ++ b) ≡ total a + total b
+  total-append [] b = omega arith
+  total-append (e ∷ a) b = let ih = total-append a b in omega arith
+
+  -- the lines of some variables, locations and edges
+  variables-total : (xs : List Range) → ((x : Range) → List·Memᴰ x xs → LawfulRange x) → total (map variableLine xs) ≤ (11 + 2 * longestNumber) * length xs
+  unfolding valueText keyOf spelling listBehind listText
+  variables-total [] h = omega arith
+  variables-total (x ∷ xs) h =
+      let r = h x (List·Memᴰ·head refl) in
+      let e = entry-size (variableLine x) in
+      let j = size-joined comma (signed (x .low) ∷ signed (x .high) ∷ []) in
+      let p = signed-width (x .low) (r .low) in
+      let q = signed-width (x .high) (r .high) in
+      let ih = variables-total xs (λ y m. h y (List·Memᴰ·tail m)) in
       omega arith
 
-  automaton-total : (A : ℕ) → A ≤ maxActions → (x : Automaton) → LawfulAutomaton vs A x → length (x .edges) ≤ maxEdges → 4 * total (automatonLines x) ≤ 1408 + 47 * length (x .edges) + 39 * automatonNodes x
-  unfolding valueText keyOf spelling automatonLines automatonNodes
-  automaton-total A a x h n =
-      let e₁ = line-size (syncLine (x .sync)) in
-      let l = list-size A (x .sync) a (h .sync) in
-      let e₂ = line-size (locationsLine (length (x .locations))) in
-      let d₂ = decimal-width 1 (length (x .locations)) (omega arith) in
-      let e₃ = line-size (edgesLine (length (x .edges))) in
-      let d₃ = decimal-width 2 (length (x .edges)) (omega arith) in
-      let p = locations-total (x .locations) (h .locations) in
-      let q = edges-total A (length (x .locations)) a (h .few-locations) (x .edges) (h .edges) in
-      let j = total-append (flatMap locationLines (x .locations)) (edgesLine (length (x .edges)) ∷ map edgeLine (x .edges)) in
-      omega arith
+  module _ (vs : List Range) where
+    locations-total : (xs : List Location) → ((l : Location) → List·Memᴰ l xs → LawfulLocation vs l) → 4 * total (flatMap locationLines xs) ≤ 18 * length xs + 39 * sum (map locationNodes xs)
+    unfolding valueText keyOf spelling flatMap locationLines sum locationNodes listBehind listText
+    locations-total [] h = omega arith
+    locations-total (x ∷ xs) h =
+        let l = h x (List·Memᴰ·head refl) in
+        let e₁ = entry-size (initLine (x .init)) in
+        let e₂ = entry-size (invLine (x .inv)) in
+        let p = pred-size (x .init) (l .init .ranged) in
+        let q = pred-size (x .inv) (l .inv .ranged) in
+        let ih = locations-total xs (λ y m. h y (List·Memᴰ·tail m)) in
+        omega arith
 
-  automata-total : (A : ℕ) → A ≤ maxActions → (xs : List Automaton) → ((x : Automaton) → List·Memᴰ x xs → LawfulAutomaton vs A x) → edgeTotal xs ≤ maxEdges → 4 * total (flatMap automatonLines xs) ≤ 1408 * length xs + 47 * edgeTotal xs + 39 * nodeTotal xs
-  unfolding flatMap edgeTotal nodeTotal sum
-  automata-total A a [] h n = omega arith
-  automata-total A a (x ∷ xs) h n =
-      let p = automaton-total A a x (h x (List·Memᴰ·head refl)) (omega arith) in
-      let ih = automata-total A a xs (λ y m. h y (List·Memᴰ·tail m)) (omega arith) in
-      let j = total-append (automatonLines x) (flatMap automatonLines xs) in
-      omega arith
+    edges-total : (A L : ℕ) → A ≤ maxActions → L ≤ maxLocations → (xs : List Edge) → ((e : Edge) → List·Memᴰ e xs → LawfulEdge vs A L e) → 4 * total (map edgeLine xs) ≤ 79 * length xs + 39 * sum (map (λ e. nodeCount (e .update)) xs)
+    unfolding valueText keyOf spelling sum
+    edges-total A L a l [] h = omega arith
+    edges-total A L a l (x ∷ xs) h =
+        let g = h x (List·Memᴰ·head refl) in
+        let e = entry-size (edgeLine x) in
+        let j = size-joined comma (decimal (x .from) ∷ decimal (x .action) ∷ decimal (x .to) ∷ textOfPred (x .update) ∷ []) in
+        let p = pred-size (x .update) (g .update .ranged) in
+        let w = writes-size f x in
+        let d₁ = decimal-width 1 (x .from) (omega arith) in
+        let d₂ = decimal-width 1 (x .action) (omega arith) in
+        let d₃ = decimal-width 1 (x .to) (omega arith) in
+        let ih = edges-total A L a l xs (λ y m. h y (List·Memᴰ·tail m)) in
+        omega arith
 
-text-size : (m : Model) → Lawful m → length (textOf m) ≤ 59538
-unfolding textOf lines valueText keyOf spelling
+    automaton-total : (A : ℕ) → A ≤ maxActions → (x : Automaton) → LawfulAutomaton vs A x → length (x .edges) ≤ maxEdges → 4 * total (automatonLines x) ≤ 1408 + 79 * length (x .edges) + 39 * automatonNodes x
+    unfolding valueText keyOf spelling automatonLines automatonNodes listBehind listText
+    automaton-total A a x h n =
+        let e₁ = entry-size (syncLine (x .sync)) in
+        let l = list-size A (x .sync) a (h .sync) in
+        let e₂ = entry-size (locationsLine (length (x .locations))) in
+        let d₂ = decimal-width 1 (length (x .locations)) (omega arith) in
+        let e₃ = entry-size (edgesLine (length (x .edges))) in
+        let d₃ = decimal-width 2 (length (x .edges)) (omega arith) in
+        let p = locations-total (x .locations) (h .locations) in
+        let q = edges-total A (length (x .locations)) a (h .few-locations) (x .edges) (h .edges) in
+        let j = total-append (flatMap locationLines (x .locations)) (edgesLine (length (x .edges)) ∷ map edgeLine (x .edges)) in
+        omega arith
+
+    automata-total : (A : ℕ) → A ≤ maxActions → (xs : List Automaton) → ((x : Automaton) → List·Memᴰ x xs → LawfulAutomaton vs A x) → edgeTotal xs ≤ maxEdges → 4 * total (flatMap automatonLines xs) ≤ 1408 * length xs + 79 * edgeTotal xs + 39 * nodeTotal xs
+    unfolding flatMap edgeTotal nodeTotal sum
+    automata-total A a [] h n = omega arith
+    automata-total A a (x ∷ xs) h n =
+        let p = automaton-total A a x (h x (List·Memᴰ·head refl)) (omega arith) in
+        let ih = automata-total A a xs (λ y m. h y (List·Memᴰ·tail m)) (omega arith) in
+        let j = total-append (automatonLines x) (flatMap automatonLines xs) in
+        omega arith
+
+text-size : (m : Model) → Lawful m → length (textOf m) ≤ 63634
+unfolding textOf lines valueText keyOf spelling listBehind listText
 text-size m h =
-    let e₁ = line-size (formatLine (m .format)) in
+    let f = m .format in
+    let e₁ = entry-size f (formatLine (m .format)) in
     let d₁ = decimal-width 0 (m .format) (omega arith) in
-    let e₂ = line-size (actionsLine (m .actions)) in
+    let e₂ = entry-size f (actionsLine (m .actions)) in
     let d₂ = decimal-width 1 (m .actions) (omega arith) in
-    let e₃ = line-size (variablesLine (length (m .variables))) in
+    let e₃ = entry-size f (variablesLine (length (m .variables))) in
     let d₃ = decimal-width 1 (length (m .variables)) (omega arith) in
-    let e₄ = line-size (automataLine (length (m .automata))) in
+    let e₄ = entry-size f (automataLine (length (m .automata))) in
     let d₄ = decimal-width 1 (length (m .automata)) (omega arith) in
-    let e₅ = line-size (composeLine (m .tree)) in
+    let e₅ = entry-size f (composeLine (m .tree)) in
     let d₅ = tree-size (m .actions) (length (m .automata)) (m .tree) (h .few-actions) (h .few-automata) (h .tree) (λ p i. h .starts p i .pred .ranged) in
-    let p = variables-total (m .variables) (h .ranges) in
-    let q = automata-total (m .variables) (m .actions) (h .few-actions) (m .automata) (h .automata) (h .few-edges) in
-    let j = total-append (map variableLine (m .variables)) (automataLine (length (m .automata)) ∷ (flatMap automatonLines (m .automata) ++ (composeLine (m .tree) ∷ []))) in
-    let k = total-append (flatMap automatonLines (m .automata)) (composeLine (m .tree) ∷ []) in
-    let i = total-is (lines m) in
+    let p = variables-total f (m .variables) (h .ranges) in
+    let q = automata-total f (m .variables) (m .actions) (h .few-actions) (m .automata) (h .automata) (h .few-edges) in
+    let j = total-append f (map variableLine (m .variables)) (automataLine (length (m .automata)) ∷ (flatMap automatonLines (m .automata) ++ (composeLine (m .tree) ∷ []))) in
+    let k = total-append f (flatMap automatonLines (m .automata)) (composeLine (m .tree) ∷ []) in
+    let i = total-is f (lines m) in
     omega arith
 
 pub text-fits : (m : Model) → Lawful m → length (textOf m) ≤ maxBytes

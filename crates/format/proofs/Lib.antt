@@ -11,6 +11,7 @@ pub mod TreeRead
 pub mod EntryLines
 pub mod FaultLaws
 pub mod TreeFaults
+pub mod WritesLaws
 pub mod Exact
 pub mod Smallest
 pub mod Refusals

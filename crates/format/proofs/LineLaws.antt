@@ -22,7 +22,7 @@ use Rattle.model.proofs.Decode.{unbroken}
 use Rattle.format.specs.Bytes.{Bytes, begins, comma, joined, ledBy, parts}
 use Rattle.format.specs.Number.{naturalOf, decimal, integerOf, signed, within}
 use Rattle.format.specs.Rows.{Line, entry, fault, field, fieldCount, fields, hasPred, is, listItems, numbersSound, place, predOf, predTokens, wordsIn, printable, row10, row11, row12, row13, row2, row3, row4, row5, row6, row7, row8, row9, syncList, thePred, theRange, theTree, treeTokens, startsOf, theStarts, nodesIn, treeOf, valueOf}
-use Rattle.format.specs.Spelling.{spelling, textOfList, textOfPred, textOfTree, valueText}
+use Rattle.format.specs.Spelling.{spelling, writesKey, textOfList, textOfPred, textOfTree, valueText}
 use Rattle.format.specs.Tokens.{readWords, sounds, tokens}
 use Rattle.format.proofs.BytesLaws.{joined-parts}
 use Rattle.format.proofs.NumberLaws.{false-true}
@@ -56,7 +56,7 @@ faultless r k l h =
     record { f2 = b2 .0; f3 = b3 .0; f6 = b6 .0; f13 = b13 .0 }
 
 -- what row 2 asks
-neither : (a b : Bool) → a || b ≡ false → (a ≡ false) × (b ≡ false)
+pub neither : (a b : Bool) → a || b ≡ false → (a ≡ false) × (b ≡ false)
 neither true b h = absurd (false-true (sym h))
 neither false b h = (refl, h)
 
@@ -73,7 +73,7 @@ formed k l h =
     let c = neither (not (every printable (l .bytes))) _ (b .1) in
     record { starts = not-false _ (a .0); counts = eqb-true _ _ (not-false _ (b .0)); ended = not-false _ (c .1) }
 
-begins-inv : (s t : Bytes) → begins s t ≡ true → t ≡ s ++ drop (length s) t
+pub begins-inv : (s t : Bytes) → begins s t ≡ true → t ≡ s ++ drop (length s) t
 unfolding begins
 begins-inv [] t h = refl
 begins-inv (a ∷ s) [] h = absurd (false-true h)
@@ -119,10 +119,10 @@ count-value lo hi s h = let i = within-inv (pos lo) (pos hi) s h in go (i .0) (i
 signed-value : (lo hi : ℤ) (s : Bytes) → within lo hi s ≡ true → s ≡ signed (integerOf s)
 signed-value lo hi s h = let i = within-inv lo hi s h in i .1 ∙ ap signed (sym (ap integerOf (i .1) ∙ integer-signed (i .0)))
 
-list-text : (v : Bytes) → every (within (pos 0) (pos maxActions)) (listItems v) ≡ true → v ≡ textOfList (map naturalOf (listItems v))
+pub list-text : (top : ℕ) (v : Bytes) → every (within (pos 0) (pos top)) (listItems v) ≡ true → v ≡ textOfList (map naturalOf (listItems v))
 unfolding listItems textOfList
-list-text [] h = unfold joined in refl
-list-text (b ∷ t) h = sym (joined-parts comma (b ∷ t)) ∙ ap (joined comma) (items-decimal (parts comma (b ∷ t)) h)
+list-text top [] h = unfold joined in refl
+list-text top (b ∷ t) h = sym (joined-parts comma (b ∷ t)) ∙ ap (joined comma) (items-decimal top (parts comma (b ∷ t)) h)
 
 -- the text of a predicate
 p-written : (s : Bytes) (o : Option Pred) → readPred (readWords (tokens s)) ≡ o → lacks o ≡ false → sounds [] (tokens s) ≡ true → s ≡ textOfPred (orElse (all P.none) o)
@@ -164,7 +164,7 @@ value-written actions l c n s t = one-number l actions 0 maxActions c n
 value-written variables l c n s t = one-number l variables 0 maxVariables c n
 value-written variable l c n s t = two-numbers l (valueOf variable l) c n
 value-written automata l c n s t = one-number l automata 1 maxAutomata c n
-value-written sync l c n s t = list-text (valueOf sync l) n
+value-written sync l c n s t = list-text maxActions (valueOf sync l) n
 value-written locations l c n s t = one-number l locations 1 maxLocations c n
 value-written init l c n s t = one-p l init c s n
 value-written inv l c n s t = one-p l inv c s n
@@ -182,6 +182,10 @@ value-written compose l c n s t = c-written (valueOf compose l) (readTree (readC
 -- the line of an entry
 abbrev pub lineOf : Entry → Line
 lineOf e = record { bytes = spelling (keyOf e) ++ valueText e; ended = true }
+
+-- and that of a list behind an edge
+abbrev pub writesLine : List ℕ → Line
+writesLine list = record { bytes = writesKey ++ textOfList list; ended = true }
 
 pub entry-key : (k : Key) (l : Line) → keyOf (entry k l) ≡ k
 unfolding entry keyOf

@@ -141,12 +141,12 @@ number-of h s e =
     let y : s ≡ decimal (naturalOf s) = i .1 ∙ ap decimal (sym x) in
     (y, ap (λ n. leb n h) x ∙ le-leb (i .0) h (i .2))
 
--- a list of actions
-pub items-decimal : (ss : List Bytes) → every (within (pos 0) (pos maxActions)) ss ≡ true → ss ≡ map decimal (map naturalOf ss)
-items-decimal [] h = refl
-items-decimal (s ∷ ss) h =
-    let i = every-cons (within (pos 0) (pos maxActions)) s ss h in
-    ap (λ u. u ∷ ss) (number-of maxActions s (i .0) .0) ∙ ap (λ l. decimal (naturalOf s) ∷ l) (items-decimal ss (i .1))
+-- a list of actions, or of variables
+pub items-decimal : (top : ℕ) (ss : List Bytes) → every (within (pos 0) (pos top)) ss ≡ true → ss ≡ map decimal (map naturalOf ss)
+items-decimal top [] h = refl
+items-decimal top (s ∷ ss) h =
+    let i = every-cons (within (pos 0) (pos top)) s ss h in
+    ap (λ u. u ∷ ss) (number-of top s (i .0) .0) ∙ ap (λ l. decimal (naturalOf s) ∷ l) (items-decimal top ss (i .1))
 
 good-old : (t s : Bytes) (a : ℕ) → t ≡ a ∷ s → a ≡ 'v → within (pos 0) (lastAfter a) s ≡ true → Good t (oldWord (naturalOf s))
 unfolding spelled inRange lastAfter

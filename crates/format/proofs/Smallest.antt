@@ -2,7 +2,7 @@
 use Prim.Native.Nat.{ℕ, _<_}
 use mathlib.Core.Path.{_≡_, refl, sym, ap, _∙_}
 use mathlib.Core.Bool.{Bool, true, false, _&&_, true≢false}
-use mathlib.Core.List.{[], _∷_, List·Memᴰ, List·Memᴰ·head, List·Memᴰ·tail, List·Memᴰ·not-nil, List·Memᴰ·cases-cons}
+use mathlib.Core.List.{List, [], _∷_, List·Memᴰ, List·Memᴰ·head, List·Memᴰ·tail, List·Memᴰ·not-nil, List·Memᴰ·cases-cons}
 use mathlib.Core.Option.{Option, none, some}
 use mathlib.Core.Logic.{_↔_, _⊎_, inl, inr}
 use native.Mathlib.Omega.{arith}
@@ -12,7 +12,8 @@ use Rattle.model.specs.Lines.{Key, Reading}
 use Rattle.model.proofs.Tests.{and-left, and-right, lt-of}
 use Rattle.model.proofs.Parsing.{none-some, got}
 use Rattle.format.specs.Rows.{Line, fault}
-use Rattle.format.specs.Refused.{Conditions, Unbroken, Smallest, lineRows}
+use Rattle.format.specs.Refused.{Conditions, Unbroken, Smallest, lineRows, writesRows}
+use Rattle.format.specs.Writes.{writesFault}
 
 -- the first row whose condition holds, in the order of the list
 unfoldable pub firstOf : Conditions → Option ℕ
@@ -99,24 +100,35 @@ smallest-some ((number, false) ∷ cs) n r row s =
 pub first-smallest : (cs : Conditions) → risesFrom 0 cs ≡ true → (row : ℕ) → (firstOf cs ≡ some row) ↔ Smallest cs row
 first-smallest cs r row = (some-smallest cs 0 r row, smallest-some cs 0 r row)
 
--- the rows of a line are tried so
-fault-first : (r : Reading) (k : Key) (l : Line) → fault r k l ≡ firstOf (lineRows r k l)
-unfolding fault lineRows firstOf
-fault-first r k l = refl
+-- rows that are tried one after the other, from small to great numbers: what is answered is the smallest whose condition
+-- holds, and none where none holds
+module _ (o : Option ℕ) (cs : Conditions) (tried : o ≡ firstOf cs) (rise : risesFrom 0 cs ≡ true) where
+  tried-smallest : (row : ℕ) → (o ≡ some row) ↔ Smallest cs row
+  tried-smallest row =
+      let e = first-smallest cs rise row in
+      (λ h. e .0 (sym tried ∙ h), λ s. tried ∙ e .1 s)
 
-rows-rise : (r : Reading) (k : Key) (l : Line) → risesFrom 0 (lineRows r k l) ≡ true
-unfolding lineRows risesFrom
-rows-rise r k l = refl
+  tried-none : (o ≡ none) ↔ Unbroken cs
+  tried-none =
+      let e = first-unbroken cs in
+      (λ h. e .0 (sym tried ∙ h), λ u. tried ∙ e .1 u)
 
+-- so the rows of a line
 module _ (r : Reading) (k : Key) (l : Line) where
-  -- what `fault` answers is the smallest row whose condition holds at the line
   pub fault-smallest : (row : ℕ) → (fault r k l ≡ some row) ↔ Smallest (lineRows r k l) row
-  fault-smallest row =
-      let e = first-smallest (lineRows r k l) (rows-rise r k l) row in
-      (λ h. e .0 (sym (fault-first r k l) ∙ h), λ s. fault-first r k l ∙ e .1 s)
+  unfolding fault lineRows firstOf risesFrom
+  fault-smallest row = tried-smallest (fault r k l) (lineRows r k l) refl refl row
 
-  -- and none where none holds
   pub fault-none : (fault r k l ≡ none) ↔ Unbroken (lineRows r k l)
-  fault-none =
-      let e = first-unbroken (lineRows r k l) in
-      (λ h. e .0 (sym (fault-first r k l) ∙ h), λ u. fault-first r k l ∙ e .1 u)
+  unfolding fault lineRows firstOf risesFrom
+  fault-none = tried-none (fault r k l) (lineRows r k l) refl refl
+
+-- and those of a list behind an edge
+module _ (r : Reading) (due : List ℕ) (l : Line) where
+  pub writes-smallest : (row : ℕ) → (writesFault r due l ≡ some row) ↔ Smallest (writesRows r due l) row
+  unfolding writesFault writesRows firstOf risesFrom
+  writes-smallest row = tried-smallest (writesFault r due l) (writesRows r due l) refl refl row
+
+  pub writes-none : (writesFault r due l ≡ none) ↔ Unbroken (writesRows r due l)
+  unfolding writesFault writesRows firstOf risesFrom
+  writes-none = tried-none (writesFault r due l) (writesRows r due l) refl refl

@@ -10,7 +10,7 @@ use Rattle.model.specs.Lines.{Entry, Key, actions, actionsLine, automata, autom
 use Rattle.model.specs.Predicate.{Pred, Word, addWord, allOf, anyOf, eqWord, ifWord, impWord, leWord, mulWord, newWord, notWord, numWord, oldWord, stray, subWord, words}
 use Rattle.format.specs.Bytes.{Bytes}
 use Rattle.format.specs.Number.{decimal, signed}
-use Rattle.format.specs.Spelling.{spelled, spelledNode, spelling, textOfList, textOfPred, textOfTree, valueText}
+use Rattle.format.specs.Spelling.{spelled, spelledNode, spelling, textOfList, textOfPred, textOfTree, valueText, writesKey}
 use Rattle.format.proofs.BytesLaws.{Each, Free, each-append, each-map, joined-each}
 use Rattle.format.proofs.NumberLaws.{decimal-small, decimal-step, split}
 
@@ -161,3 +161,8 @@ spelling-span compose = omega arith
 
 pub line-span : (e : Entry) → Span 32 126 (spelling (keyOf e) ++ valueText e)
 line-span e = each-append (λ b. (32 ≤ b) × (b ≤ 126)) (spelling (keyOf e)) (valueText e) (spelling-span (keyOf e)) (value-span e)
+
+-- the line `writes=`
+pub writes-span : (list : List ℕ) → Span 32 126 (writesKey ++ textOfList list)
+unfolding writesKey
+writes-span list = each-append (λ b. (32 ≤ b) × (b ≤ 126)) writesKey (textOfList list) (omega arith) (list-span 32 126 list (omega arith) (omega arith))

@@ -81,7 +81,7 @@ sound-list : (l : List ℕ) → sound (bytes "syn") (textOfList l) ≡ every (λ
 sound-list [] = ap (sound (bytes "syn")) text-nil ∙ sound-nil
 sound-list (k ∷ ks) =
     sound-bare (bytes "syn") (textOfList (k ∷ ks)) (textOfList (k ∷ ks)) (numeral-list k ks) ∙ judged-syn (textOfList (k ∷ ks)) leastNumber greatestNumber ∙
-    ap (every (within (pos 0) (pos maxActions))) (list-parts k ks) ∙ every-decimal (k ∷ ks)
+    ap (every (within (pos 0) (pos maxActions))) (list-parts k ks) ∙ every-decimal maxActions (k ∷ ks)
 
 sound-leaf : (b : Bytes) (k : ℕ) → Plain b → sound b ('a ∷ decimal k) ≡ leb k lastAutomaton
 unfolding lastAfter

@@ -144,7 +144,7 @@ syn-good t h n = go (numeral t) refl
     go (bare s) e =
         let i = bare-is t s e in
         let x : every (within (pos 0) (pos maxActions)) (parts comma t) ≡ true = ap (λ u. every (within (pos 0) (pos maxActions)) (parts comma u)) (i .0) ∙ sym (judged-syn s leastNumber greatestNumber) ∙ sym (sound-bare (bytes "syn") t s e) ∙ h in
-        (syn-case t (bare s) e ∙ ap (λ u. synNode (items u)) (sym (i .0)), ap (joined comma) (sym (items-decimal (parts comma t) x)) ∙ joined-parts comma t, i .1)
+        (syn-case t (bare s) e ∙ ap (λ u. synNode (items u)) (sym (i .0)), ap (joined comma) (sym (items-decimal maxActions (parts comma t) x)) ∙ joined-parts comma t, i .1)
 
 list-not-ini : (t : Bytes) → NotIni (synOf t)
 list-not-ini t = go (numeral t) refl

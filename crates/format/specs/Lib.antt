@@ -3,6 +3,7 @@ pub mod Number
 pub mod Tokens
 pub mod Spelling
 pub mod Rows
+pub mod Writes
 pub mod Refused
 pub mod Reader
 pub mod Writer

@@ -11,7 +11,9 @@ use Rattle.model.specs.Model.{Model}
 use Rattle.model.specs.Lines.{Key, dueAtFirst, thenDue, Reading, atFirst, noted}
 use Rattle.model.specs.Table.{tableOf, row18}
 use Rattle.format.specs.Bytes.{Bytes, LF}
+use Rattle.format.specs.Spelling.{listBehind}
 use Rattle.format.specs.Rows.{Line, fault, entry}
+use Rattle.format.specs.Writes.{writesFault}
 
 -- the lines of a text; a last one without its LF is one too
 unfoldable pub ontoLine : ℕ → List Line → List Line
@@ -29,16 +31,21 @@ pub data ReadAnswer : Type 0 where
   refused : (row line : ℕ) → ReadAnswer
   accepted : Model → ReadAnswer
 
--- the lines from number n on against the keys that are due: too few lines, or too many, are row 2 at the place where it
--- shows
-unfoldable pub read : Reading → List Key → ℕ → List Line → ReadAnswer
-read r [] n [] = accepted (r .model)
-read r [] n (l ∷ ls) = refused 2 n
-read r (k ∷ ks) n [] = refused 2 n
-read r (k ∷ ks) n (l ∷ ls) =
+-- the lines from number n on against what is due: the list behind the entry before, if there is one, and then the keys;
+-- too few lines, or too many, are row 2 at the place where it shows
+unfoldable pub read : (list : Option (List ℕ)) → Reading → List Key → ℕ → List Line → ReadAnswer
+read (some list) r ks n [] = refused 2 n
+read (some list) r ks n (l ∷ ls) =
+    elim (writesFault r list l) [ some row ↦ refused row n | none ↦ read none r ks (suc n) ls ]
+read none r [] n [] = accepted (r .model)
+read none r [] n (l ∷ ls) = refused 2 n
+read none r (k ∷ ks) n [] = refused 2 n
+read none r (k ∷ ks) n (l ∷ ls) =
     elim (fault r k l) [
       | some row ↦ refused row n
-      | none ↦ read (noted r (entry k l)) (thenDue (r .model .format) (entry k l) ++ ks) (suc n) ls
+      | none ↦
+          read (listBehind (r .model .format) (entry k l)) (noted r (entry k l))
+          (thenDue (r .model .format) (entry k l) ++ ks) (suc n) ls
     ]
 
 -- Row 1: more bytes than a text may have.
@@ -50,7 +57,7 @@ unfoldable pub readAnswer : Bytes → (table : ℕ) → ReadAnswer
 readAnswer text table =
     elim (row18 table) [
       | true ↦ refused 18 0
-      | false ↦ elim (row1 text) [ true ↦ refused 1 0 | false ↦ read atFirst dueAtFirst 1 (linesOf text) ]
+      | false ↦ elim (row1 text) [ true ↦ refused 1 0 | false ↦ read none atFirst dueAtFirst 1 (linesOf text) ]
     ]
 
 -- the lent table afterwards: the model's table and its old rest, or, after a refusal, as it was

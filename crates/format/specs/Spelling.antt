@@ -1,8 +1,12 @@
 -- The one spelling of a model: `textOf`.
 use Prim.Native.Nat.{ℕ}
+use mathlib.Core.Bool.{true, false}
 use mathlib.Core.List.{List, [], _∷_, _++_, map, flatMap}
+use mathlib.Core.Option.{Option, none, some}
+use lib.Dec.{leb}
+use Rattle.model.specs.Bounds.{writesFormat}
 use Rattle.model.specs.Predicate.{Pred, Range, Word, words, allOf, anyOf, notWord, impWord, eqWord, leWord, numWord}
-use Rattle.model.specs.Predicate.{oldWord, newWord, addWord, subWord, mulWord, ifWord, stray}
+use Rattle.model.specs.Predicate.{oldWord, newWord, addWord, subWord, mulWord, ifWord, stray, written}
 use Rattle.model.specs.Composition.{Tree, Node, nodes, parNode, synNode, iniNode, leafNode, strayNode}
 use Rattle.model.specs.Model.{Edge, Model}
 use Rattle.model.specs.Lines.{Key, Entry, format, actions, variables, variable, automata, sync, locations, init, inv}
@@ -26,6 +30,10 @@ spelling inv = bytes "inv="
 spelling edges = bytes "edges="
 spelling edge = bytes "edge="
 spelling compose = bytes "compose="
+
+-- the key of the line that says what the edge before it writes (request (f))
+unfoldable pub writesKey : Bytes
+writesKey = bytes "writes="
 
 -- the tokens of a word
 unfoldable pub spelled : Word → List Bytes
@@ -79,5 +87,28 @@ valueText (composeLine c) = textOfTree c
 unfoldable pub lineText : Entry → Bytes
 lineText e = spelling (keyOf e) ++ (valueText e ++ LF ∷ [])
 
+-- The list behind an entry: from format 2 on, an edge is followed by the variables whose new value it mentions.
+unfoldable pub listBehind : (format : ℕ) → Entry → Option (List ℕ)
+listBehind f (formatLine n) = none
+listBehind f (actionsLine n) = none
+listBehind f (variablesLine n) = none
+listBehind f (variableLine x) = none
+listBehind f (automataLine n) = none
+listBehind f (syncLine list) = none
+listBehind f (locationsLine n) = none
+listBehind f (initLine p) = none
+listBehind f (invLine p) = none
+listBehind f (edgesLine n) = none
+listBehind f (edgeLine e) = elim (leb writesFormat f) [ true ↦ some (written (e .update)) | false ↦ none ]
+listBehind f (composeLine c) = none
+
+unfoldable pub listText : Option (List ℕ) → Bytes
+listText none = []
+listText (some list) = writesKey ++ (textOfList list ++ LF ∷ [])
+
+-- an entry: its line, and its list, if it has one
+unfoldable pub entryText : (format : ℕ) → Entry → Bytes
+entryText f e = lineText e ++ listText (listBehind f e)
+
 unfoldable pub textOf : Model → Bytes
-textOf m = flatMap lineText (lines m)
+textOf m = flatMap (entryText (m .format)) (lines m)

@@ -1,111 +1,21 @@
 -- Each way out of the code of src/bits.rt.
-use mathlib.Core.Path.{_≡_, refl, sym, ap, _∙_}
-use mathlib.Core.Bool.{Bool, true, false, not, true≢false}
-use mathlib.Core.List.{List, [], _∷_}
-use Prim.Native.Nat.{ℕ, zero, suc, _+_, _-_, _*_, _%_, _^_, _≤_, _<_}
+use mathlib.Core.Path.{_≡_, refl, ap, _∙_}
+use mathlib.Core.Bool.{Bool, true, false, not}
+use mathlib.Core.List.{List}
+use Prim.Native.Nat.{ℕ, suc, _+_, _*_, _^_, _≤_, _<_}
 use native.Mathlib.Omega.{arith}
-use native.Mathlib.Nat.{div-eq-of-lt, one-mul, pow-succ'}
-use native.Mathlib.Numerals.{add-one, sub-one}
+use native.Mathlib.Nat.{pow-succ'}
+use native.Mathlib.Numerals.{add-one}
 use lib.IntN.{ℤ, pos}
-use lib.ListN.{length, getD, take, drop, drop-of-length-le}
-use lib.Seq.{drop-cons, take-nil}
-use lib.Dec.{eqb, leb}
-use lib.Pow.{pow-mono, shl-exact}
-use borrow.Author.Tests.{leb-true, leb-false}
+use lib.ListN.{length, getD}
+use lib.Dec.{eqb}
+use lib.Pow.{pow-mono}
 use Rattle.model.specs.Basic.{eqZ}
 use Rattle.model.specs.Bounds.{maxVariables, maxAutomata}
-use Rattle.model.specs.Predicate.{named, nothing, theOld, theNew}
-use Rattle.model.specs.Table.{bit}
-use Rattle.node_words.specs.declared.Node.{Node}
-use Rattle.node_words.specs.declared.Node.the-variants.{New}
-use Rattle.node_words.specs.Nodes.{meant, nodeOf}
-use Rattle.node_words.proofs.NodeLaws.{word-by, Other, by-others}
 use Rattle.table_places.specs.AtMost.{atMost}
-use Rattle.judge_search.specs.Masks.{mask}
-use Rattle.judge_search.proofs.MaskLaws.{mask-small}
-use Rattle.judge_candidates.specs.Bits.{clear, withBit, leftOut, restOf, differs, changedBits, agrees, stillBits}
-
--- `power`
-pub power-is : (k : ℕ) → k < 64 → (1 * 2 ^ k) % 2 ^ 64 ≡ 2 ^ k
-power-is k h = shl-exact 1 k 64 (omega arith) (omega arith) ∙ one-mul (2 ^ k)
-
--- a bit that is set weighs no more than the word
-pub bit-weighs : (s k : ℕ) → bit s k ≡ true → 2 ^ k ≤ s
-unfolding bit
-bit-weighs s k h = go (leb (2 ^ k) s) refl
-  where
-    go : (b : Bool) → leb (2 ^ k) s ≡ b → 2 ^ k ≤ s
-    go true e = leb-true (2 ^ k) s e
-    go false e =
-        let l : s < 2 ^ k = leb-false (2 ^ k) s e in
-        let z : false ≡ true = rw (div-eq-of-lt l) at h in
-        absurd (true≢false (sym z))
-
--- so a word of 64 bits has none past them
-pub bit-below : (s k : ℕ) → s < 2 ^ 64 → bit s k ≡ true → k < 64
-bit-below s k f h = go (leb 64 k) refl
-  where
-    go : (b : Bool) → leb 64 k ≡ b → k < 64
-    go true e =
-        let l = leb-true 64 k e in
-        let m : 2 ^ 64 ≤ 2 ^ k = pow-mono l in
-        let w = bit-weighs s k h in
-        absurd (omega arith)
-    go false e = leb-false 64 k e
-
--- `clear`
-module _ (s k : ℕ) (b : Bool) (e : b ≡ bit s k) where
-  pub clear-room : b ≡ true → (p : ℕ) → p ≡ 2 ^ k → p ≤ s
-  clear-room h p q = rw q (bit-weighs s k (sym e ∙ h))
-
-  pub clear-below : s < 2 ^ 64 → b ≡ true → k < 64
-  clear-below f h = bit-below s k f (sym e ∙ h)
-
-  pub clear-set : b ≡ true → (p : ℕ) → p ≡ 2 ^ k → s - p ≡ clear s k
-  unfolding clear
-  clear-set h p q = rw (q, sym e ∙ h, clear)
-
-  pub clear-not : b ≡ false → s ≡ clear s k
-  unfolding clear
-  clear-not h = rw (sym e ∙ h, clear)
-
-pub ruleset clear-laws = (clear-set, clear-not)
-
--- `left_out`
-module _ (s w : ℕ) where
-  pub out-new : (n : Node) → n ≡ nodeOf w → (k : ℕ) → n ≡ New k → (r : ℕ) → r ≡ clear s k → r ≡ leftOut s w
-  unfolding leftOut meant named
-  out-new n e k h r f = rw (word-by w n (New k) e h, leftOut) f
-
-  pub out-other : (n : Node) → n ≡ nodeOf w → Other (New 0 ∷ []) n → s ≡ leftOut s w
-  unfolding leftOut meant named
-  out-other n e o =
-      let same : (k : ℕ) → s ≡ s = λ k. refl in
-      rw (word-by w n n e refl, leftOut)
-      (by-others (λ (m : Node). s ≡ elim (named (meant m)) [ nothing ↦ s | theOld k ↦ s | theNew k ↦ clear s k ]) (New 0 ∷ []) n o
-      (same, same, refl, refl, refl, refl, same, same, tt, refl, refl, refl, refl, refl))
-
-pub ruleset out-laws = (out-new, out-other)
-
--- `rest`
-module _ (t : List ℕ) (i left mask whole : ℕ) (inv : restOf mask (take left (drop i t)) ≡ whole) where
-  pub rest-done : left ≡ 0 → mask ≡ whole
-  unfolding restOf
-  rest-done z = rw z at inv
-
-  pub rest-past : length t ≤ i → mask ≡ whole
-  unfolding restOf
-  rest-past h = rw (drop-of-length-le t h, take-nil {A = ℕ} left) at inv
-
-  pub rest-step : (left ≡ 0 → ⊥) → i < length t → (m : ℕ) → m ≡ leftOut mask (getD t i 0) → restOf m (take (left - 1) (drop (i + 1) t)) ≡ whole
-  unfolding restOf
-  rest-step y h m e = go left y inv
-    where
-      go : (n : ℕ) → (n ≡ 0 → ⊥) → restOf mask (take n (drop i t)) ≡ whole → restOf m (take (n - 1) (drop (i + 1) t)) ≡ whole
-      go zero u v = absurd (u refl)
-      go (suc n) u v = rw (sub-one (suc n), add-one i, e) (rw (drop-cons t i 0 h) at v)
-
-pub ruleset rest-laws = (rest-done, rest-past, rest-step)
+use Rattle.table_writes.specs.Sets.{mask}
+use Rattle.table_writes.proofs.MaskLaws.{mask-small}
+use Rattle.judge_candidates.specs.Bits.{withBit, differs, changedBits, agrees, stillBits}
 
 -- `with_bit`
 module _ (s k : ℕ) (b : Bool) where

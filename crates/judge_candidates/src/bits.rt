@@ -1,57 +1,13 @@
 // Sets of variables and of automata: bit K of a word is set where K is in the set.
-use node_words::Node;
 ghost use mathlib.Core.Path.{_≡_};
 ghost use Prim.Native.Nat.{_^_, _<_};
-ghost use lib.ListN.{take, drop};
-ghost use Rattle.judge_candidates.specs.Bits.{clear, withBit, leftOut, restOf, allVariables};
-ghost use Rattle.judge_candidates.specs.Bits.{differs, changedBits, agrees, stillBits};
-
-// All 48 variables.
-const ALL: u64 = 281474976710655;
+ghost use Rattle.judge_candidates.specs.Bits.{withBit, differs, changedBits, agrees, stillBits};
 
 fn power(k: u32) -> u64
     requires { ⌜ k < 64 ⌝ }
     ensures { λ r. ⌜ r ≡ 2 ^ k ⌝ }
 {
     1u64 << k
-}
-
-fn clear(mask: u64, k: u32) -> u64
-    ensures { λ r. ⌜ r ≡ clear mask k ⌝ }
-{
-    if table_tree::in_word(mask, k) {
-        return mask - power(k);
-    }
-    mask
-}
-
-// `nK` names variable K's new value.
-fn left_out(mask: u64, word: u32) -> u64
-    ensures { λ r. ⌜ r ≡ leftOut mask word ⌝ }
-{
-    let node = node_words::node_of(word);
-    match node {
-        Node::New(k) => clear(mask, k),
-        _ => mask,
-    }
-}
-
-// The variables that the `count` node words from `at` on do not mention.
-pub fn rest(words: &[u32], at: usize, count: usize) -> u64
-    ensures { λ r. ⌜ r ≡ restOf allVariables (take count (drop at (now (words .entry)))) ⌝ }
-{
-    let mut mask = ALL;
-    let mut i = at;
-    let mut left = count;
-    while left != 0 {
-        if words.len() <= i {
-            return mask;
-        }
-        mask = left_out(mask, words[i]);
-        i += 1;
-        left -= 1;
-    }
-    mask
 }
 
 // k put into a set of smaller numbers, if the test says so.

@@ -1,5 +1,4 @@
 // The edges that each automaton can take.
-use crate::bits::{self};
 use table_places::Layout;
 ghost use mathlib.Core.Path.{_≡_};
 ghost use Rattle.judge_candidates.specs.Walk.{walk, kept, fitsAt, takesAt, restAt, edgeOn, edgesFrom};
@@ -45,7 +44,7 @@ fn rest_at(words: &[u32], at: usize) -> u64
 {
     let update = table_places::update_at(words, at);
     let nodes = table_places::word(words, update);
-    bits::rest(words, table_places::nodes_at(words, update), nodes)
+    table_writes::unwritten(words, table_places::nodes_at(words, update), nodes)
 }
 
 // One edge: its mask is stored if the edge can be taken and there is room.

@@ -1,12 +1,11 @@
 -- Bits of numbers: of `&`, of equal numbers, and how many are set.
 use mathlib.Core.Path.{_≡_, refl, sym, ap, _∙_}
 use mathlib.Core.Bool.{Bool, true, false, _&&_, and-comm}
-use Prim.Native.Nat.{ℕ, zero, suc, _+_, _-_, _*_, _/_, _%_, _^_, _≤_, _<_, min}
+use Prim.Native.Nat.{ℕ, zero, suc, _+_, _/_, _%_, _^_, _≤_, _<_, min}
 use native.Mathlib.Omega.{arith}
-use native.Mathlib.Nat.{pow-succ', div-one, div-div-eq-div-mul, add-comm, add-mul-div-right, add-mul-mod-self-right, one-mul}
+use native.Mathlib.Nat.{pow-succ', div-one, div-div-eq-div-mul}
 use lib.Dec.{eqb}
 use lib.Bits.{bitAnd, and-step, and-shr, and-zero-l, and-zero-r, and-comm as and-turned}
-use lib.Pow.{pow-pos, pow-add, high}
 use lib.Count.{ones, ones-step}
 use borrow.Author.Tests.{eqb-true, eqb-false}
 use Rattle.model.specs.Table.{bit}
@@ -63,21 +62,6 @@ same-bits (suc n) a b x y h =
 
 pub no-bits : (k : ℕ) → bit 0 k ≡ false
 no-bits k = bit-above 0 0 k (omega arith) (omega arith)
-
--- a number with one bit more, above all others
-pub bit-under : (x n k : ℕ) → k < n → bit (2 ^ n + x) k ≡ bit x k
-unfolding bit
-bit-under x n k h =
-    let y = 2 ^ (n - suc k) in
-    let d : n ≡ (n - suc k) + 1 + k = omega arith in
-    let p : 2 ^ n ≡ y * 2 * 2 ^ k = ap (λ e. 2 ^ e) d ∙ rw (pow-add 2 ((n - suc k) + 1) k, pow-add 2 (n - suc k) 1) in
-    let q : (2 ^ n + x) / 2 ^ k ≡ x / 2 ^ k + y * 2 = ap (λ z. z / 2 ^ k) (add-comm (2 ^ n) x ∙ ap (λ z. x + z) p)
-    ∙ add-mul-div-right x (y * 2) (pow-pos k) in
-    ap (λ z. eqb (z % 2) 1) q ∙ ap (λ z. eqb z 1) (add-mul-mod-self-right (x / 2 ^ k) y 2)
-
-pub bit-top : (x n : ℕ) → x < 2 ^ n → bit (2 ^ n + x) n ≡ true
-unfolding bit
-bit-top x n h = ap (λ z. eqb (z % 2) 1) (ap (λ z. (z + x) / 2 ^ n) (sym (one-mul (2 ^ n))) ∙ high 1 n h)
 
 -- `&` of three numbers
 pub halves : (a b : ℕ) → (bitAnd a b / 2 ≡ bitAnd (a / 2) (b / 2)) × (bitAnd a b % 2 ≡ min (a % 2) (b % 2))

@@ -34,14 +34,15 @@ use Rattle.table_tree.proofs.Standing.{begins, SynStands, par-stands, syn-stand
 use Rattle.table_tree.proofs.NodeLaws.{later}
 use Rattle.table_tree.proofs.Inside.{Agrees, in-set-of}
 use Rattle.judge_cover.specs.Cover.{coverable, group, groupsOf}
-use Rattle.judge_cover.proofs.BitLaws.{bit-under, bit-top}
+use Rattle.table_writes.proofs.BitLaws.{bit-under, bit-top}
+use Rattle.table_writes.proofs.MaskLaws.{mask-small, bit-mask}
 use Rattle.judge_cover.proofs.Counting.{count-around}
 use Rattle.judge_search.specs.Search.{isCovered, uncovered, changedIn, unmoved, allUnmoved, candidates, together, onlyIf, takerSets, choosing, search}
 use Rattle.judge_search.specs.Masks.{restMask, changedMask, Offers}
 use Rattle.judge_search.specs.Found.{maxDuties, sharedBits, takenBy, partedAt, coveredBy, seekBy, seekAt, foundIn}
 use Rattle.judge_search.proofs.Unpruned.{exists-and, alternatives}
 use Rattle.judge_search.proofs.TakerLaws.{exists-together, exists-only, exists-ways, search-is}
-use Rattle.judge_search.proofs.MaskLaws.{mask-small, bit-mask, listOf, list-mask, list-and, mask-covered}
+use Rattle.judge_search.proofs.MaskLaws.{listOf, list-mask, list-and, mask-covered}
 
 -- what a subtree must do: take the action, or keep every automaton's location
 data Duty : Type 0 where

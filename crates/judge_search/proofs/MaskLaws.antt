@@ -2,46 +2,22 @@
 use mathlib.Core.Path.{_≡_, refl, sym, ap, _∙_}
 use mathlib.Core.Bool.{Bool, true, false, not, _&&_, and-true}
 use mathlib.Core.List.{List, [], _∷_}
-use Prim.Native.Nat.{ℕ, zero, suc, _+_, _-_, _*_, _/_, _%_, _^_, _<_, min}
+use Prim.Native.Nat.{ℕ, _^_, _<_}
 use native.Mathlib.Omega.{arith}
-use native.Mathlib.Nat.{pow-succ', div-one, div-div-eq-div-mul, add-comm, add-mul-div-right, add-mul-mod-self-right, one-mul, lt-of-le-of-lt}
-use lib.Dec.{eqb, ltb}
+use native.Mathlib.Nat.{lt-of-le-of-lt}
+use lib.Dec.{eqb}
 use lib.Bits.{bitAnd, and-le-l}
-use lib.Pow.{pow-pos, pow-add, high}
-use borrow.Author.Tests.{eqb-true, eqb-false, eq-eqb, ltb-true, ltb-false}
-use Rattle.model.specs.Basic.{every, keep, member, countUp}
+use lib.Pow.{pow-pos}
+use borrow.Author.Tests.{eqb-true, eq-eqb}
+use Rattle.model.specs.Basic.{every, keep, countUp}
 use Rattle.model.specs.Table.{bit}
-use Rattle.model.proofs.Tests.{and-right, not-false, both-ways}
-use Rattle.model.proofs.Lists.{keep-keep, member-keep, member-count}
-use Rattle.table_tree.proofs.SetLaws.{keep-alike, every-kept, kept-all, bit-above}
+use Rattle.model.proofs.Tests.{not-false, both-ways}
+use Rattle.model.proofs.Lists.{keep-keep}
+use Rattle.table_tree.proofs.SetLaws.{keep-alike, every-kept, kept-all}
+use Rattle.table_writes.specs.Sets.{mask}
+use Rattle.table_writes.proofs.MaskLaws.{bit-mask}
 use Rattle.judge_search.specs.Search.{isCovered}
-use Rattle.judge_search.specs.Masks.{mask}
-use Rattle.judge_cover.proofs.BitLaws.{bit-and, same-bits, no-bits, bit-under, bit-top}
-
--- the bits of a mask are the numbers below n of which f holds
-pub mask-small : (f : ℕ → Bool) (n : ℕ) → mask f n < 2 ^ n
-unfolding mask
-mask-small f zero = omega arith
-mask-small f (suc n) = go (f n) (mask-small f n) (pow-succ' 2 n)
-  where
-    go : (b : Bool) → mask f n < 2 ^ n → 2 ^ suc n ≡ 2 * 2 ^ n → elim b as (λ c. ℕ) [ true ↦ 2 ^ n + mask f n | false ↦ mask f n ] < 2 ^ suc n
-    go true s p = omega arith
-    go false s p = omega arith
-
-pub bit-mask : (f : ℕ → Bool) (n k : ℕ) → k < n → bit (mask f n) k ≡ f k
-unfolding mask
-bit-mask f zero k l = absurd (omega arith)
-bit-mask f (suc n) k l = go (f n) refl (ltb k n) refl (λ h. bit-mask f n k h)
-  where
-    top : ltb k n ≡ false → k ≡ n
-    top h = let g = ltb-false k n h in omega arith
-
-    go : (b : Bool) → f n ≡ b → (c : Bool) → ltb k n ≡ c → (k < n → bit (mask f n) k ≡ f k)
-        → bit (elim b as (λ c. ℕ) [ true ↦ 2 ^ n + mask f n | false ↦ mask f n ]) k ≡ f k
-    go true e true h ih = bit-under (mask f n) n k (ltb-true k n h) ∙ ih (ltb-true k n h)
-    go true e false h ih = rw (top h) (bit-top (mask f n) n (mask-small f n) ∙ sym e)
-    go false e true h ih = ih (ltb-true k n h)
-    go false e false h ih = rw (top h) (bit-above (mask f n) n n (mask-small f n) (omega arith) ∙ sym e)
+use Rattle.judge_cover.proofs.BitLaws.{bit-and, same-bits, no-bits}
 
 -- the set, of variables below n, that a number stands for
 abbrev pub listOf : (n u : ℕ) → List ℕ

@@ -1,7 +1,7 @@
 -- Sets of variables as numbers, bit K for variable K, and what the search is given of a step in this form.
-use Prim.Native.Nat.{ℕ, zero, suc, _+_, _-_, _^_, _≤_, _<_}
+use Prim.Native.Nat.{ℕ, suc, _-_, _≤_, _<_}
 use mathlib.Core.Path.{_≡_}
-use mathlib.Core.Bool.{Bool, true, false, not}
+use mathlib.Core.Bool.{not}
 use mathlib.Core.List.{List, map}
 use lib.ListN.{length, getD, take, drop}
 use Rattle.model.specs.Basic.{eqZ}
@@ -9,12 +9,8 @@ use Rattle.model.specs.Bounds.{maxVariables}
 use Rattle.model.specs.Predicate.{mentions}
 use Rattle.model.specs.Model.{Model, Edge}
 use Rattle.model.specs.Rules.{State, val}
+use Rattle.table_writes.specs.Sets.{mask}
 use Rattle.judge_search.specs.Search.{candidates}
-
--- the numbers below n of which f holds, as bits of one number
-unfoldable pub mask : (ℕ → Bool) → ℕ → ℕ
-mask f zero = 0
-mask f (suc n) = elim (f n) [ true ↦ 2 ^ n + mask f n | false ↦ mask f n ]
 
 -- the variables that an edge's update does not mention
 unfoldable pub restMask : Edge → ℕ

@@ -1,16 +1,19 @@
 -- The keys: which is the end.
 use mathlib.Core.Path.{_≡_, refl}
-use mathlib.Core.Bool.{true, false}
+use mathlib.Core.Bool.{Bool, true, false, _&&_}
 use mathlib.Core.List.{List, [], _∷_}
 use mathlib.Core.Logic.{_⊎_, inl, inr}
 use Prim.Native.Nat.{ℕ}
+use lib.Dec.{leb}
 use denote.Enum.Declared.{tagOf}
 use types.Run.{OneOf, miss}
+use Rattle.model.specs.Bounds.{writesFormat}
 use Rattle.model.specs.Lines.{Key as LineKey, format, actions, variables, variable, automata, sync, locations, init, inv, edges, edge, compose}
 use Rattle.line_order.specs.declared.Key.{Key}
 use Rattle.line_order.specs.declared.Key.the-variants.{Format, Actions, Variables, Variable, Automata, Sync, Locations, Init, Inv, Edges, Edge, Compose, End}
 use Rattle.line_order.proofs.Key.{the-type}
-use Rattle.line_order.specs.Due.{isEnd, codeOf}
+use Rattle.line_order.specs.declared.Due.{Due}
+use Rattle.line_order.specs.Due.{isEnd, isEdge, isListed, codeOf}
 
 -- a key is the end, or a line's
 pub named : (k : Key) → (k ≡ End) ⊎ ((l : LineKey) × (k ≡ codeOf l))
@@ -69,3 +72,35 @@ before-end Compose o = refl
 before-end End o = absurd (miss others 12 tt o)
 
 pub ruleset end-laws = (at-end, before-end)
+
+-- each way out of `edge`, and of `Due::listed`
+abbrev edgeless : List ℕ
+edgeless = 0 ∷ 1 ∷ 2 ∷ 3 ∷ 4 ∷ 5 ∷ 6 ∷ 7 ∷ 8 ∷ 9 ∷ 11 ∷ 12 ∷ []
+
+pub at-edge : (k : Key) → k ≡ Edge → true ≡ isEdge k
+unfolding isEdge
+at-edge k h = rw h
+
+pub no-edge : (k : Key) → OneOf edgeless (tagOf the-type k) → false ≡ isEdge k
+unfolding isEdge
+no-edge Format o = refl
+no-edge Actions o = refl
+no-edge Variables o = refl
+no-edge Variable o = refl
+no-edge Automata o = refl
+no-edge Sync o = refl
+no-edge Locations o = refl
+no-edge Init o = refl
+no-edge Inv o = refl
+no-edge Edges o = refl
+no-edge Edge o = absurd (miss edgeless 10 tt o)
+no-edge Compose o = refl
+no-edge End o = refl
+
+pub ruleset edge-laws = (at-edge, no-edge)
+
+pub listed-is : (d : Due) (b : Bool) → b ≡ isEdge (d .key) → (b && leb writesFormat (d .format)) ≡ isListed d
+unfolding isListed
+listed-is d b e = rw e
+
+pub ruleset listed-laws = (listed-is)

@@ -1,9 +1,11 @@
 -- Which line is due, as the code keeps it, and the whole list of the keys to come that it stands for.
 use Prim.Native.Nat.{ℕ, zero, suc, _-_, _≤_}
 use mathlib.Core.Path.{_≡_}
-use mathlib.Core.Bool.{Bool, true, false}
+use mathlib.Core.Bool.{Bool, true, false, _&&_}
 use mathlib.Core.List.{List, [], _∷_, _++_}
 use lib.ListN.{length}
+use lib.Dec.{leb}
+use Rattle.model.specs.Bounds.{writesFormat}
 use Rattle.model.specs.Lines.{Key as LineKey, format, actions, variables, variable, automata, sync, locations, init}
 use Rattle.model.specs.Lines.{inv, edges, edge, compose, repeat, Entry, formatLine, actionsLine, variablesLine}
 use Rattle.model.specs.Lines.{variableLine, automataLine, syncLine, locationsLine, initLine, invLine, edgesLine}
@@ -28,6 +30,25 @@ isEnd Edges = false
 isEnd Edge = false
 isEnd Compose = false
 isEnd End = true
+
+unfoldable pub isEdge : Key → Bool
+isEdge Format = false
+isEdge Actions = false
+isEdge Variables = false
+isEdge Variable = false
+isEdge Automata = false
+isEdge Sync = false
+isEdge Locations = false
+isEdge Init = false
+isEdge Inv = false
+isEdge Edges = false
+isEdge Edge = true
+isEdge Compose = false
+isEdge End = false
+
+-- a list stands behind the line that is due (request (f))
+unfoldable pub isListed : Due → Bool
+isListed d = isEdge (d .key) && leb writesFormat (d .format)
 
 -- The code's own steps, for a format f. `a` automata are to come or under way, and then `l` locations or `e` edges of
 -- the one under way.

@@ -3,8 +3,8 @@
 use model::Model;
 ghost use mathlib.Core.Path.{_≡_};
 ghost use Prim.Native.Nat.{_-_};
-ghost use Rattle.line_order.specs.Due.{isEnd, dueFirst, dueAfter, dueOnly, dueVariables, dueAutomata};
-ghost use Rattle.line_order.specs.Due.{dueLocations, dueEdges};
+ghost use Rattle.line_order.specs.Due.{isEnd, isEdge, isListed, dueFirst, dueAfter, dueOnly, dueVariables};
+ghost use Rattle.line_order.specs.Due.{dueAutomata, dueLocations, dueEdges};
 ghost use Rattle.line_order.specs.Counts.{countsNone, countsAfter, withNodes, addUpTo, capped};
 
 // The highest action of a list: A, or 63, since no list holds more.
@@ -40,6 +40,12 @@ pub fn end(key: Key) -> bool
     ensures { λ r. ⌜ r ≡ isEnd key ⌝ }
 {
     if let Key::End = key { true } else { false }
+}
+
+fn edge(key: Key) -> bool
+    ensures { λ r. ⌜ r ≡ isEdge key ⌝ }
+{
+    if let Key::Edge = key { true } else { false }
 }
 
 // The key that is due, the sheet's format (0 before its line), and what is still to come: variable lines; automata, the
@@ -155,6 +161,15 @@ impl Due {
         ensures { λ r. ⌜ r ≡ dueFirst ⌝ }
     {
         only(0, Key::Format)
+    }
+
+    // A list of what it writes stands behind the line that is due: behind an edge, from the first format with lists on.
+    pub fn listed(self) -> bool
+        ensures { λ r. ⌜ r ≡ isListed self ⌝ }
+    {
+        let key = self.key;
+        let format = self.format;
+        edge(key) & (Model::WRITES_FORMAT <= format)
     }
 
     // What is due after the line that is due was read; `count` is its number, if it is the format's line or one that

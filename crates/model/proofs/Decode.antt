@@ -14,7 +14,7 @@ use Rattle.model.specs.Basic.{between, every, exists, keep, countUp, lac
 use Rattle.model.specs.Bounds.{maxActions, leastNumber, greatestNumber, bias}
 use Rattle.model.specs.Predicate.{Pred, Word, words, nodeCount, namesOutside, namesNew, range, allOf, anyOf, notWord, impWord, eqWord, leWord, numWord, oldWord, newWord, addWord, subWord, mulWord, ifWord, stray}
 use Rattle.model.specs.Composition.{Tree, Node, nodes, starts, treeSize, par, syn, ini, leaf, parNode, synNode, iniNode, leafNode, strayNode}
-use Rattle.model.specs.Model.{Model}
+use Rattle.model.specs.Model.{Edge, Model}
 use Rattle.model.specs.Lines.{Key, Entry, formatLine, actionsLine, variablesLine, variableLine, automataLine, syncLine, locationsLine, initLine, invLine, edgesLine, edgeLine, composeLine, keyOf, thenDue, Reading, noted}
 use Rattle.model.specs.Limits.{inRange, treeInRange, numbersInRange, rises, treeRises, listsFilled, isTooDeep, exceedsSpan, passesNodes, variableCount, broken, startsFault, contentFault, faultOf, withinLimits}
 use Rattle.model.specs.Table.{biased, unbiased, nodeWord, kindOf, argumentOf, code, kinds, wordOf, setWords, predWords, nodeWords, startWords, lineWords, lowBits, highBits, bit, setOf, split, splitNumber, splitPair, splitPred, edgeTo, splitEdge, andNode, overNode, splitNodes, andPred, splitPreds, splitStarts, treeWith, splitTree, splitEntry, decode}
@@ -151,6 +151,12 @@ pub in-range : (r : Reading) (e : Entry) → faultOf r e ≡ none → numbersInR
 unfolding faultOf
 in-range r e h = not-false _ (unbroken 3 (not (numbersInRange e)) (contentFault r e) h .0)
 
+pub update-ranged : (r : Reading) (e : Edge) → faultOf r (edgeLine e) ≡ none → every inRange (words (e .update)) ≡ true
+unfolding numbersInRange
+update-ranged r e h =
+    let z = in-range r (edgeLine e) h in
+    and-right (leb (e .to) 31) _ (and-right (leb (e .action) 63) _ (and-right (leb (e .from) 31) _ z))
+
 -- with the numbers in range, the first row that an entry could break
 pub unsaid : (r : Reading) (e : Entry) (row : ℕ) (b : Bool) (rest : Option ℕ) → faultOf r e ≡ none → contentFault r e ≡ broken row (not b) rest → b ≡ true
 unfolding faultOf
@@ -190,9 +196,7 @@ entry-back r (locationsLine n) rest h = refl
 entry-back r (initLine p) rest h = pred-back initLine p rest (in-range r (initLine p) h)
 entry-back r (invLine p) rest h = pred-back invLine p rest (in-range r (invLine p) h)
 entry-back r (edgesLine n) rest h = refl
-entry-back r (edgeLine e) rest h =
-    let z = in-range r (edgeLine e) h in
-    pred-back (edgeTo (e .from) (e .action) (e .to)) (e .update) rest (and-right (leb (e .to) 31) _ (and-right (leb (e .action) 63) _ (and-right (leb (e .from) 31) _ z)))
+entry-back r (edgeLine e) rest h = pred-back (edgeTo (e .from) (e .action) (e .to)) (e .update) rest (update-ranged r e h)
 entry-back r (composeLine c) rest h =
     let up : treeRises (r .model .actions) c ≡ true = unsaid r (composeLine c) 5 (treeRises (r .model .actions) c) _ h refl in
     let ranged = in-range r (composeLine c) h in

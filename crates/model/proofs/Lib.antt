@@ -9,6 +9,7 @@ pub mod LimitLines
 pub mod LimitsLaws
 pub mod WordKinds
 pub mod Bits
+pub mod Written
 pub mod Decode
 pub mod Sizes
 pub mod TableLaws

@@ -1,12 +1,15 @@
 -- The lines of a model: taken one after the other they give the model back, and they stand in the order that is due.
 use Prim.Native.Nat.{ℕ, zero, suc, _+_}
 use mathlib.Core.Path.{_≡_, refl, sym, _∙_, ap}
+use mathlib.Core.Bool.{Bool, true, false}
 use mathlib.Core.List.{List, [], _∷_, _++_, append-assoc, append-nil, map, flatMap}
 use lib.ListN.{length}
+use Rattle.model.specs.Basic.{every}
 use Rattle.model.specs.Predicate.{Pred, Range, nodeCount}
 use Rattle.model.specs.Composition.{Tree, leaf}
 use Rattle.model.specs.Model.{Location, Edge, Automaton, Model}
 use Rattle.model.specs.Lines.{Key, format, actions, variables, variable, automata, sync, locations, init, inv, edges, edge, compose, Entry, formatLine, actionsLine, variablesLine, variableLine, automataLine, syncLine, locationsLine, initLine, invLine, edgesLine, edgeLine, composeLine, keyOf, locationLines, automatonLines, lines, dueAtFirst, repeat, thenDue, Reading, atFirst, withModel, withAutomata, withPred, withNodes, onLast, addLocation, addEdge, noted}
+use Rattle.model.proofs.Tests.{and-intro, and-left, and-right, every-append, never}
 
 -- the lines of a block, and what they are taken to
 abbrev pub notedAll : Reading → List Entry → Reading
@@ -83,6 +86,83 @@ noted-lines m =
     ap (λ (q : Reading). q .model) (noted-append r₂ (map variableLine (m .variables)) (automataLine (length (m .automata)) ∷ (flatMap automatonLines (m .automata) ++ (composeLine (m .tree) ∷ [])))) ∙
     ap (λ (q : Reading). q .model) (noted-append r₃ (flatMap automatonLines (m .automata)) (composeLine (m .tree) ∷ [])) ∙
     ap (λ (q : Model). sheet (q .format) (q .actions) (q .variables) (q .automata) (m .tree)) h₂
+
+-- Only its own line sets the format, and no other line of a model is one.
+unfoldable pub keepsFormat : Entry → Bool
+keepsFormat (formatLine n) = false
+keepsFormat (actionsLine n) = true
+keepsFormat (variablesLine n) = true
+keepsFormat (variableLine x) = true
+keepsFormat (automataLine n) = true
+keepsFormat (syncLine list) = true
+keepsFormat (locationsLine n) = true
+keepsFormat (initLine p) = true
+keepsFormat (invLine p) = true
+keepsFormat (edgesLine n) = true
+keepsFormat (edgeLine e) = true
+keepsFormat (composeLine c) = true
+
+pub format-kept : (r : Reading) (e : Entry) → keepsFormat e ≡ true → noted r e .model .format ≡ r .model .format
+unfolding keepsFormat noted withModel withAutomata withPred withNodes
+format-kept r (formatLine n) h = never h
+format-kept r (actionsLine n) h = refl
+format-kept r (variablesLine n) h = refl
+format-kept r (variableLine x) h = refl
+format-kept r (automataLine n) h = refl
+format-kept r (syncLine list) h = refl
+format-kept r (locationsLine n) h = refl
+format-kept r (initLine p) h = refl
+format-kept r (invLine p) h = refl
+format-kept r (edgesLine n) h = refl
+format-kept r (edgeLine e) h = refl
+format-kept r (composeLine c) h = refl
+
+all-kept : {A : Type 0} (f : A → List Entry) → ((x : A) → every keepsFormat (f x) ≡ true) → (xs : List A) → every keepsFormat (flatMap f xs) ≡ true
+unfolding every flatMap
+all-kept f h [] = refl
+all-kept f h (x ∷ xs) = rw (every-append keepsFormat (f x) (flatMap f xs)) (and-intro (h x) (all-kept f h xs))
+
+each-kept : {A : Type 0} (f : A → Entry) → ((x : A) → keepsFormat (f x) ≡ true) → (xs : List A) → every keepsFormat (map f xs) ≡ true
+unfolding every
+each-kept f h [] = refl
+each-kept f h (x ∷ xs) = and-intro (h x) (each-kept f h xs)
+
+automaton-kept : (x : Automaton) → every keepsFormat (automatonLines x) ≡ true
+unfolding every keepsFormat automatonLines locationLines
+automaton-kept x =
+    rw (every-append keepsFormat (flatMap locationLines (x .locations)) (edgesLine (length (x .edges)) ∷ map edgeLine (x .edges)))
+    (and-intro (all-kept locationLines (λ l. refl) (x .locations)) (each-kept edgeLine (λ e. refl) (x .edges)))
+
+pub lines-keep : (m : Model) → (rest : List Entry) × (lines m ≡ formatLine (m .format) ∷ rest) × (every keepsFormat rest ≡ true)
+unfolding lines every keepsFormat
+lines-keep m =
+    let tail = flatMap automatonLines (m .automata) ++ (composeLine (m .tree) ∷ []) in
+    let later : every keepsFormat tail ≡ true = rw (every-append keepsFormat (flatMap automatonLines (m .automata)) (composeLine (m .tree) ∷ [])) (and-intro (all-kept automatonLines automaton-kept (m .automata)) refl) in
+    (_, refl, rw (every-append keepsFormat (map variableLine (m .variables)) (automataLine (length (m .automata)) ∷ tail)) (and-intro (each-kept variableLine (λ x. refl) (m .variables)) later))
+
+-- What g gives for an entry in a format, along the reading of entries: for the lines of a model it is by the model's
+-- format, if g does not ask for the format at the line that says it.
+module _ {A : Type 0} (g : (format : ℕ) → Entry → List A) where
+  abbrev pub along : Reading → List Entry → List A
+  along r [] = []
+  along r (e ∷ es) = g (r .model .format) e ++ along (noted r e) es
+
+  along-kept : (es : List Entry) (r : Reading) → every keepsFormat es ≡ true → along r es ≡ flatMap (g (r .model .format)) es
+  unfolding every flatMap
+  along-kept [] r h = refl
+  along-kept (e ∷ es) r h =
+      let same = format-kept r e (and-left (keepsFormat e) _ h) in
+      ap (λ (l : List A). g (r .model .format) e ++ l) (along-kept es (noted r e) (and-right (keepsFormat e) _ h) ∙ ap (λ (f : ℕ). flatMap (g f) es) same)
+
+  pub along-lines : ((f h n : ℕ) → g f (formatLine n) ≡ g h (formatLine n)) → (m : Model) → along atFirst (lines m) ≡ flatMap (g (m .format)) (lines m)
+  unfolding flatMap noted withModel
+  along-lines free m =
+      let k = lines-keep m in
+      let n = m .format in
+      ap (along atFirst) (k .1) ∙
+      ap (λ (l : List A). g (atFirst .model .format) (formatLine (m .format)) ++ l) (along-kept (k .0) (noted atFirst (formatLine (m .format))) (k .2)) ∙
+      ap (λ (l : List A). l ++ flatMap (g (m .format)) (k .0)) (free (atFirst .model .format) (m .format) (m .format)) ∙
+      ap (flatMap (g (m .format))) (sym (k .1))
 
 -- the lines of a model stand in the order that is due
 abbrev pub Follows : List Entry → Reading → List Key → Model → Type 0

@@ -7,7 +7,11 @@ abbrev pub firstFormat : ℕ
 firstFormat = 1
 
 abbrev pub lastFormat : ℕ
-lastFormat = 1
+lastFormat = 2
+
+-- the first format with a line `writes=` after each edge (request (f))
+abbrev pub writesFormat : ℕ
+writesFormat = 2
 
 abbrev pub maxActions : ℕ
 maxActions = 63

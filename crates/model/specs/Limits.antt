@@ -1,7 +1,7 @@
 -- "Refused": what the rows up to 16 ask of what a line says. The text's rows cite these conditions, and so does row 19,
 -- since a table says the same things. (Rows 2 and 6 are about spelling alone; the conditions of 7 and 8 stand in
 -- Predicate.)
-use Prim.Native.Nat.{ℕ, _+_}
+use Prim.Native.Nat.{ℕ, suc, _+_}
 use mathlib.Core.Bool.{Bool, true, false, not, _&&_, _||_}
 use mathlib.Core.List.{List, [], _∷_, flatMap}
 use mathlib.Core.Option.{Option, none, some}
@@ -70,6 +70,11 @@ isCrossed x = not (leZ (x .low) (x .high))
 unfoldable pub rises : (A last : ℕ) → List ℕ → Bool
 rises A last [] = true
 rises A last (k ∷ ks) = elim (ltb last k && leb k A) [ true ↦ rises A k ks | false ↦ false ]
+
+-- the same of a list of variables, whose numbers begin with 0, and which rows 3 and 7 keep to the model's
+unfoldable pub ascends : (least : ℕ) → List ℕ → Bool
+ascends least [] = true
+ascends least (k ∷ ks) = elim (leb least k) [ true ↦ ascends (suc k) ks | false ↦ false ]
 
 unfoldable pub treeRises : ℕ → Tree → Bool
 treeRises A (par c d) = treeRises A c && treeRises A d

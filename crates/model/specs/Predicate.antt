@@ -6,8 +6,8 @@ use lib.IntN.{ℤ, pos, _+ℤ_, _-ℤ_, _*ℤ_}
 use lib.Signed.{leZ}
 use lib.ListN.{length, getD}
 use lib.Dec.{eqb, leb}
-use Rattle.model.specs.Basic.{eqZ, exists}
-use Rattle.model.specs.Bounds.{leastValue, greatestValue}
+use Rattle.model.specs.Basic.{eqZ, exists, keep, countUp}
+use Rattle.model.specs.Bounds.{maxVariables, leastValue, greatestValue}
 
 mutual
   -- `all K P..`, `any K P..`, `not P`, `imp P P`, `eq X X`, `le X X`; K is the number of operands
@@ -148,6 +148,10 @@ namesNew ws = exists (λ w. isNew (named w)) ws
 -- P mentions `nK` ("Steps", the frame rule)
 unfoldable pub mentions : ℕ → Pred → Bool
 mentions k p = exists (λ w. isNewOf k (named w)) (words p)
+
+-- the variables whose new value P mentions, rising: what an edge with this update writes (request (f))
+unfoldable pub written : Pred → List ℕ
+written p = keep (λ k. mentions k p) (countUp 0 maxVariables)
 
 -- how deep the nodes nest; a leaf counts 1
 unfoldable mutual

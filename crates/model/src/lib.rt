@@ -8,7 +8,10 @@ impl Model {
     // The formats that are read.
     pub const FIRST_FORMAT: usize = 1;
 
-    pub const LAST_FORMAT: usize = 1;
+    pub const LAST_FORMAT: usize = 2;
+
+    // The first format with a line `writes=` after each edge.
+    pub const WRITES_FORMAT: usize = 2;
 
     // Counts and numbers in a sheet.
     pub const ACTIONS: u32 = 63;

@@ -3,8 +3,9 @@
 ghost use mathlib.Core.Path.{_≡_};
 ghost use Rattle.read_form.specs.Form.{valueAfter, fieldIn, misparted, misformed};
 
-// Sound: the line's number if it counts something or is the format's, the nodes of its predicate, and the place of the
-// next word. Fault: the smallest row that it breaks.
+// Sound: the line's number if it counts something or is the format's, and of an edge the set of the variables whose
+// new value it does not mention; the nodes of its predicate; and the place of the next word. Fault: the smallest row
+// that it breaks.
 pub enum LineRead {
     Sound(usize, usize, usize),
     Fault(u32),

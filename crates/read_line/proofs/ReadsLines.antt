@@ -18,7 +18,7 @@ use Rattle.model.specs.Predicate.{range}
 use Rattle.read_form.specs.declared.LineRead.the-variants.{Sound, Fault}
 use Rattle.table_append.specs.Append.{nextPlace, put}
 use Rattle.read_form.specs.Form.{lineOf}
-use Rattle.read_line.specs.Exact.{ReadsLines}
+use Rattle.read_line.specs.Exact.{numberTold, ReadsLines}
 use Rattle.read_line.specs.Line.{lineWith, lineWithAfter, lineRead, lineAfter}
 use Rattle.read_form.proofs.Outcomes.{answered-fault, answered-sound, written-sound}
 use Rattle.read_number_line.proofs.NumberLines.{format-read, format-left, actions-read, actions-left, variables-read, variables-left, automata-read, automata-left, locations-read, locations-left, edges-read, edges-left}
@@ -46,9 +46,9 @@ module _ (r : Reading) (c : Counts) (words : List ℕ) (at : ℕ) (s : Bytes) (e
   faulty compose row h = compose-faulty r c words n d s ended mostWords mostWords short short at row h
 
   sound : (k : Key) → fault r k (lineOf s ended) ≡ none
-      → (lineRead s ended (codeOf k) c words at ≡ Sound (numberOf (entry k (lineOf s ended))) (nodesOf (entry k (lineOf s ended))) (nextPlace at (length (lineWords (entry k (lineOf s ended))))))
+      → (lineRead s ended (codeOf k) c words at ≡ Sound (numberTold (entry k (lineOf s ended))) (nodesOf (entry k (lineOf s ended))) (nextPlace at (length (lineWords (entry k (lineOf s ended))))))
       × (lineAfter s ended (codeOf k) c words at ≡ put at (lineWords (entry k (lineOf s ended))) words)
-  unfolding lineRead lineAfter lineWith lineWithAfter codeOf entry numberOf nodesOf lineWords theRange range
+  unfolding lineRead lineAfter lineWith lineWithAfter codeOf entry numberOf numberTold nodesOf lineWords theRange range
   sound format h = (format-read r s ended at words ∙ answered-sound _ _ h, format-left r s ended at words ∙ written-sound _ _ words h)
   sound actions h = (actions-read r s ended at words ∙ answered-sound _ _ h, actions-left r s ended at words ∙ written-sound _ _ words h)
   sound variables h = (variables-read r s ended at words ∙ answered-sound _ _ h, variables-left r s ended at words ∙ written-sound _ _ words h)

@@ -5,7 +5,7 @@ use mathlib.Core.Bool.{Bool, true, false, not}
 use mathlib.Core.List.{List, [], _∷_}
 use mathlib.Core.Option.{Option, none, some}
 use native.Mathlib.Omega.{arith}
-use lib.ListN.{length, take, length-drop}
+use lib.ListN.{length, take, drop, length-drop}
 use Rattle.model.specs.Bounds.{maxNodes}
 use Rattle.model.specs.Limits.{broken}
 use Rattle.line_order.specs.declared.Counts.{Counts}
@@ -20,14 +20,15 @@ use Rattle.read_form.proofs.Outcomes.{answered-fault, answered-sound, written-f
 use Rattle.read_edge.specs.declared.Ends.{Ends}
 use Rattle.read_edge.specs.declared.Ends.the-variants.{Are, Unsound}
 use Rattle.table_append.specs.Append.{nextPlace, put}
+use Rattle.table_writes.specs.Sets.{allVariables, restOf}
 use Rattle.read_form.specs.Outcome.{thenRow}
 use Rattle.read_form.specs.Form.{valueAfter, fieldIn, misformed}
 use Rattle.read_form.proofs.FieldLaws.{field-within}
 use Rattle.read_edge.specs.Edge.{endsSound, endsIn, astray}
 use Rattle.read_edge.proofs.EdgeLaws.{ends-none, EndsOf, ends-some}
 use Rattle.model.proofs.Decode.{is-broken, not-broken}
-use Rattle.read_predicate_line.specs.Predicate.{mostWords, predicateRead, predicateFault, counted, lineTold, lineAfter}
-use Rattle.read_predicate_line.specs.Edge.{valueFault, valueWords, valueRead, afterValue, edgeName, edgeFault, edgeRead, edgeAfter}
+use Rattle.read_predicate_line.specs.Predicate.{mostWords, predicateRead, predicateFault, counted, lineAfter}
+use Rattle.read_predicate_line.specs.Edge.{edgeTold, valueFault, valueWords, valueRead, afterValue, edgeName, edgeFault, edgeRead, edgeAfter}
 use Rattle.read_predicate_line.proofs.PredicateLaws.{told-row, told-full, told-fine, told-size, told-few, told-stand, fault-same}
 use Rattle.table_append.proofs.Joined.{more-next, more-put}
 
@@ -132,11 +133,12 @@ module _ (v : Bytes) (c : Counts) (t : List ℕ) (at : ℕ) (old : List ℕ) (hi
                 ap (λ (l : List ℕ). from ∷ action ∷ to ∷ l) stand ∙
                 rw (← ends-of .first, ← ends-of .second, ← ends-of .third)
 
-            pub value-are : (next : ℕ) → next ≡ nextPlace at (suc (suc (suc (suc (length (take n new)))))) → Sound 0 n next ≡ valueRead c t v (length old) high at
+            pub value-are : (rest : ℕ) → rest ≡ restOf allVariables (take n new) → (next : ℕ) → next ≡ nextPlace at (suc (suc (suc (suc (length (take n new)))))) → Sound rest n next ≡ valueRead c t v (length old) high at
             unfolding valueRead
-            value-are next hn =
-                ap (Sound 0 n) (hn ∙ ap (λ (l : List ℕ). nextPlace at (length l)) all-words) ∙
-                ap (λ (m : ℕ). Sound 0 m (nextPlace at (length (valueWords v)))) size ∙
+            value-are rest hr next hn =
+                ap (Sound rest n) (hn ∙ ap (λ (l : List ℕ). nextPlace at (length l)) all-words) ∙
+                ap (λ (m : ℕ). Sound rest m (nextPlace at (length (valueWords v)))) size ∙
+                ap (λ (m : ℕ). Sound m (length (codesOf (fieldIn 3 v))) (nextPlace at (length (valueWords v)))) (hr ∙ ap (λ (l : List ℕ). restOf allVariables (drop 1 l)) stand) ∙
                 sym (answered-sound _ _ unbroken-all)
 
             pub value-put : (after : List ℕ) → after ≡ put at (from ∷ action ∷ to ∷ n ∷ take n new) t → after ≡ afterValue c t v (length old) high at
@@ -168,8 +170,8 @@ module _ (s : Bytes) (ended : Bool) (c : Counts) (t : List ℕ) (room high at : 
     pub edge-value : (r : LineRead) → r ≡ valueRead c t v room high at → r ≡ edgeRead s ended c t room high at
     unfolding valueRead edgeRead
     edge-value r hr =
-        hr ∙ ap (λ (o : Option ℕ). lineTold o (length (codesOf (fieldIn 3 v))) at (valueWords v)) rest-row ∙
-        ap (λ (x : Bytes). lineTold (edgeFault s ended c t room high) (length (codesOf (fieldIn 3 x))) at (valueWords x)) hv
+        hr ∙ ap (λ (o : Option ℕ). edgeTold o (codesOf (fieldIn 3 v)) at (valueWords v)) rest-row ∙
+        ap (λ (x : Bytes). edgeTold (edgeFault s ended c t room high) (codesOf (fieldIn 3 x)) at (valueWords x)) hv
 
     pub edge-value-put : (new : List ℕ) → new ≡ afterValue c t v room high at → new ≡ edgeAfter s ended c t room high at
     unfolding afterValue edgeAfter
@@ -193,7 +195,7 @@ module _ (s : Bytes) (ended : Bool) (c : Counts) (t : List ℕ) (at room : ℕ) 
 
   pub edge-room : edgeRead s ended c t room room at ≡ edgeRead s ended c t mostWords mostWords at
   unfolding edgeRead
-  edge-room = ap (λ (o : Option ℕ). lineTold o (length (codesOf (fieldIn 3 value))) at (valueWords value)) edge-same
+  edge-room = ap (λ (o : Option ℕ). edgeTold o (codesOf (fieldIn 3 value)) at (valueWords value)) edge-same
 
   pub edge-room-after : edgeAfter s ended c t room room at ≡ edgeAfter s ended c t mostWords mostWords at
   unfolding edgeAfter

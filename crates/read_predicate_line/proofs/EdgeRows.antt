@@ -2,19 +2,18 @@
 use Prim.Native.Nat.{ℕ, _≤_}
 use mathlib.Core.Path.{_≡_, refl, sym, _∙_, ap, ap₂}
 use mathlib.Core.Bool.{Bool, true, false, not, _&&_}
-use mathlib.Core.List.{List, [], _∷_}
+use mathlib.Core.List.{List, [], _∷_, map}
 use mathlib.Core.Option.{Option, none, some}
 use native.Mathlib.Omega.{arith}
-use lib.ListN.{length}
+use lib.ListN.{length, drop}
 use lib.IntN.{pos}
 use Rattle.model.specs.Bounds.{maxBytes, maxActions, lastLocation}
-use Rattle.model.specs.Predicate.{Range, nodeCount}
+use Rattle.model.specs.Predicate.{Range, words, nodeCount}
 use Rattle.model.specs.Lines.{edge, Reading}
 use Rattle.model.specs.Limits.{broken, isAstray, variableCount}
-use Rattle.model.specs.Table.{predWords, lineWords}
+use Rattle.model.specs.Table.{code, predWords, lineWords}
 use Rattle.model.proofs.Decode.{unbroken}
 use Rattle.line_order.specs.declared.Counts.{Counts}
-use Rattle.line_order.specs.Due.{numberOf}
 use Rattle.line_order.specs.Counts.{nodesOf, Counted}
 use Rattle.table_line.specs.Exact.{Declared}
 use Rattle.format.specs.Bytes.{Bytes}
@@ -24,6 +23,7 @@ use Rattle.format.specs.Spelling.{spelling}
 use Rattle.format.specs.Tokens.{tokens, sounds}
 use Rattle.read_form.specs.declared.LineRead.the-variants.{Sound, Fault}
 use Rattle.table_append.specs.Append.{nextPlace, put}
+use Rattle.table_writes.specs.Sets.{allVariables, restOf}
 use Rattle.read_form.specs.Outcome.{thenRow}
 use Rattle.read_form.specs.Form.{lineOf, valueAfter, fieldIn, misformed, fieldsOf}
 use Rattle.read_edge.specs.Edge.{endsSound, astray}
@@ -77,13 +77,13 @@ module _ (s : Bytes) (ended : Bool) where
   unfolding lineWords entry field fields is place valueOf fieldIn thePred predOf wordsIn predTokens textPred spelling
   entry-words = refl
 
+  entry-codes : drop 1 (predWords (textPred (fieldIn 3 value))) ≡ map code (words (thePred edge (lineOf s ended)))
+  unfolding predWords field fields is place valueOf fieldIn thePred predOf wordsIn predTokens textPred spelling
+  entry-codes = refl
+
   entry-nodes : nodesOf (entry edge (lineOf s ended)) ≡ nodeCount (textPred (fieldIn 3 value))
   unfolding nodesOf entry field fields is place valueOf fieldIn thePred predOf wordsIn predTokens textPred spelling
   entry-nodes = refl
-
-  entry-number : numberOf (entry edge (lineOf s ended)) ≡ 0
-  unfolding numberOf entry
-  entry-number = refl
 
   module _ (r : Reading) (c : Counts) (t : List ℕ) (n : Counted r c) (d : Declared t r) (short : length s ≤ maxBytes) where
     astray-is : (from action to : ℕ) → astray c from action to ≡ isAstray r from action to
@@ -108,7 +108,7 @@ module _ (s : Bytes) (ended : Bool) where
       edge-faulty row h = answered-fault _ row _ (edge-rows ∙ h)
 
       pub edge-sound : fault r edge (lineOf s ended) ≡ none
-          → (edgeRead s ended c t mostWords mostWords at ≡ Sound (numberOf (entry edge (lineOf s ended))) (nodesOf (entry edge (lineOf s ended))) (nextPlace at (length (lineWords (entry edge (lineOf s ended))))))
+          → (edgeRead s ended c t mostWords mostWords at ≡ Sound (restOf allVariables (map code (words (thePred edge (lineOf s ended))))) (nodesOf (entry edge (lineOf s ended))) (nextPlace at (length (lineWords (entry edge (lineOf s ended))))))
           × (edgeAfter s ended c t mostWords mostWords at ≡ put at (lineWords (entry edge (lineOf s ended))) t)
       unfolding edgeRead edgeAfter edgeFault valueFault valueWords
       edge-sound h =
@@ -118,9 +118,10 @@ module _ (s : Bytes) (ended : Bool) where
           let a = accepted-row (fieldIn 3 value) false c t mostWords mostWords (first-none _ _ u) in
           let w : valueWords value ≡ lineWords (entry edge l) =
           ap (λ (x : List ℕ). naturalOf (fieldIn 0 value) ∷ naturalOf (fieldIn 1 value) ∷ naturalOf (fieldIn 2 value) ∷ x) (accepted-words (fieldIn 3 value) a) ∙ sym entry-words in
+          let codes : codesOf (fieldIn 3 value) ≡ map code (words (thePred edge l)) = ap (drop 1) (accepted-words (fieldIn 3 value) a) ∙ entry-codes in
           let z : length (codesOf (fieldIn 3 value)) ≡ nodesOf (entry edge l) = a .size ∙ sym entry-nodes in (
-            answered-sound _ _ f ∙ ap₂ (λ (m : ℕ) (x : List ℕ). Sound 0 m (nextPlace at (length x))) z w ∙
-                ap (λ (m : ℕ). Sound m (nodesOf (entry edge l)) (nextPlace at (length (lineWords (entry edge l))))) (sym entry-number),
+            answered-sound _ _ f ∙ ap₂ (λ (m : ℕ) (x : List ℕ). Sound (restOf allVariables (codesOf (fieldIn 3 value))) m (nextPlace at (length x))) z w ∙
+                ap (λ (m : List ℕ). Sound (restOf allVariables m) (nodesOf (entry edge l)) (nextPlace at (length (lineWords (entry edge l))))) codes,
             written-sound _ _ t f ∙ ap (λ (x : List ℕ). put at x t) w,
           )
 

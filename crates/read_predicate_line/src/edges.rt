@@ -15,6 +15,7 @@ ghost use lib.ListN.{length, take};
 ghost use Rattle.model.specs.Bounds.{maxNodes};
 ghost use Rattle.read_predicate.specs.Scratch.{Scratch};
 ghost use Rattle.table_append.specs.Append.{nextPlace, put};
+ghost use Rattle.table_writes.specs.Sets.{allVariables, restOf};
 ghost use Rattle.read_predicate_line.specs.Edge.{valueRead, afterValue, edgeRead, edgeAfter};
 
 // FROM, ACT, TO, and then a predicate's words.
@@ -35,6 +36,14 @@ fn append_edge(
     let third = table_append::append_one(words, second, action);
     let fourth = table_append::append_one(words, third, to);
     predicates::append_nodes(words, fourth, nodes, n)
+}
+
+// The variables whose new value none of the first n nodes names.
+fn left_alone(nodes: &[u32], n: usize) -> usize
+    ensures { λ r. ⌜ r ≡ restOf allVariables (take n (now (nodes .entry))) ⌝ }
+{
+    let set = table_writes::unwritten(nodes, 0, n);
+    set as usize
 }
 
 // What stands after the key: row 3, the rows of P, where new values may stand, and then row 12. Nothing is written
@@ -63,7 +72,8 @@ fn read_value(
             if astray(counts, from, action, to) {
                 return LineRead::Fault(12);
             }
-            LineRead::Sound(0, n, append_edge(words, at, from, action, to, nodes, n))
+            let rest = left_alone(nodes, n);
+            LineRead::Sound(rest, n, append_edge(words, at, from, action, to, nodes, n))
         }
         Nodes::Unsound(row) => LineRead::Fault(row),
         Nodes::Full => LineRead::Fault(6),

@@ -1,7 +1,7 @@
 -- Each way out of the code of src/sheet.rt.
 use Prim.Native.Nat.{ℕ, zero, suc, _+_, _-_, _≤_, _<_}
 use mathlib.Core.Path.{_≡_, refl, sym, _∙_, ap}
-use mathlib.Core.Bool.{Bool, true, false}
+use mathlib.Core.Bool.{Bool, true, false, not, _&&_, _||_}
 use mathlib.Core.List.{List}
 use native.Mathlib.Numerals.{sub-one}
 use native.Mathlib.Omega.{arith}
@@ -9,9 +9,10 @@ use lib.ListN.{length, take, drop}
 use lib.Dec.{leb, ltb}
 use borrow.Author.Tests.{le-leb, lt-leb}
 use Rattle.model.specs.Bounds.{maxBytes}
+use Rattle.model.proofs.Tests.{or-left, or-none, or-right}
 use Rattle.line_order.specs.declared.Due.{Due}
 use Rattle.line_order.specs.declared.Counts.{Counts}
-use Rattle.line_order.specs.Due.{isEnd, dueFirst, dueAfter}
+use Rattle.line_order.specs.Due.{isEnd, isListed, dueFirst, dueAfter}
 use Rattle.line_order.specs.Counts.{countsNone, countsAfter}
 use Rattle.format.specs.Bytes.{Bytes, LF}
 use Rattle.text_bytes.specs.Find.{firstFrom}
@@ -20,24 +21,31 @@ use Rattle.read_form.specs.declared.LineRead.{LineRead}
 use Rattle.read_form.specs.declared.LineRead.the-variants as LineRead
 use Rattle.read_line.specs.Line.{lineRead, lineAfter}
 use Rattle.read_line.proofs.Kept.{line-kept}
+use Rattle.read_writes_line.specs.declared.WritesRead.{WritesRead}
+use Rattle.read_writes_line.specs.declared.WritesRead.the-variants as WritesRead
+use Rattle.read_writes_line.specs.Writes.{told, writesRow}
 use Rattle.reader.specs.declared.ReadAnswer.{ReadAnswer}
 use Rattle.reader.specs.declared.ReadAnswer.the-variants.{Accepted, Refused}
 use Rattle.reader.specs.declared.Place.{Place}
 use Rattle.reader.specs.declared.Round.{Round}
 use Rattle.reader.specs.declared.Round.the-variants.{Done, On}
-use Rattle.reader.specs.Read.{placeFirst, placeAfter, Outcome, stopAt, lineAt, onLine, lineRound, lineRoundAfter, roundAt, roundAfter, onRound, readFrom, sheetRead}
+use Rattle.reader.specs.Read.{placeFirst, placeAfter, placeBehind, Outcome, stopAt, lineAt, onLine, onList, listRound, lineRound, lineRoundAfter, roundAt, roundAfter, onRound, readFrom, sheetRead}
 
 -- `Place::first` and `Place::after`
-pub first-by : (d : Due) (k : Counts) → d ≡ dueFirst → k ≡ countsNone → _≡_ {A = Place} (record { due = d; counts = k; at = 0; byte = 0 }) placeFirst
+pub first-by : (d : Due) (k : Counts) → d ≡ dueFirst → k ≡ countsNone → _≡_ {A = Place} (record { due = d; counts = k; at = 0; byte = 0; list = false; rest = 0 }) placeFirst
 unfolding placeFirst
 first-by d k p q = rw (p, q)
 
-pub after-by : (s : Place) (number nodes next stop : ℕ) (d : Due) (k : Counts) → d ≡ dueAfter (s .due) number → k ≡ countsAfter (s .counts) (s .due .key) number nodes
-    → _≡_ {A = Place} (record { due = d; counts = k; at = next; byte = stop + 1 }) (placeAfter s number nodes next stop)
+pub after-by : (s : Place) (number nodes next stop : ℕ) (d : Due) (k : Counts) (b : Bool) → d ≡ dueAfter (s .due) number → k ≡ countsAfter (s .counts) (s .due .key) number nodes → b ≡ isListed (s .due)
+    → _≡_ {A = Place} (record { due = d; counts = k; at = next; byte = stop + 1; list = b; rest = number }) (placeAfter s number nodes next stop)
 unfolding placeAfter
-after-by s number nodes next stop d k p q = rw (p, q)
+after-by s number nodes next stop d k b p q e = rw (p, q, e)
 
-pub ruleset place-laws = (first-by, after-by)
+pub behind-by : (s : Place) (stop : ℕ) → _≡_ {A = Place} (record { due = s .due; counts = s .counts; at = s .at; byte = stop + 1; list = false; rest = 0 }) (placeBehind s stop)
+unfolding placeBehind
+behind-by s stop = refl
+
+pub ruleset place-laws = (first-by, after-by, behind-by)
 
 -- `stop_from`
 pub stop-after : (text : Bytes) (at r : ℕ) → r ≡ firstFrom text at LF → at < length text → at ≤ r
@@ -64,39 +72,73 @@ module _ (text : Bytes) (n : ℕ) (p : Place) (words : List ℕ) (stop : ℕ) (h
 
 pub ruleset line-laws = (line-fault, line-on, line-words)
 
+-- `list`
+module _ (text : Bytes) (n : ℕ) (p : Place) (stop : ℕ) (hs : stop ≡ firstFrom text (p .byte) LF) (r : WritesRead)
+    (hr : r ≡ told (writesRow (take (stop - p .byte) (drop (p .byte) text)) (ltb stop (length text)) (p .counts .variables) (p .rest))) where
+  by-list : onList text n p r ≡ listRound text n p
+  unfolding listRound stopAt lineAt
+  by-list = rw (hr, hs)
+
+  pub list-fault : (row : ℕ) → r ≡ WritesRead.Fault row → Done (Refused row n) ≡ listRound text n p
+  unfolding onList
+  list-fault row h = rw h at by-list
+
+  pub list-on : r ≡ WritesRead.Sound → (q : Place) → q ≡ placeBehind p stop → On q ≡ listRound text n p
+  unfolding onList stopAt
+  list-on h q hq = rw (hq, hs) (rw h at by-list)
+
+pub ruleset list-laws = (list-fault, list-on)
+
 -- `round`
 module _ (text : Bytes) (n : ℕ) (p : Place) (words : List ℕ) (e : Bool) (he : e ≡ isEnd (p .due .key)) where
   module _ (h : length text ≤ p .byte) where
-    pub round-done : e ≡ true → Done Accepted ≡ roundAt text n p words
+    pub round-done : (e && not (p .list)) ≡ true → Done Accepted ≡ roundAt text n p words
     unfolding roundAt
-    round-done b = rw (le-leb (length text) (p .byte) h, sym he ∙ b, roundAt)
+    round-done b = rw (le-leb (length text) (p .byte) h, ap (λ (x : Bool). x && not (p .list)) (sym he) ∙ b, roundAt)
 
-    pub round-lacking : e ≡ false → Done (Refused 2 n) ≡ roundAt text n p words
+    pub round-lacking : (e && not (p .list)) ≡ false → Done (Refused 2 n) ≡ roundAt text n p words
     unfolding roundAt
-    round-lacking b = rw (le-leb (length text) (p .byte) h, sym he ∙ b, roundAt)
+    round-lacking b = rw (le-leb (length text) (p .byte) h, ap (λ (x : Bool). x && not (p .list)) (sym he) ∙ b, roundAt)
 
     pub round-ended : words ≡ roundAfter text p words
     unfolding roundAfter
     round-ended = rw (le-leb (length text) (p .byte) h, roundAfter)
 
   module _ (h : p .byte < length text) where
-    pub round-extra : e ≡ true → Done (Refused 2 n) ≡ roundAt text n p words
+    -- what is due decides
+    abbrev onKey : Bool → Round
+    onKey b = elim b as (λ x. Round) [ true ↦ Done (Refused 2 n) | false ↦ lineRound text n p words ]
+
+    here : roundAt text n p words ≡ elim (p .list) as (λ x. Round) [ true ↦ listRound text n p | false ↦ onKey (isEnd (p .due .key)) ]
     unfolding roundAt
-    round-extra b = rw (lt-leb (length text) (p .byte) h, sym he ∙ b, roundAt)
+    here = rw (lt-leb (length text) (p .byte) h, roundAt)
 
-    pub round-stays : e ≡ true → words ≡ roundAfter text p words
+    pub round-list : p .list ≡ true → (r : Round) → r ≡ listRound text n p → r ≡ roundAt text n p words
+    round-list d r hr = hr ∙ sym (here ∙ ap (λ (b : Bool). elim b as (λ x. Round) [ true ↦ listRound text n p | false ↦ onKey (isEnd (p .due .key)) ]) d)
+
+    pub round-as-was : p .list ≡ true → words ≡ roundAfter text p words
     unfolding roundAfter
-    round-stays b = rw (lt-leb (length text) (p .byte) h, sym he ∙ b, roundAfter)
+    round-as-was d = rw (lt-leb (length text) (p .byte) h, or-right (isEnd (p .due .key)) d, roundAfter)
 
-    pub round-line : e ≡ false → (r : Round) → r ≡ lineRound text n p words → r ≡ roundAt text n p words
-    unfolding roundAt
-    round-line b r hr = hr ∙ rw (lt-leb (length text) (p .byte) h, sym he ∙ b, roundAt)
+    module _ (d : p .list ≡ false) where
+      no-list : roundAt text n p words ≡ onKey e
+      no-list = here ∙ ap (λ (b : Bool). elim b as (λ x. Round) [ true ↦ listRound text n p | false ↦ onKey (isEnd (p .due .key)) ]) d ∙ ap onKey (sym he)
 
-    pub round-words : e ≡ false → (new : List ℕ) → new ≡ lineRoundAfter text p words → new ≡ roundAfter text p words
-    unfolding roundAfter
-    round-words b new hn = hn ∙ rw (lt-leb (length text) (p .byte) h, sym he ∙ b, roundAfter)
+      pub round-extra : e ≡ true → Done (Refused 2 n) ≡ roundAt text n p words
+      round-extra b = sym (no-list ∙ ap onKey b)
 
-pub ruleset round-laws = (round-done, round-lacking, round-ended, round-extra, round-stays, round-line, round-words)
+      pub round-stays : e ≡ true → words ≡ roundAfter text p words
+      unfolding roundAfter
+      round-stays b = rw (lt-leb (length text) (p .byte) h, or-left (p .list) (sym he ∙ b), roundAfter)
+
+      pub round-line : e ≡ false → (r : Round) → r ≡ lineRound text n p words → r ≡ roundAt text n p words
+      round-line b r hr = hr ∙ sym (no-list ∙ ap onKey b)
+
+      pub round-words : e ≡ false → (new : List ℕ) → new ≡ lineRoundAfter text p words → new ≡ roundAfter text p words
+      unfolding roundAfter
+      round-words b new hn = hn ∙ rw (lt-leb (length text) (p .byte) h, or-none (sym he ∙ b) d, roundAfter)
+
+pub ruleset round-laws = (round-done, round-lacking, round-ended, round-list, round-as-was, round-extra, round-stays, round-line, round-words)
 
 -- `sheet`: from each round on, the rounds that are left come to the same outcome
 module _ (text : Bytes) where
@@ -143,7 +185,7 @@ line-round-kept text p words = line-kept (lineAt text p) (ltb (stopAt text p) (l
 
 round-kept : (text : Bytes) (p : Place) (words : List ℕ) → length (roundAfter text p words) ≡ length words
 unfolding roundAfter
-round-kept text p words = go (leb (length text) (p .byte)) (isEnd (p .due .key)) (line-round-kept text p words)
+round-kept text p words = go (leb (length text) (p .byte)) (isEnd (p .due .key) || p .list) (line-round-kept text p words)
   where
     go : (a b : Bool) → length (lineRoundAfter text p words) ≡ length words
         → length {A = ℕ} (elim a as (λ x. List ℕ) [ true ↦ words | false ↦ elim b as (λ x. List ℕ) [ true ↦ words | false ↦ lineRoundAfter text p words ] ]) ≡ length words

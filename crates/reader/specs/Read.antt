@@ -1,13 +1,13 @@
 -- What the reader answers, line by line, and what it leaves in the lent table. It is what `readAnswer` and `tableAfter`
 -- say: the laws answer-exact and after-exact.
 use Prim.Native.Nat.{ℕ, zero, suc, _+_, _-_}
-use mathlib.Core.Bool.{true, false}
+use mathlib.Core.Bool.{true, false, not, _&&_, _||_}
 use mathlib.Core.List.{List, _++_}
 use lib.ListN.{length, take, drop, replicate}
 use lib.Dec.{leb, ltb}
 use Rattle.model.specs.Bounds.{maxBytes, tableWords}
 use Rattle.model.specs.Table.{row18}
-use Rattle.line_order.specs.Due.{isEnd, dueFirst, dueAfter}
+use Rattle.line_order.specs.Due.{isEnd, isListed, dueFirst, dueAfter}
 use Rattle.line_order.specs.Counts.{countsNone, countsAfter}
 use Rattle.format.specs.Bytes.{Bytes, LF}
 use Rattle.format.specs.Reader as Reader
@@ -16,6 +16,9 @@ use Rattle.text_bytes.specs.Find.{firstFrom}
 use Rattle.read_form.specs.declared.LineRead.{LineRead}
 use Rattle.read_form.specs.declared.LineRead.the-variants as LineRead
 use Rattle.read_line.specs.Line.{lineRead, lineAfter}
+use Rattle.read_writes_line.specs.declared.WritesRead.{WritesRead}
+use Rattle.read_writes_line.specs.declared.WritesRead.the-variants as WritesRead
+use Rattle.read_writes_line.specs.Writes.{told, writesRow}
 use Rattle.reader.specs.declared.ReadAnswer.{ReadAnswer}
 use Rattle.reader.specs.declared.ReadAnswer.the-variants.{Accepted, Refused}
 use Rattle.reader.specs.declared.Place.{Place}
@@ -28,7 +31,7 @@ readOf (Reader.refused row line) = Refused row line
 readOf (Reader.accepted m) = Accepted
 
 unfoldable pub placeFirst : Place
-placeFirst = record { due = dueFirst; counts = countsNone; at = 0; byte = 0 }
+placeFirst = record { due = dueFirst; counts = countsNone; at = 0; byte = 0; list = false; rest = 0 }
 
 -- after a line with this number and so many nodes, which ended before byte `stop`
 unfoldable pub placeAfter : Place → (number nodes next stop : ℕ) → Place
@@ -38,7 +41,14 @@ placeAfter p number nodes next stop =
       counts = countsAfter (p .counts) (p .due .key) number nodes;
       at = next;
       byte = stop + 1;
+      list = isListed (p .due);
+      rest = number;
     }
+
+-- after the list behind a line, which ended before byte `stop`
+unfoldable pub placeBehind : Place → (stop : ℕ) → Place
+placeBehind p stop =
+    record { due = p .due; counts = p .counts; at = p .at; byte = stop + 1; list = false; rest = 0 }
 
 -- the answer, and the buffer with the words of the lines so far
 pub record Outcome : Type 0 where
@@ -68,19 +78,33 @@ module _ (text : Bytes) where
   unfoldable pub lineRoundAfter : Place → List ℕ → List ℕ
   lineRoundAfter p words = lineAfter (lineAt p) (ltb (stopAt p) (length text)) (p .due .key) (p .counts) words (p .at)
 
-  -- one round: no line is left, or none is due, or a line is read
+  -- what the list at a place comes to
+  unfoldable pub onList : (line : ℕ) → Place → WritesRead → Round
+  onList line p (WritesRead.Fault row) = Done (Refused row line)
+  onList line p WritesRead.Sound = On (placeBehind p (stopAt p))
+
+  unfoldable pub listRound : (line : ℕ) → Place → Round
+  listRound line p =
+      onList line p
+      (told (writesRow (lineAt p) (ltb (stopAt p) (length text)) (p .counts .variables) (p .rest)))
+
+  -- one round: no line is left, or none is due, or a list or a line is read
   unfoldable pub roundAt : (line : ℕ) → Place → List ℕ → Round
   roundAt line p words =
       elim (leb (length text) (p .byte)) [
-        | true ↦ elim (isEnd (p .due .key)) [ true ↦ Done Accepted | false ↦ Done (Refused 2 line) ]
-        | false ↦ elim (isEnd (p .due .key)) [ true ↦ Done (Refused 2 line) | false ↦ lineRound line p words ]
+        | true ↦ elim (isEnd (p .due .key) && not (p .list)) [ true ↦ Done Accepted | false ↦ Done (Refused 2 line) ]
+        | false ↦
+            elim (p .list) [
+              | true ↦ listRound line p
+              | false ↦ elim (isEnd (p .due .key)) [ true ↦ Done (Refused 2 line) | false ↦ lineRound line p words ]
+            ]
       ]
 
   unfoldable pub roundAfter : Place → List ℕ → List ℕ
   roundAfter p words =
       elim (leb (length text) (p .byte)) [
         | true ↦ words
-        | false ↦ elim (isEnd (p .due .key)) [ true ↦ words | false ↦ lineRoundAfter p words ]
+        | false ↦ elim (isEnd (p .due .key) || p .list) [ true ↦ words | false ↦ lineRoundAfter p words ]
       ]
 
   -- from a place on, at most so many rounds; `go` reads on

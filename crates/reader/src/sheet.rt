@@ -6,14 +6,15 @@ use line_order::Counts;
 use line_order::Due;
 use model::Model;
 use read_line::LineRead;
+use read_writes_line::WritesRead;
 ghost use mathlib.Core.Path.{_≡_};
 ghost use Prim.Native.Nat.{_+_, _≤_, _<_};
 ghost use lib.ListN.{length};
 ghost use Rattle.model.specs.Bounds.{maxBytes};
 ghost use Rattle.format.specs.Bytes.{LF};
 ghost use Rattle.text_bytes.specs.Find.{firstFrom};
-ghost use Rattle.reader.specs.Read.{placeFirst, placeAfter, lineRound, lineRoundAfter};
-ghost use Rattle.reader.specs.Read.{roundAt, roundAfter, sheetRead};
+ghost use Rattle.reader.specs.Read.{placeFirst, placeAfter, placeBehind, lineRound, lineRoundAfter};
+ghost use Rattle.reader.specs.Read.{listRound, roundAt, roundAfter, sheetRead};
 
 impl Place {
     fn first() -> Place
@@ -24,6 +25,8 @@ impl Place {
             counts: Counts::none(),
             at: 0,
             byte: 0,
+            list: false,
+            rest: 0,
         }
     }
 
@@ -40,6 +43,26 @@ impl Place {
             counts: counts.after(key, number, nodes),
             at: next,
             byte: stop + 1,
+            list: due.listed(),
+            rest: number,
+        }
+    }
+
+    // After the list behind a line, which ended before byte `stop`.
+    fn behind(self, stop: usize) -> Place
+        requires { ⌜ stop ≤ maxBytes ⌝ }
+        ensures { λ r. ⌜ r ≡ placeBehind self stop ⌝ }
+    {
+        let due = self.due;
+        let counts = self.counts;
+        let at = self.at;
+        Place {
+            due,
+            counts,
+            at,
+            byte: stop + 1,
+            list: false,
+            rest: 0,
         }
     }
 }
@@ -72,7 +95,25 @@ fn line(text: &[u8], number: usize, place: Place, words: &mut [u32; Model::WORDS
     }
 }
 
-// One round: no line is left, or none is due, or a line is read.
+// The list behind a line, at a place, on the line with this number. It adds no words to the table.
+fn list(text: &[u8], number: usize, place: Place) -> Round
+    requires { ⌜ (place .byte < length (now text)) × (length (now text) ≤ maxBytes) ⌝ }
+    ensures { λ r. ⌜ r ≡ listRound (now (text .entry)) number place ⌝ }
+{
+    let byte = place.byte;
+    let rest = place.rest;
+    let counts = place.counts;
+    let variables = counts.variables;
+    let stop = stop_from(text, byte);
+    let ended = stop < text.len();
+    let read = read_writes_line::read(&text[byte..stop], ended, variables, rest);
+    match read {
+        WritesRead::Fault(row) => Round::Done(ReadAnswer::Refused(row, number)),
+        WritesRead::Sound => Round::On(place.behind(stop)),
+    }
+}
+
+// One round: no line is left, or none is due, or a list or a line is read.
 fn round(text: &[u8], number: usize, place: Place, words: &mut [u32; Model::WORDS]) -> Round
     requires { ⌜ (length (now text) ≤ maxBytes) ⌝ }
     ensures { λ r. ⌜ (r ≡ roundAt (now (text .entry)) number place (now (words .entry)))
@@ -82,11 +123,15 @@ fn round(text: &[u8], number: usize, place: Place, words: &mut [u32; Model::WORD
     let due = place.due;
     let key = due.key;
     let end = line_order::end(key);
+    let behind = place.list;
     if text.len() <= byte {
-        if end {
+        if end & !behind {
             return Round::Done(ReadAnswer::Accepted);
         }
         return Round::Done(ReadAnswer::Refused(2, number));
+    }
+    if behind {
+        return list(text, number, place);
     }
     if end {
         return Round::Done(ReadAnswer::Refused(2, number));

@@ -7,7 +7,7 @@ use native.Mathlib.Omega.{arith}
 use lib.ListN.{length, getD}
 use lib.Dec.{leb, ltb}
 use borrow.Author.Tests.{lt-ltb, le-ltb, le-leb, lt-leb, not-true, not-false}
-use Rattle.model.specs.Bounds.{maxEdges}
+use Rattle.model.specs.Bounds.{firstFormat, lastFormat, maxEdges}
 use Rattle.model.specs.Limits.{rises}
 use Rattle.model.specs.Table.{setOf}
 use Rattle.model.proofs.Tests.{and-intro, and-no-right}
@@ -151,7 +151,7 @@ pub ruleset edge-laws = (edge-end, edge-short, edge-unsound, edge-good)
 
 -- `line`
 module _ (t : List ℕ) (at : ℕ) (c : Counts) (k : Key) where
-  pub line-format : k ≡ Format → (r : Line) → r ≡ numberAt t at 1 1 → r ≡ lineAt t at k c
+  pub line-format : k ≡ Format → (r : Line) → r ≡ numberAt t at firstFormat lastFormat → r ≡ lineAt t at k c
   unfolding lineAt
   line-format h r e = rw h e
 

@@ -27,7 +27,7 @@ pub data FirstFault (text : Bytes) (table : ℕ) : (row line : ℕ) → Type 0 w
   by-18 : table < tableWords → FirstFault text table 18 0
   by-1 : tableWords ≤ table → maxBytes < length text → FirstFault text table 1 0
   by-line : {row line : ℕ} → tableWords ≤ table → length text ≤ maxBytes
-      → Stops atFirst dueAtFirst (linesOf text) row line
+      → Stops none atFirst dueAtFirst (linesOf text) row line
       → FirstFault text table row line
 
 -- The others try 18, 19, then their own rows. These are about the sheet whose table it is; a table of row 19 has none.

@@ -21,6 +21,7 @@ use Rattle.format.specs.Number as Number
 use Rattle.format.specs.Tokens as Tokens
 use Rattle.format.specs.Spelling as Spelling
 use Rattle.format.specs.Rows as Rows
+use Rattle.format.specs.Writes as Writes
 use Rattle.format.specs.Reader as Reader
 use Rattle.format.specs.Writer as Writer
 use Rattle.format.specs.Merger as Merger
@@ -33,6 +34,7 @@ unfolding
     Basic.sum Basic.countUp Basic.lacks Basic.orElse Basic.onSome
     Predicate.preds Predicate.operands Predicate.holds Predicate.words Predicate.nodeCount Predicate.named
     Predicate.isOutside Predicate.isNew Predicate.isNewOf Predicate.namesOutside Predicate.namesNew Predicate.mentions
+    Predicate.written
     Predicate.depth Predicate.range Predicate.least Predicate.greatest Predicate.hull Predicate.times Predicate.interval
     Predicate.stays Predicate.allStay
     Composition.leaves Composition.starts Composition.startNodes Composition.nodes Composition.treeSize
@@ -42,7 +44,7 @@ unfolding
     Lines.keyOf Lines.locationLines Lines.automatonLines Lines.lines Lines.dueAtFirst Lines.repeat Lines.thenDue
     Lines.atFirst Lines.lastOf Lines.onLast Lines.addLocation Lines.addEdge Lines.withModel Lines.withAutomata
     Lines.withPred Lines.withNodes Lines.noted
-    Limits.inRange Limits.treeInRange Limits.numbersInRange Limits.isCrossed Limits.rises Limits.treeRises
+    Limits.inRange Limits.treeInRange Limits.numbersInRange Limits.isCrossed Limits.rises Limits.ascends Limits.treeRises
     Limits.isTooDeep Limits.exceedsSpan Limits.passesNodes Limits.variableCount Limits.locationCount Limits.isAstray
     Limits.listsFilled Limits.isDisordered Limits.isTooLarge Limits.passesEdges Limits.broken Limits.predFault
     Limits.locationFault Limits.startsFault Limits.contentFault Limits.faultOf Limits.withinLimits Limits.limits
@@ -70,11 +72,12 @@ unfolding
     Tokens.listSound Tokens.listsSound Tokens.find Tokens.variableWord Tokens.word Tokens.counted Tokens.readWords
     Tokens.callsFor Tokens.startTokens Tokens.startsIn Tokens.outside Tokens.leafOf Tokens.node Tokens.synOf Tokens.readNodes
     Spelling.spelling Spelling.spelled Spelling.textOfPred Spelling.textOfList Spelling.spelledNode Spelling.textOfTree
-    Spelling.valueText Spelling.lineText Spelling.textOf
+    Spelling.valueText Spelling.lineText Spelling.writesKey Spelling.listBehind Spelling.listText Spelling.entryText Spelling.textOf
     Rows.place Rows.is Rows.valueOf Rows.fields Rows.fieldCount Rows.field Rows.hasPred Rows.predTokens Rows.wordsIn
     Rows.predOf Rows.treeTokens Rows.startsOf Rows.theStarts Rows.nodesIn Rows.treeOf Rows.thePred Rows.theTree Rows.listItems Rows.syncList
     Rows.theRange Rows.printable Rows.row2 Rows.numbersSound Rows.row3 Rows.row4 Rows.row5 Rows.row6 Rows.row7 Rows.row8
     Rows.row9 Rows.row10 Rows.row11 Rows.row12 Rows.row13 Rows.row14 Rows.row15 Rows.row16 Rows.fault Rows.entry
+    Writes.writesItems Writes.writesList Writes.writesRow2 Writes.writesRow3 Writes.writesRow5 Writes.writesRow7 Writes.row44 Writes.writesFault
     Reader.ontoLine Reader.linesOf Reader.read Reader.row1 Reader.readAnswer Reader.tableAfter
     Writer.row35 Writer.writeAnswer Writer.withText Writer.bufferAfter
     Merger.mergeModel Merger.mergeAnswer Merger.mergeAfter

@@ -3,3 +3,4 @@ pub mod Cases
 pub mod Oven
 pub mod Refused
 pub mod Starts
+pub mod Writes

@@ -140,13 +140,13 @@ refusedCases =
     accepts (composed (times 63 (bytes "syn 1 ") ++ bytes "a0")) ∷
     refusesTable oven 8191 18 0 ∷
     answersTable (take 8191 ovenTable) (call 0 (0 ∷ 0 ∷ []) 0 1) (Judge.refused 18) ∷
-    answersTable (2 ∷ drop 1 ovenTable) (call 0 (0 ∷ 0 ∷ []) 0 1) (Judge.refused 19) ∷
+    answersTable (3 ∷ drop 1 ovenTable) (call 0 (0 ∷ 0 ∷ []) 0 1) (Judge.refused 19) ∷
     answersTable (ovenTable ++ 7 ∷ []) (call 0 (0 ∷ 0 ∷ []) 0 1) no ∷
     answersTable (take 8191 ovenTable ++ 7 ∷ []) (call 0 (0 ∷ 0 ∷ []) 0 1) (Judge.refused 19) ∷
     refusesWrite (take 8191 ovenTable) 65536 18 ∷
-    refusesWrite (2 ∷ drop 1 ovenTable) 65536 19 ∷
+    refusesWrite (3 ∷ drop 1 ovenTable) 65536 19 ∷
     refusesMerge (take 8191 ovenTable) 65536 18 ∷
-    refusesMerge (2 ∷ drop 1 ovenTable) 65536 19 ∷
+    refusesMerge (3 ∷ drop 1 ovenTable) 65536 19 ∷
     answers oven (call 2 (0 ∷ 0 ∷ []) 0 1) (Judge.refused 20) ∷
     answers oven (call 0 (0 ∷ []) 0 1) (Judge.refused 21) ∷
     answers oven (environment 0 (0 ∷ 0 ∷ []) [] (pos 0 ∷ [])) (Judge.refused 21) ∷

@@ -3,4 +3,5 @@ pub mod JoinLaws
 pub mod WordLaws
 pub mod NodeLaws
 pub mod LineLaws
+pub mod WritesLaws
 pub mod SheetLaws

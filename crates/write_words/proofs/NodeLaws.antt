@@ -20,7 +20,7 @@ use Rattle.table_tree.specs.Sets.{oneWord}
 use Rattle.table_tree.proofs.SetLaws.{set-of-one}
 use Rattle.table_places.specs.Outline.{reach, nodesPlace, afterPredicate}
 use Rattle.write_words.specs.Growing.{Grew, between}
-use Rattle.write_words.specs.NodeText.{predicateText, memberText, setText, isIni, overText, nodeBy, nodeText, sizeBy, nodeSize, startsAfter, nodeTexts}
+use Rattle.write_words.specs.NodeText.{predicateText, memberText, membersText, setText, isIni, overText, nodeBy, nodeText, sizeBy, nodeSize, startsAfter, nodeTexts}
 use Rattle.write_words.proofs.GrowingLaws.{grew-none, grew-then}
 use Rattle.table_places.proofs.OutlineLaws.{reach-drop}
 use Rattle.write_words.proofs.JoinLaws.{isNone, joined-snoc, map-append}
@@ -45,12 +45,12 @@ module _ (isIn first : Bool) (k : ℕ) (at : Written) (old : Bytes) where
 
 pub ruleset member-laws = (member-out, member-in)
 
--- the actions below k that are in a set of one word
-abbrev pub actionsBelow : (both k : ℕ) → List ℕ
-actionsBelow both k = keep (bit both) (countUp 0 k)
+-- the numbers below k that are in a set of one word
+abbrev pub membersBelow : (both k : ℕ) → List ℕ
+membersBelow both k = keep (bit both) (countUp 0 k)
 
--- one more action
-below-more : (both k : ℕ) → actionsBelow both (k + 1) ≡ actionsBelow both k ++ keep (bit both) (k ∷ [])
+-- one more number
+below-more : (both k : ℕ) → membersBelow both (k + 1) ≡ membersBelow both k ++ keep (bit both) (k ∷ [])
 below-more both k =
     let e : countUp 0 (k + 1) ≡ countUp 0 k ++ k ∷ [] = rw (add-one k) (count-last 0 k ∙ ap (λ (x : ℕ). countUp 0 k ++ x ∷ []) (omega arith)) in
     ap (keep (bit both)) e ∙ keep-append (bit both) (countUp 0 k) (k ∷ [])
@@ -61,13 +61,13 @@ none-kept [] ys = refl
 none-kept (x ∷ xs) ys = refl
 
 module _ (both k : ℕ) where
-  below-in : bit both k ≡ true → actionsBelow both (k + 1) ≡ actionsBelow both k ++ k ∷ []
+  below-in : bit both k ≡ true → membersBelow both (k + 1) ≡ membersBelow both k ++ k ∷ []
   unfolding keep
-  below-in e = below-more both k ∙ ap (λ (b : Bool). actionsBelow both k ++ elim b [ true ↦ k ∷ [] | false ↦ [] ]) e
+  below-in e = below-more both k ∙ ap (λ (b : Bool). membersBelow both k ++ elim b [ true ↦ k ∷ [] | false ↦ [] ]) e
 
-  below-out : bit both k ≡ false → actionsBelow both (k + 1) ≡ actionsBelow both k
+  below-out : bit both k ≡ false → membersBelow both (k + 1) ≡ membersBelow both k
   unfolding keep
-  below-out e = below-more both k ∙ ap (λ (b : Bool). actionsBelow both k ++ elim b [ true ↦ k ∷ [] | false ↦ [] ]) e ∙ append-nil (actionsBelow both k)
+  below-out e = below-more both k ∙ ap (λ (b : Bool). membersBelow both k ++ elim b [ true ↦ k ∷ [] | false ↦ [] ]) e ∙ append-nil (membersBelow both k)
 
 text-more : (list : List ℕ) (k : ℕ) → textOfList (list ++ k ∷ []) ≡ textOfList list ++ (between (isNone list) (comma ∷ []) ++ decimal k)
 unfolding textOfList
@@ -82,44 +82,50 @@ text-more list k =
     same (x ∷ l) = unfold isNone in refl
 
 -- what is written for it
-below-text : (both k : ℕ) (b : Bool) → bit both k ≡ b → textOfList (actionsBelow both (k + 1)) ≡ textOfList (actionsBelow both k) ++ memberText b (isNone (actionsBelow both k)) k
+below-text : (both k : ℕ) (b : Bool) → bit both k ≡ b → textOfList (membersBelow both (k + 1)) ≡ textOfList (membersBelow both k) ++ memberText b (isNone (membersBelow both k)) k
 unfolding memberText
-below-text both k true e = ap textOfList (below-in both k e) ∙ text-more (actionsBelow both k) k
-below-text both k false e = ap textOfList (below-out both k e) ∙ sym (append-nil (textOfList (actionsBelow both k)))
+below-text both k true e = ap textOfList (below-in both k e) ∙ text-more (membersBelow both k) k
+below-text both k false e = ap textOfList (below-out both k e) ∙ sym (append-nil (textOfList (membersBelow both k)))
 
-below-none : (both k : ℕ) (b : Bool) → bit both k ≡ b → isNone (actionsBelow both (k + 1)) ≡ (isNone (actionsBelow both k) && not b)
+below-none : (both k : ℕ) (b : Bool) → bit both k ≡ b → isNone (membersBelow both (k + 1)) ≡ (isNone (membersBelow both k) && not b)
 unfolding isNone
-below-none both k true e = ap isNone (below-in both k e) ∙ none-kept (actionsBelow both k) (k ∷ [])
-below-none both k false e = ap isNone (below-out both k e) ∙ go (isNone (actionsBelow both k))
+below-none both k true e = ap isNone (below-in both k e) ∙ none-kept (membersBelow both k) (k ∷ [])
+below-none both k false e = ap isNone (below-out both k e) ∙ go (isNone (membersBelow both k))
   where
     go : (b : Bool) → b ≡ (b && true)
     go true = refl
     go false = refl
 
--- the turns of `set`
+-- the turns of `members`
 module _ (both : ℕ) (at : Written) (old : Bytes) where
-  pub set-none : Grew (textOfList (actionsBelow both 0)) at old old at
+  pub members-none : Grew (textOfList (membersBelow both 0)) at old old at
   unfolding textOfList countUp keep joined
-  set-none = grew-none at old
+  members-none = grew-none at old
 
-  pub set-first : true ≡ isNone (actionsBelow both 0)
+  pub members-first : true ≡ isNone (membersBelow both 0)
   unfolding isNone countUp keep
-  set-first = refl
+  members-first = refl
 
-  module _ (k : ℕ) (isIn first : Bool) (e : isIn ≡ bit both k) (f : first ≡ isNone (actionsBelow both k)) where
-    pub set-on : (cur : Bytes) (end : Written) → Grew (textOfList (actionsBelow both k)) at old cur end → (r : Written) (new : Bytes) → Grew (memberText isIn first k) end cur new r → Grew (textOfList (actionsBelow both (k + 1))) at old new r
-    set-on cur end inv r new g =
-        rw (below-text both k isIn (sym e), ← f) (grew-then (textOfList (actionsBelow both k)) (memberText isIn first k) at end r old cur new inv g)
+  module _ (k : ℕ) (isIn first : Bool) (e : isIn ≡ bit both k) (f : first ≡ isNone (membersBelow both k)) where
+    pub members-on : (cur : Bytes) (end : Written) → Grew (textOfList (membersBelow both k)) at old cur end → (r : Written) (new : Bytes) → Grew (memberText isIn first k) end cur new r → Grew (textOfList (membersBelow both (k + 1))) at old new r
+    members-on cur end inv r new g =
+        rw (below-text both k isIn (sym e), ← f) (grew-then (textOfList (membersBelow both k)) (memberText isIn first k) at end r old cur new inv g)
 
-    pub set-later : (first && not isIn) ≡ isNone (actionsBelow both (k + 1))
-    set-later = rw f (sym (below-none both k isIn (sym e)))
+    pub members-later : (first && not isIn) ≡ isNone (membersBelow both (k + 1))
+    members-later = rw f (sym (below-none both k isIn (sym e)))
 
-  pub set-all : (low high : ℕ) → low < 4294967296 → high < 4294967296 → both ≡ oneWord low high → (k : ℕ) → k ≤ 64 → 64 ≤ k → (cur : Bytes) (end : Written) → Grew (textOfList (actionsBelow both k)) at old cur end → Grew (setText low high) at old cur end
-  set-all low high l u e k h i cur end inv =
+  pub members-all : (k : ℕ) → k ≤ 64 → 64 ≤ k → (cur : Bytes) (end : Written) → Grew (textOfList (membersBelow both k)) at old cur end → Grew (membersText both) at old cur end
+  unfolding membersText
+  members-all k h i cur end inv =
       let z : k ≡ 64 = omega arith in
-      rw (set-of-one low high l u both e) (rw z at inv)
+      rw z at inv
 
-pub ruleset set-laws = (set-none, set-first, set-on, set-later, set-all)
+pub ruleset members-laws = (members-none, members-first, members-on, members-later, members-all)
+
+-- `set`
+pub set-is : (low high both : ℕ) → low < 4294967296 → high < 4294967296 → both ≡ oneWord low high → (at r : Written) (old new : Bytes) → Grew (membersText both) at old new r → Grew (setText low high) at old new r
+unfolding membersText
+set-is low high both l u e at r old new g = rw (set-of-one low high l u both e) g
 
 -- past the predicate at a place
 past-predicate : (t : List ℕ) (at : ℕ) → drop (afterPredicate t at) t ≡ drop (getD (drop at t) 0 0) (drop 1 (drop at t))

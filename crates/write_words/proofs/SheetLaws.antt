@@ -21,7 +21,7 @@ use Rattle.text_bytes.specs.declared.answer.Written.the-variants.{To, Full}
 use Rattle.text_bytes.specs.Write.{fits, writtenTo, after, Wrote}
 use Rattle.write_words.specs.declared.WriteAnswer.the-variants as W
 use Rattle.write_words.specs.Growing.{start, held, more, Grew}
-use Rattle.write_words.specs.Text.{lineOf, sizeOf, linesFrom, sheetText}
+use Rattle.write_words.specs.Text.{entryOf, sizeOf, linesFrom, sheetText}
 use Rattle.write_words.specs.Answer.{Spelt, copyAnswer, roomAnswer, given, Answered}
 use Rattle.write_words.proofs.GrowingLaws.{held-in, held-past, held-full, more-none, more-more, more-fits, more-full}
 use Rattle.table_places.proofs.OutlineLaws.{reach-drop}
@@ -34,11 +34,11 @@ pub record Going (rest : Bytes) (end : Written) (cur whole old : Bytes) : Type 0
 -- the rounds
 pub lines-end : (n : ℕ) (d : Due) (ws : List ℕ) → isEnd (d .key) ≡ true → linesFrom (suc n) d ws ≡ []
 unfolding linesFrom
-lines-end n d ws e = ap (λ (b : Bool). elim b [ true ↦ [] | false ↦ lineOf (d .key) ws ++ linesFrom n (dueAfter d (getD ws 0 0)) (drop (sizeOf (d .key) ws) ws) ]) e
+lines-end n d ws e = ap (λ (b : Bool). elim b [ true ↦ [] | false ↦ entryOf d ws ++ linesFrom n (dueAfter d (getD ws 0 0)) (drop (sizeOf (d .key) ws) ws) ]) e
 
-pub lines-on : (n : ℕ) (d : Due) (ws : List ℕ) → isEnd (d .key) ≡ false → linesFrom (suc n) d ws ≡ lineOf (d .key) ws ++ linesFrom n (dueAfter d (getD ws 0 0)) (drop (sizeOf (d .key) ws) ws)
+pub lines-on : (n : ℕ) (d : Due) (ws : List ℕ) → isEnd (d .key) ≡ false → linesFrom (suc n) d ws ≡ entryOf d ws ++ linesFrom n (dueAfter d (getD ws 0 0)) (drop (sizeOf (d .key) ws) ws)
 unfolding linesFrom
-lines-on n d ws e = ap (λ (b : Bool). elim b [ true ↦ [] | false ↦ lineOf (d .key) ws ++ linesFrom n (dueAfter d (getD ws 0 0)) (drop (sizeOf (d .key) ws) ws) ]) e
+lines-on n d ws e = ap (λ (b : Bool). elim b [ true ↦ [] | false ↦ entryOf d ws ++ linesFrom n (dueAfter d (getD ws 0 0)) (drop (sizeOf (d .key) ws) ws) ]) e
 
 module _ (t old : List ℕ) where
   pub lines-first : (d : Due) → d ≡ dueFirst → Going (linesFrom 8193 d (drop 0 t)) start old (sheetText t) old
@@ -61,18 +61,18 @@ module _ (t old : List ℕ) where
       pub lines-over : e ≡ true → Grew (sheetText t) start old cur end
       lines-over h = nothing-left (ap (λ (n : ℕ). linesFrom n d (drop at t)) one-more ∙ lines-end (left - 1) d (drop at t) (sym he ∙ h))
 
-      pub lines-next : e ≡ false → (a b c : List ℕ) → a ≡ drop at t → b ≡ drop at t → c ≡ drop at t → (r : Written) (new : Bytes) → Grew (lineOf (d .key) a) end cur new r
+      pub lines-next : e ≡ false → (a b c : List ℕ) → a ≡ drop at t → b ≡ drop at t → c ≡ drop at t → (r : Written) (new : Bytes) → Grew (entryOf d a) end cur new r
           → (n : ℕ) → n ≡ getD b 0 0 → (d' : Due) → d' ≡ dueAfter d n → (s : ℕ) → s ≡ sizeOf (d .key) c → (at' : ℕ) → at' ≡ reach t at s
           → Going (linesFrom (left - 1) d' (drop at' t)) r new (sheetText t) old
       lines-next h a b c ea eb ec r new g n en d' ed s es at' et =
           let ws = drop at t in
-          let line = lineOf (d .key) ws in
+          let line = entryOf d ws in
           let rest = linesFrom (left - 1) (dueAfter d (getD ws 0 0)) (drop (sizeOf (d .key) ws) ws) in
           let is : linesFrom left d ws ≡ line ++ rest = ap (λ (n : ℕ). linesFrom n d ws) one-more ∙ lines-on (left - 1) d ws (sym he ∙ h) in
           let due : d' ≡ dueAfter d (getD ws 0 0) = ed ∙ ap (dueAfter d) (en ∙ ap (λ (l : List ℕ). getD l 0 0) eb) in
           let stands : drop at' t ≡ drop (sizeOf (d .key) ws) ws = ap (λ (n : ℕ). drop n t) et ∙ reach-drop t at s ∙ ap (λ (n : ℕ). drop n ws) (es ∙ ap (sizeOf (d .key)) ec) in
           let later : linesFrom (left - 1) d' (drop at' t) ≡ rest = ap (λ (x : Due). linesFrom (left - 1) x (drop at' t)) due ∙ ap (linesFrom (left - 1) (dueAfter d (getD ws 0 0))) stands in
-          let grown : held r new ≡ more (length old) (held end cur) line = g .text ∙ ap (λ (n : ℕ). more n (held end cur) (lineOf (d .key) a)) (inv .long) ∙ ap (λ (l : List ℕ). more (length old) (held end cur) (lineOf (d .key) l)) ea in
+          let grown : held r new ≡ more (length old) (held end cur) line = g .text ∙ ap (λ (n : ℕ). more n (held end cur) (entryOf d a)) (inv .long) ∙ ap (λ (l : List ℕ). more (length old) (held end cur) (entryOf d l)) ea in
           record {
             text =
                 ap (more (length old) (held r new)) later ∙

@@ -4,7 +4,8 @@ use mathlib.Core.Bool.{Bool, true, false, _&&_}
 use mathlib.Core.List.{List, [], _∷_, _++_, map}
 use lib.ListN.{getD, take, drop}
 use lib.Dec.{eqb}
-use Rattle.model.specs.Table.{unbiased, wordOf, setOf}
+use Rattle.model.specs.Basic.{keep, countUp}
+use Rattle.model.specs.Table.{unbiased, wordOf, bit, setOf}
 use Rattle.node_words.specs.declared.Node.{Node}
 use Rattle.node_words.specs.declared.Node.the-variants.{All, Any, Not, Imp, Eq, Le, Number, Old, New, Add, Sub, Mul}
 use Rattle.node_words.specs.declared.Node.the-variants.{If, Stray}
@@ -75,9 +76,12 @@ argumentText Mul = []
 argumentText If = []
 argumentText Stray = []
 
--- A set of two words. An action is written if it is in the set, after a comma if others were.
+-- A set of two words, and one of 64 bits. A number is written if it is in the set, after a comma if others were.
 abbrev pub setText : (low high : ℕ) → Bytes
 setText low high = textOfList (setOf low high)
+
+unfoldable pub membersText : ℕ → Bytes
+membersText both = textOfList (keep (bit both) (countUp 0 64))
 
 unfoldable pub memberText : (isIn first : Bool) → ℕ → Bytes
 memberText true first k = between first (comma ∷ []) ++ decimal k

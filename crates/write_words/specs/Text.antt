@@ -3,23 +3,24 @@
 use Prim.Native.Nat.{ℕ, zero, suc, _+_}
 use mathlib.Core.Bool.{true, false}
 use mathlib.Core.List.{List, [], _∷_, _++_}
-use lib.ListN.{getD, drop}
+use lib.ListN.{getD, take, drop}
 use Rattle.model.specs.Bounds.{tableWords}
 use Rattle.model.specs.Lines.{format, actions, variables, variable, automata, sync, locations, init, inv, edges}
 use Rattle.model.specs.Lines.{edge, compose}
 use Rattle.model.specs.Table.{unbiased}
 use Rattle.format.specs.Bytes.{Bytes, joined, LF, space, comma}
 use Rattle.format.specs.Number.{decimal, signed}
-use Rattle.format.specs.Spelling.{spelling}
+use Rattle.format.specs.Spelling.{spelling, writesKey}
 use Rattle.line_order.specs.declared.Key.{Key}
 use Rattle.line_order.specs.declared.Key.the-variants.{Format, Actions, Variables, Variable, Automata, Sync}
 use Rattle.line_order.specs.declared.Key.the-variants.{Locations, Init, Inv, Edges, Edge, Compose, End}
 use Rattle.line_order.specs.declared.Due.{Due}
-use Rattle.line_order.specs.Due.{isEnd, dueFirst, dueAfter}
+use Rattle.line_order.specs.Due.{isEnd, isListed, dueFirst, dueAfter}
 use Rattle.table_places.specs.Starts.{startsAt, firstStart}
+use Rattle.table_writes.specs.Sets.{writtenSet}
 use Rattle.write_words.specs.declared.growing.Part.{Part}
 use Rattle.write_words.specs.Growing.{part}
-use Rattle.write_words.specs.NodeText.{predicateText, setText, nodeTexts}
+use Rattle.write_words.specs.NodeText.{predicateText, membersText, setText, nodeTexts}
 use Rattle.write_words.specs.declared.line.Shape.{Shape}
 use Rattle.write_words.specs.declared.line.Shape.the-variants as S
 
@@ -131,15 +132,26 @@ sizeOf Edge ws = 4 + getD ws 3 0
 sizeOf Compose ws = 0
 sizeOf End ws = 0
 
--- The lines from one that is due on; the fuel bounds the rounds, of which the last only finds the end.
+-- The list behind an edge, from the first format with lists on: the variables whose new value its nodes name.
+unfoldable pub writesText : List ℕ → Bytes
+writesText ws = writesKey ++ membersText (writtenSet (take (getD ws 3 0) (drop 4 ws))) ++ (LF ∷ [])
+
+unfoldable pub listOf : Due → List ℕ → Bytes
+listOf d ws = elim (isListed d) [ true ↦ writesText ws | false ↦ [] ]
+
+-- the line that is due, and its list
+unfoldable pub entryOf : Due → List ℕ → Bytes
+entryOf d ws = lineOf (d .key) ws ++ listOf d ws
+
+-- The lines from one that is due on, and their lists; the fuel bounds the rounds, of which the last only finds the end.
 unfoldable pub linesFrom : (fuel : ℕ) → Due → List ℕ → Bytes
 linesFrom zero d ws = []
 linesFrom (suc n) d ws =
     elim (isEnd (d .key)) [
       | true ↦ []
-      | false ↦ lineOf (d .key) ws ++ linesFrom n (dueAfter d (getD ws 0 0)) (drop (sizeOf (d .key) ws) ws)
+      | false ↦ entryOf d ws ++ linesFrom n (dueAfter d (getD ws 0 0)) (drop (sizeOf (d .key) ws) ws)
     ]
 
--- each line takes a word at least, so the fuel is enough for a table
+-- each line takes a word at least, and a list none, so the fuel is enough for a table
 unfoldable pub sheetText : List ℕ → Bytes
 sheetText ws = linesFrom (tableWords + 1) dueFirst ws

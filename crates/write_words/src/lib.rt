@@ -5,6 +5,7 @@ mod predicate;
 mod read;
 mod sheet;
 mod tree;
+mod writes;
 
 use text_bytes::Written;
 ghost use lib.ListN.{length};

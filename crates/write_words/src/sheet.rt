@@ -1,6 +1,7 @@
-// All lines, in the order in which they are due.
+// All lines, in the order in which they are due, and the lists behind them.
 use crate::line::{self};
 use crate::read::{self};
+use crate::writes::{self};
 use line_order::Due;
 use model::Model;
 use text_bytes::Written;
@@ -14,14 +15,15 @@ fn all_lines(table: &[u32], out: &mut [u8]) -> Written
     let mut due = Due::first();
     let mut end = Written::To(0);
     let mut at: usize = 0;
-    // Each line takes a word at least, so all lines of a table are written before the rounds are over.
+    // Each round writes a line, which takes a word at least, and its list, which takes none. So all lines of a table
+    // are written before the rounds are over.
     let mut left = Model::WORDS + 1;
     while left != 0 {
         let key = due.key;
         if line_order::end(key) {
             return end;
         }
-        end = line::line(key, read::rest(table, at), out, end);
+        end = writes::entry(due, read::rest(table, at), out, end);
         due = due.after(read::count(read::rest(table, at), 0));
         at = table_places::step(table, at, line::size(key, read::rest(table, at)));
         left -= 1;

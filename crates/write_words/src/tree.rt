@@ -7,10 +7,10 @@ ghost use mathlib.Core.Path.{_≡_};
 ghost use lib.ListN.{drop};
 ghost use Rattle.format.specs.Bytes.{joined, space};
 ghost use Rattle.write_words.specs.Growing.{Grew};
-ghost use Rattle.write_words.specs.NodeText.{memberText, setText, isIni, overText, nodeText};
+ghost use Rattle.write_words.specs.NodeText.{memberText, membersText, setText, isIni, overText, nodeText};
 ghost use Rattle.write_words.specs.NodeText.{nodeSize, startsAfter, nodeTexts};
 
-// An action, if it is in the set.
+// A number, if it is in the set.
 fn member(is_in: bool, first: bool, k: u32, out: &mut [u8], at: Written) -> Written
     ensures { λ r. ⌜ Grew (memberText is_in first k) at (now (out .entry)) (now (out .exit)) r ⌝ }
 {
@@ -21,11 +21,10 @@ fn member(is_in: bool, first: bool, k: u32, out: &mut [u8], at: Written) -> Writ
     growing::number(k, out, a)
 }
 
-// The actions of a set, which rise, and commas between them.
-pub(crate) fn set(low: u32, high: u32, out: &mut [u8], at: Written) -> Written
-    ensures { λ r. ⌜ Grew (setText low high) at (now (out .entry)) (now (out .exit)) r ⌝ }
+// The members of a set of 64 bits, which rise, and commas between them.
+pub(crate) fn members(both: u64, out: &mut [u8], at: Written) -> Written
+    ensures { λ r. ⌜ Grew (membersText both) at (now (out .entry)) (now (out .exit)) r ⌝ }
 {
-    let both = table_tree::set_of(low, high);
     let mut end = at;
     let mut first = true;
     let mut k: u32 = 0;
@@ -36,6 +35,14 @@ pub(crate) fn set(low: u32, high: u32, out: &mut [u8], at: Written) -> Written
         k += 1;
     }
     end
+}
+
+// The actions of a set of two words.
+pub(crate) fn set(low: u32, high: u32, out: &mut [u8], at: Written) -> Written
+    ensures { λ r. ⌜ Grew (setText low high) at (now (out .entry)) (now (out .exit)) r ⌝ }
+{
+    let both = table_tree::set_of(low, high);
+    members(both, out, at)
 }
 
 // Is the node that the words begin with an `ini`? Its words are those of a `syn` with no action.

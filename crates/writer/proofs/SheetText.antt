@@ -1,33 +1,33 @@
 -- Line by line: what the writer writes for a model's table is the model's text.
 use Prim.Native.Nat.{ℕ, zero, suc, _+_, _≤_, _<_}
 use mathlib.Core.Path.{_≡_, refl, sym, _∙_, ap, ap₂}
-use mathlib.Core.Bool.{true, not}
+use mathlib.Core.Bool.{Bool, true, false, not, _&&_}
 use mathlib.Core.List.{List, [], _∷_, _++_, flatMap, append-assoc, append-nil}
-use mathlib.Core.Option.{none}
+use mathlib.Core.Option.{none, some}
 use native.Mathlib.Omega.{arith}
 use lib.Dec.{leb}
 use borrow.Author.Tests.{ltb-false}
 use lib.ListN.{length, getD, drop}
-use Rattle.model.specs.Basic.{lacks, between}
-use Rattle.model.specs.Bounds.{maxTreeNodes, leastNumber, greatestNumber}
-use Rattle.model.specs.Predicate.{Pred, nodeCount}
+use Rattle.model.specs.Basic.{lacks, between, every}
+use Rattle.model.specs.Bounds.{maxTreeNodes, leastNumber, greatestNumber, writesFormat}
+use Rattle.model.specs.Predicate.{Pred, words, nodeCount, written}
 use Rattle.model.specs.Composition.{Tree, treeSize}
-use Rattle.model.specs.Model.{Model}
-use Rattle.model.specs.Lines.{Key as LineKey, format, actions, compose, Entry, formatLine, actionsLine, variablesLine, variableLine, automataLine, syncLine, locationsLine, initLine, invLine, edgesLine, edgeLine, composeLine, keyOf, lines, dueAtFirst, thenDue, Reading, atFirst, noted}
-use Rattle.model.specs.Limits.{numbersInRange, rises, treeRises, listsFilled, isDisordered, isTooLarge, contentFault, faultOf, withinLimits, limits}
+use Rattle.model.specs.Model.{Edge, Model}
+use Rattle.model.specs.Lines.{Key as LineKey, format, actions, compose, Entry, formatLine, actionsLine, variablesLine, variableLine, automataLine, syncLine, locationsLine, initLine, invLine, edgesLine, edgeLine, composeLine, keyOf, lines, dueAtFirst, thenDue, Reading, atFirst, withModel, noted}
+use Rattle.model.specs.Limits.{inRange, numbersInRange, rises, treeRises, listsFilled, isDisordered, isTooLarge, contentFault, faultOf, withinLimits, limits}
 use Rattle.model.specs.Lawful.{Lawful}
 use Rattle.model.specs.Table.{setWords, predWords, lineWords, sheetWords, Opened, unopened, opened, openTable}
 use Rattle.model.proofs.Tests.{and-left, and-right}
-use Rattle.model.proofs.Decode.{number-back, none-lacks, unbroken, in-range, unsaid, lists-filled}
+use Rattle.model.proofs.Decode.{number-back, none-lacks, unbroken, in-range, unsaid, lists-filled, update-ranged}
 use Rattle.model.proofs.LimitLines.{starts-clear}
 use Rattle.model.proofs.Bits.{set-back}
-use Rattle.model.proofs.LinesLaws.{Follows, follow-lines}
+use Rattle.model.proofs.LinesLaws.{Follows, follow-lines, along, along-lines}
 use Rattle.model.proofs.LimitsLaws.{lawful-is}
 use Rattle.model.proofs.Sizes.{lines-few}
 use Rattle.table_places.proofs.Opened.{sheet-of}
 use Rattle.line_order.specs.declared.Key.{Key}
 use Rattle.line_order.specs.declared.Due.{Due}
-use Rattle.line_order.specs.Due.{isEnd, dueFirst, dueAfterKey, dueAfter, keysDue, laterKeys, laterDue, codeOf, numberOf}
+use Rattle.line_order.specs.Due.{isEdge, isListed, isEnd, dueFirst, dueAfterKey, dueAfter, keysDue, laterKeys, laterDue, codeOf, numberOf}
 use Rattle.line_order.proofs.KeyLaws.{no-end}
 use Rattle.line_order.proofs.DueLaws.{due-first, format-first, format-after, due-key, due-later, due-end, due-after}
 use Rattle.model.specs.declared.Checked.{Checked}
@@ -35,14 +35,14 @@ use Rattle.model.specs.declared.Checked.the-variants.{Good, Refused}
 use Rattle.table_check.specs.Check.{answered}
 use Rattle.format.specs.Bytes.{Bytes, ledBy, joined, comma, LF}
 use Rattle.format.specs.Number.{decimal, signed}
-use Rattle.format.specs.Spelling.{spelling, textOfList, textOfPred, valueText, lineText, textOf}
+use Rattle.format.specs.Spelling.{spelling, textOfList, textOfPred, valueText, lineText, listBehind, listText, entryText, textOf}
 use Rattle.format.specs.Writer.{writeAnswer, bufferAfter}
 use Rattle.format.proofs.FitsLaws.{text-fits}
-use Rattle.write_words.specs.Text.{rangeText, fieldText, edgeText, valueOf, keyText, lineOf, sizeOf, linesFrom, sheetText}
+use Rattle.write_words.specs.Text.{rangeText, fieldText, edgeText, valueOf, keyText, lineOf, sizeOf, writesText, listOf, entryOf, linesFrom, sheetText}
 use Rattle.write_words.specs.declared.WriteAnswer.{WriteAnswer}
 use Rattle.write_words.specs.declared.WriteAnswer.the-variants as W
 use Rattle.write_words.specs.Answer.{copyAnswer, roomAnswer, given, Answered}
-use Rattle.writer.proofs.TextLaws.{predicate-text, past-nodes, tree-text}
+use Rattle.writer.proofs.TextLaws.{predicate-text, writes-text, past-nodes, tree-text}
 use Rattle.write_words.proofs.SheetLaws.{lines-end, lines-on, with-room}
 
 -- four items with commas between them
@@ -77,8 +77,7 @@ value-text r (initLine p) rest h = predicate-text p rest (in-range r (initLine p
 value-text r (invLine p) rest h = predicate-text p rest (in-range r (invLine p) h)
 value-text r (edgesLine n) rest h = refl
 value-text r (edgeLine e) rest h =
-    let z = in-range r (edgeLine e) h in
-    let p = predicate-text (e .update) rest (and-right (leb (e .to) 31) _ (and-right (leb (e .action) 63) _ (and-right (leb (e .from) 31) _ z))) in
+    let p = predicate-text (e .update) rest (update-ranged r e h) in
     ap (λ (t : Bytes). fieldText (e .from) ++ fieldText (e .action) ++ fieldText (e .to) ++ t) p ∙
     fields (decimal (e .from)) (decimal (e .action)) (decimal (e .to)) (textOfPred (e .update))
 value-text r (composeLine c) rest h =
@@ -104,6 +103,42 @@ line-text : (r : Reading) (e : Entry) (rest : List ℕ) → faultOf r e ≡ none
 unfolding lineOf lineText
 line-text r e rest h =
     ap₂ (λ (k v : Bytes). k ++ v ++ (LF ∷ [])) (key-text e) (value-text r e rest h) ∙ append-assoc (spelling (keyOf e)) (valueText e) (LF ∷ [])
+
+-- the list behind it
+module _ (d : Due) where
+  list-none : (ws : List ℕ) → isListed d ≡ false → listOf d ws ≡ []
+  unfolding listOf
+  list-none ws h = rw (h, listOf)
+
+  list-some : (ws : List ℕ) → isListed d ≡ true → listOf d ws ≡ writesText ws
+  unfolding listOf
+  list-some ws h = rw (h, listOf)
+
+  list-edge : (r : Reading) (e : Edge) (rest : List ℕ) → faultOf r (edgeLine e) ≡ none → (b : Bool) → isListed d ≡ b
+      → listOf d (lineWords (edgeLine e) ++ rest) ≡ listText (elim b [ true ↦ some (written (e .update)) | false ↦ none ])
+  unfolding lineWords listText
+  list-edge r e rest h true l = list-some _ l ∙ writes-text (e .from) (e .action) (e .to) (e .update) rest (update-ranged r e h)
+  list-edge r e rest h false l = list-none _ l
+
+  list-text : (r : Reading) (e : Entry) (rest : List ℕ) → d .key ≡ codeOf (keyOf e) → faultOf r e ≡ none → listOf d (lineWords e ++ rest) ≡ listText (listBehind (d .format) e)
+  unfolding isListed isEdge codeOf keyOf listBehind listText
+  list-text r (formatLine n) rest k h = list-none _ (rw k)
+  list-text r (actionsLine n) rest k h = list-none _ (rw k)
+  list-text r (variablesLine n) rest k h = list-none _ (rw k)
+  list-text r (variableLine x) rest k h = list-none _ (rw k)
+  list-text r (automataLine n) rest k h = list-none _ (rw k)
+  list-text r (syncLine list) rest k h = list-none _ (rw k)
+  list-text r (locationsLine n) rest k h = list-none _ (rw k)
+  list-text r (initLine p) rest k h = list-none _ (rw k)
+  list-text r (invLine p) rest k h = list-none _ (rw k)
+  list-text r (edgesLine n) rest k h = list-none _ (rw k)
+  list-text r (edgeLine e) rest k h = list-edge r e rest h (leb writesFormat (d .format)) (rw k)
+  list-text r (composeLine c) rest k h = list-none _ (rw k)
+
+  entry-text : (r : Reading) (e : Entry) (rest : List ℕ) → d .key ≡ codeOf (keyOf e) → faultOf r e ≡ none → entryOf d (lineWords e ++ rest) ≡ entryText (d .format) e
+  unfolding entryOf entryText
+  entry-text r e rest k h =
+      ap₂ (λ (a b : Bytes). a ++ b) (ap (λ (q : Key). lineOf q (lineWords e ++ rest)) k ∙ line-text r e rest h) (list-text r e rest k h)
 
 -- what is due after it
 due-counted : (e : Entry) (d : Due) (rest : List ℕ) → dueAfterKey (codeOf (keyOf e)) d (getD (lineWords e ++ rest) 0 0) ≡ dueAfterKey (codeOf (keyOf e)) d (numberOf e)
@@ -166,9 +201,14 @@ module _ (m : Model) (d : Due) (r : Reading) (es : List Entry) (rest : List ℕ)
       (rest, past-edge (e .from) (e .action) (e .to) (nodeCount (e .update)) ws ∙ past-predicate (e .update) (flatMap lineWords es ++ rest))
   after-line (composeLine c) ks k f = none-follow es (noted r (composeLine c)) ks m (none-later d ks k) f _
 
+-- the text of a model, by the format that has been read
+text-along : (m : Model) → along entryText atFirst (lines m) ≡ textOf m
+unfolding textOf entryText listBehind
+text-along m = along-lines entryText (λ f h n. refl) m
+
 -- all lines that follow
 lines-text : (es : List Entry) (r : Reading) (ks : List LineKey) (m : Model) (d : Due) → d .format ≡ r .model .format → keysDue d ≡ ks → Follows es r ks m → withinLimits r es ≡ true → (n : ℕ) → length es < n → (rest : List ℕ)
-    → linesFrom n d (flatMap lineWords es ++ rest) ≡ flatMap lineText es
+    → linesFrom n d (flatMap lineWords es ++ rest) ≡ along entryText r es
 unfolding withinLimits flatMap dueAfter Stands isEnd
 lines-text es r ks m d x k f h zero l rest = absurd (omega arith)
 lines-text [] r [] m d x k f h (suc n) l rest = lines-end n d rest (ap isEnd (due-end d k))
@@ -186,7 +226,7 @@ lines-text (e ∷ es) r (k' ∷ ks) m d x k f h (suc n) l rest =
     let others = lines-text es (noted r e) (thenDue (r .model .format) e ++ ks) m (dueAfter d (numberOf e)) (format-after d r x e ks keys) (due-after d r x e ks keys) (f .1) (and-right (lacks (faultOf r e)) _ h) n (omega arith) (next .0) in
     ap (linesFrom (suc n) d) (append-assoc (lineWords e) (flatMap lineWords es) rest) ∙
     lines-on n d ws (ap isEnd key ∙ no-end (keyOf e)) ∙
-    ap₂ (λ (a b : Bytes). a ++ b) (ap (λ (q : Key). lineOf q ws) key ∙ line-text r e later ok)
+    ap₂ (λ (a b : Bytes). a ++ b) (entry-text d r e later key ok ∙ ap (λ (f : ℕ). entryText f e) x)
     (ap (λ (y : Due). linesFrom n y (drop (sizeOf (d .key) ws) ws)) due ∙
     ap (linesFrom n (dueAfter d (numberOf e))) (ap (λ (q : Key). drop (sizeOf q ws) ws) key ∙ next .1) ∙
     others)
@@ -194,11 +234,12 @@ lines-text (e ∷ es) r (k' ∷ ks) m d x k f h (suc n) l rest =
 module _ (m : Model) (h : Lawful m) (t rest : List ℕ) (stands : t ≡ sheetWords m ++ rest) where
   -- what is written for words that begin with a model's is the model's text
   pub sheet-text : sheetText t ≡ textOf m
-  unfolding sheetText textOf sheetWords limits
+  unfolding sheetText sheetWords limits
   sheet-text =
       let few = lines-few m h in
       ap (linesFrom 8193 dueFirst) stands ∙
-      lines-text (lines m) atFirst dueAtFirst m dueFirst format-first due-first (follow-lines m) (lawful-is m .1 h) 8193 (omega arith) rest
+      lines-text (lines m) atFirst dueAtFirst m dueFirst format-first due-first (follow-lines m) (lawful-is m .1 h) 8193 (omega arith) rest ∙
+      text-along m
 
   -- and it fits
   pub words-text : (room : ℕ) → 65536 ≤ room → (old : Bytes) → roomAnswer room (sheetText t) (length old) ≡ copyAnswer (textOf m) (length old)

@@ -3,14 +3,15 @@ use Prim.Native.Nat.{ℕ, suc, _+_, _≤_}
 use mathlib.Core.Path.{_≡_, refl, sym, _∙_, ap, ap₂}
 use mathlib.Core.Bool.{Bool, true, false, not, _&&_, true≢false}
 use mathlib.Core.List.{List, [], _∷_, _++_, map, flatMap, append-assoc, append-nil}
+use mathlib.Core.Option.{some}
 use native.Mathlib.Omega.{arith}
 use borrow.Author.Tests.{eqb-true, ne-eqb}
 use lib.Dec.{eqb, leb}
-use lib.ListN.{length, drop, length-map}
+use lib.ListN.{length, take, drop, length-map}
 use lib.Seq.{take-at, drop-at}
 use Rattle.model.specs.Basic.{every, same, keep, countUp}
 use Rattle.model.specs.Bounds.{maxActions, maxTreeNodes}
-use Rattle.model.specs.Predicate.{Pred, all, any, negate, imp, eq, le, Word, words, nodeCount, allOf, anyOf, notWord, impWord, eqWord, leWord, numWord, oldWord, newWord, addWord, subWord, mulWord, ifWord, stray}
+use Rattle.model.specs.Predicate.{Pred, all, any, negate, imp, eq, le, Word, words, nodeCount, allOf, anyOf, notWord, impWord, eqWord, leWord, numWord, oldWord, newWord, addWord, subWord, mulWord, ifWord, stray, written}
 use Rattle.model.specs.Composition.{Tree, Node, nodes, starts, treeSize, par, syn, ini, leaf, parNode, synNode, iniNode, leafNode, strayNode}
 use Rattle.model.specs.Lines.{composeLine}
 use Rattle.model.specs.Limits.{inRange, treeInRange, rises, treeRises, listsFilled}
@@ -19,12 +20,14 @@ use Rattle.model.proofs.Tests.{and-intro, and-left, and-right, every-append}
 use Rattle.model.proofs.Lists.{same-of, same-self, flat-append}
 use Rattle.model.proofs.Decode.{word-back}
 use Rattle.model.proofs.Bits.{set-back}
-use Rattle.format.specs.Bytes.{Bytes, bytes, ledBy, joined, space, 'a}
+use Rattle.format.specs.Bytes.{Bytes, bytes, ledBy, joined, LF, space, 'a}
 use Rattle.format.specs.Number.{decimal}
-use Rattle.format.specs.Spelling.{spelled, spelledNode, textOfList, textOfPred, textOfTree}
+use Rattle.format.specs.Spelling.{spelled, spelledNode, textOfList, textOfPred, textOfTree, writesKey, listText}
 use Rattle.table_places.proofs.StartLaws.{first-start}
-use Rattle.write_words.specs.NodeText.{wordText, wordsText, predicateText, isIni, overText, nodeBy, nodeText, sizeBy, nodeSize, startsAfter, nodeTexts}
-use Rattle.write_words.specs.Text.{startsBehind, treeText}
+use Rattle.table_writes.specs.Sets.{writtenSet}
+use Rattle.table_writes.proofs.WrittenLaws.{written-set}
+use Rattle.write_words.specs.NodeText.{wordText, wordsText, predicateText, membersText, isIni, overText, nodeBy, nodeText, sizeBy, nodeSize, startsAfter, nodeTexts}
+use Rattle.write_words.specs.Text.{startsBehind, treeText, writesText}
 use Rattle.format.proofs.BytesLaws.{led-append}
 use Rattle.write_words.proofs.JoinLaws.{isNone}
 
@@ -86,12 +89,25 @@ words-coded [] h = refl
 words-coded (w ∷ ws) h =
     ap₂ (λ (x : Bytes) (xs : List Bytes). x ∷ xs) (ap (λ (v : Word). joined space (spelled v)) (word-back w (and-left (inRange w) _ h))) (words-coded ws (and-right (inRange w) _ h))
 
+-- its nodes, before some rest
+first-nodes : (p : Pred) (rest : List ℕ) → take (nodeCount p) (map code (words p) ++ rest) ≡ map code (words p)
+unfolding nodeCount
+first-nodes p rest = take-at (map code (words p)) rest (length (words p)) (length-map (words p) code)
+
 pub predicate-text : (p : Pred) (rest : List ℕ) → every inRange (words p) ≡ true → predicateText (predWords p ++ rest) ≡ textOfPred p
-unfolding predicateText predWords textOfPred wordsText nodeCount
+unfolding predicateText predWords textOfPred wordsText
 predicate-text p rest h =
-    ap (λ (l : List ℕ). joined space (map wordText l)) (take-at (map code (words p)) rest (length (words p)) (length-map (words p) code)) ∙
+    ap (λ (l : List ℕ). joined space (map wordText l)) (first-nodes p rest) ∙
     ap (joined space) (words-coded (words p) h) ∙
     joined-parts space spelled (words p) (every-weaker inRange (λ w. not (isNone (spelled w))) some-word (words p) h)
+
+-- what it writes: the list behind an edge, three numbers standing before the update
+pub writes-text : (from act to : ℕ) (p : Pred) (rest : List ℕ) → every inRange (words p) ≡ true → writesText (from ∷ act ∷ to ∷ predWords p ++ rest) ≡ listText (some (written p))
+unfolding writesText predWords membersText listText
+writes-text from act to p rest h =
+    ap (λ (l : List ℕ). writesKey ++ textOfList (keep (bit (writtenSet l)) (countUp 0 64)) ++ (LF ∷ [])) (first-nodes p rest) ∙
+    ap (λ (l : List ℕ). writesKey ++ textOfList l ++ (LF ∷ [])) (written-set p h) ∙
+    append-assoc writesKey (textOfList (written p)) (LF ∷ [])
 
 -- past its nodes
 pub past-nodes : (p : Pred) (rest : List ℕ) → drop (nodeCount p) (map code (words p) ++ rest) ≡ rest

@@ -72,7 +72,8 @@ pub fn write(table: &[u32], out: &mut [u8]) -> Result<usize, Refusal> {
     delivered(numbers::write(table, out)).map(|merged| merged.length)
 }
 
-/// Writes the text of the one automaton that does what all automata of the table do together, equal edges once.
+/// Writes the text of the one automaton that does what all automata of the table do together, equal edges once, in the format of the
+/// table's own text.
 pub fn merge(table: &[u32], out: &mut [u8]) -> Result<Merged, Refusal> {
     delivered(numbers::merge(table, out))
 }

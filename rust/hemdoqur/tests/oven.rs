@@ -14,7 +14,8 @@ fn table() -> Vec<u32> {
 fn a_refusal_has_row_and_line_and_writes_nothing() {
     let mut table = vec![7; TABLE_WORDS];
     assert_eq!(read(b"", &mut table), Err(Refusal { row: 2, line: 1 }));
-    assert_eq!(read(b"format=2\n", &mut table), Err(Refusal { row: 3, line: 1 }));
+    assert_eq!(read(b"format=3\n", &mut table), Err(Refusal { row: 3, line: 1 }));
+    assert_eq!(read(b"format=2\n", &mut table), Err(Refusal { row: 2, line: 2 }));
     assert_eq!(read(&vec![b'\n'; TEXT_BYTES + 1], &mut table), Err(Refusal { row: 1, line: 0 }));
     assert_eq!(read(OVEN, &mut table[1..]), Err(Refusal { row: 18, line: 0 }));
     assert!(table.iter().all(|word| *word == 7));
@@ -106,7 +107,7 @@ fn the_size_of_that_oven() {
 #[test]
 fn a_refusal_is_an_error_with_a_sentence() {
     let mut table = vec![0; TABLE_WORDS];
-    let refused: Box<dyn std::error::Error> = read(b"format=2\n", &mut table).unwrap_err().into();
+    let refused: Box<dyn std::error::Error> = read(b"format=3\n", &mut table).unwrap_err().into();
     assert_eq!(refused.to_string(), "row 3, line 1: a number is misspelled or out of its range");
     assert_eq!(size(&table).unwrap_err().to_string(), "row 19: the table is not one that the reader makes");
     let short: Box<dyn std::error::Error> = RunRefusal::AnswersShort.into();

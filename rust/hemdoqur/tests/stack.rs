@@ -1,5 +1,6 @@
 //! The stack that include/hemdoqur.h gives each function is enough, on sheets that are as deep and as large as there are.
 use hemdoqur::*;
+use std::collections::BTreeSet;
 use std::thread::Builder;
 
 const HEADER: &str = include_str!("../../../include/hemdoqur.h");
@@ -113,24 +114,52 @@ fn deepest_search(compose: &str) -> String {
     format!("format=1\nactions=1\nvariables=48\n{}automata=16\n{automata}compose={compose}\n", "variable=0,1\n".repeat(48))
 }
 
+/// Edges that write as many variables as a sheet can have that is merged.
+fn most_written() -> String {
+    let mentions: String = (0..47).map(|k| format!(" le n{k} 1")).collect();
+    let edges: String = (0..20).map(|i| format!("edge=0,1,0,all 48 eq 0 {i}{mentions}\n")).collect();
+    let automaton = format!("sync=\nlocations=1\ninit=all 0\ninv=all 0\nedges=20\n{edges}");
+    format!("format=1\nactions=1\nvariables=47\n{}automata=1\n{automaton}compose=a0\n", "variable=0,1\n".repeat(47))
+}
+
+/// The sheet in format 2: behind each edge the variables whose new value it mentions.
+fn telling(text: &str) -> String {
+    let lines = text.replacen("format=1", "format=2", 1);
+    let told = |line: &str| match line.strip_prefix("edge=") {
+        Some(edge) => {
+            let new: BTreeSet<u32> = edge.split(' ').filter_map(|word| word.strip_prefix('n')?.parse().ok()).collect();
+            let list: Vec<String> = new.iter().map(u32::to_string).collect();
+            format!("{line}\nwrites={}\n", list.join(","))
+        }
+        None => format!("{line}\n"),
+    };
+    lines.lines().map(told).collect()
+}
+
 fn good_texts() -> Vec<String> {
     let [left, right] = deep_trees();
     let mut texts = vec![sixteen("all 0", "all 0", &left), sixteen("all 0", "all 0", &right), most_merged_edges(), deepest_tree()];
     texts.extend(deep_predicates().iter().map(|predicate| sixteen(predicate, predicate, &left)));
+    texts.extend(deep_predicates().iter().map(|predicate| sixteen("all 0", &predicate.replace("v0", "n0"), &right)));
     texts.extend(deep_predicates().iter().map(|predicate| deepest_start(predicate)));
     // As deep as can be merged.
     texts.push(deepest_start(&format!("not {}eq v0 0{}", "eq if ".repeat(10), " 0 v0 0".repeat(10))));
+    texts.push(most_written());
+    let in_format_2: Vec<String> = texts.iter().map(|text| telling(text)).collect();
+    texts.extend(in_format_2);
     texts
 }
 
-/// Lines that nest as deep as a text can.
+/// Lines that nest as deep as a text can, and lists as long as one.
 fn bad_texts() -> Vec<String> {
     let words = ["not ", "imp all 0 ", "all 512 ", "eq if ", "eq add "];
     let nested = |word: &str| word.repeat(60_000 / word.len()) + "all 0";
     let starts = ["ini ", "ini all 0 ", "ini not ", "par ini all 512 "];
     let inits = words.iter().map(|word| format!("{HEAD}sync=\nlocations=1\ninit={}\n", nested(word)));
     let deep = words.iter().map(|word| deepest_start(&nested(word)));
-    inits.chain(deep).chain(starts.iter().map(|word| deepest_start(&nested(word)))).collect()
+    let lists = ["0,", "1,2,", "47,", ",", "1"].map(|item| format!("\nwrites={}", item.repeat(60_000 / item.len())));
+    let long = lists.iter().map(|list| telling(&deepest_tree()).replace("\nwrites=", list));
+    inits.chain(deep).chain(starts.iter().map(|word| deepest_start(&nested(word)))).chain(long).collect()
 }
 
 fn table_of(text: &str) -> Vec<u32> {
@@ -173,7 +202,7 @@ fn merging() {
     let tables = tables();
     within("MERGE", move || {
         let merged = tables.iter().filter(|table| merge(table, &mut out).is_ok()).count();
-        assert_eq!(merged, 3, "the one with 408 edges, the deepest tree and the last start; others have too many edges or levels");
+        assert_eq!(merged, 8, "in both formats: 408 edges, the deepest tree, the last start, 47 variables; others are too large");
     });
 }
 

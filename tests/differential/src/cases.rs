@@ -1,5 +1,7 @@
 //! Sheet texts made by hand, each with the answer that the paper gives it: every row of the reader and the merger, and
 //! both sides of every limit. Names say what a text is about; where two differ in a number, a limit lies between them.
+mod lists;
+
 use crate::rounds::OVEN;
 
 /// A text, and what must come of it.
@@ -48,7 +50,11 @@ const CHANGES: &[Change] = &[
     ("byte_126", 8, "init=~", 6),
     // Row 3: how a number is spelled, and its range.
     ("format_0", 1, "format=0", 3),
-    ("format_2", 1, "format=2", 3),
+    ("format_3", 1, "format=3", 3),
+    ("format_4", 1, "format=4", 3),
+    ("format_leading_zero", 1, "format=02", 3),
+    ("format_space", 1, "format=2 ", 3),
+    ("format_two_fields", 1, "format=1,2", 2),
     ("number_missing", 2, "actions=", 3),
     ("number_leading_zero", 2, "actions=02", 3),
     ("number_minus_zero", 4, "variable=-0,1", 3),
@@ -224,7 +230,13 @@ pub fn all() -> Vec<Case> {
     cases.extend(repeats());
     cases.extend(starts());
     cases.extend(starts_in_trees());
+    cases.extend(lists::all());
     cases
+}
+
+/// Proposals made by hand, after the text that they are put to.
+pub fn judged() -> Vec<Judged> {
+    [JUDGED, lists::JUDGED].concat()
 }
 
 fn case(name: &str, text: String, refusal: Option<(u32, u32)>) -> Case {
@@ -470,8 +482,10 @@ fn starts_in_trees() -> Vec<Case> {
     ]
 }
 
-/// Proposals made by hand, each with its answer, after the text that they are put to; written as in judge.txt.
-pub const JUDGED: &[(&str, &[&str])] = &[
+/// The name of a text, and proposals to it with their answers, written as in judge.txt.
+pub type Judged = (&'static str, &'static [&'static str]);
+
+const JUDGED: &[Judged] = &[
     (
         "oven",
         &[

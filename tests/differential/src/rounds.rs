@@ -58,6 +58,7 @@ pub fn round(comparison: &mut Comparison, seed: u64) {
     runs::lists(comparison, &mut random, &model, &table);
     damaged_tables(comparison, &mut random, &model, &table);
     faulty_tables(comparison, &mut random, &model);
+    in_other_format(comparison, &mut random, &model, &table);
     let merged_text = written(comparison, &mut random, &table, true);
     let merged_table = merged_text.map(|text| merged_read(comparison, &text));
     for _ in 0..2 {
@@ -87,11 +88,13 @@ pub fn fixed(comparison: &mut Comparison) {
     }
     runs::oven_lists(comparison, &mut random, &model, &table);
     cold_oven(comparison, &mut random, &empty);
+    telling_oven(comparison, &mut random, &model, &empty);
     long_texts(comparison, &empty);
     long_compositions(comparison, &empty);
     pairs_of_words(comparison, &empty);
     lines_with_many_faults(comparison, &empty);
     starts_with_many_faults(comparison, &empty);
+    lists_with_many_faults(comparison, &empty);
 }
 
 /// Tables with one of these words changed.
@@ -116,6 +119,18 @@ fn cold_oven(comparison: &mut Comparison, random: &mut Random, empty: &[u32]) {
     let (_, table) = comparison.read(&text, empty);
     let model = reader::read(&text, TABLE_WORDS).expect("it is accepted");
     each_word(comparison, random, &model, &table, 46..72);
+}
+
+/// The oven whose edges say what they write: every small damage of its text, and the words that have its format and its size.
+fn telling_oven(comparison: &mut Comparison, random: &mut Random, oven: &Model, empty: &[u32]) {
+    let model = Model { format: 2, ..oven.clone() };
+    let text = text_of(&model);
+    for damaged in every_damage(&text) {
+        comparison.read(&damaged, empty);
+    }
+    let (_, table) = comparison.read(&text, empty);
+    each_word(comparison, random, &model, &table, 0..4);
+    in_other_format(comparison, random, &model, &table);
 }
 
 /// Texts at the limit of bytes, and lines that nest as deep as a text can.
@@ -168,6 +183,12 @@ fn long_compositions(comparison: &mut Comparison, table: &[u32]) {
 fn small_sheet(init: &str, edge: &str, compose: &str) -> Vec<u8> {
     let head = "format=1\nactions=2\nvariables=1\nvariable=0,1\nautomata=1\nsync=\nlocations=1";
     format!("{head}\ninit={init}\ninv=all 0\nedges=1\nedge={edge}\ncompose={compose}\n").into_bytes()
+}
+
+/// A sheet whose one edge has this update and this list; V is 2.
+fn telling_sheet(format: u32, update: &str, list: &str) -> Vec<u8> {
+    let head = format!("format={format}\nactions=1\nvariables=2\nvariable=0,1\nvariable=0,1\nautomata=1\nsync=\nlocations=1");
+    format!("{head}\ninit=all 0\ninv=all 0\nedges=1\nedge=0,1,0,{update}\nwrites={list}\ncompose=a0\n").into_bytes()
 }
 
 /// Each two words after each other, in a predicate, in a composition and behind `ini`.
@@ -224,6 +245,62 @@ fn starts_with_many_faults(comparison: &mut Comparison, table: &[u32]) {
             }
         }
     }
+}
+
+/// Lists behind edges that write what they say, or less, or more, or are faulty themselves; and lists as long as a text.
+fn lists_with_many_faults(comparison: &mut Comparison, table: &[u32]) {
+    let updates = [
+        "all 0",
+        "eq n0 1",
+        "le v0 n1",
+        "all 2 eq n1 0 le n0 1",
+        "eq v0 if le n1 0 0 1",
+        "imp any 0 eq n0 1",
+        "eq n2 0",
+        "eq n48 0",
+        "eq n0",
+    ];
+    for update in updates {
+        for first in LISTS {
+            comparison.read(&telling_sheet(1, update, first), table);
+            comparison.read(&telling_sheet(2, update, first), table);
+            for second in LISTS {
+                comparison.read(&telling_sheet(2, update, &format!("{first},{second}")), table);
+            }
+        }
+    }
+    for item in ["0,", "1,", "0,1,", "47,", "48,", ",", "0", "1"] {
+        let long = item.repeat(60_000 / item.len());
+        comparison.read(&telling_sheet(2, "eq n0 1", &long), table);
+        comparison.read(&telling_sheet(2, "eq n0 1", long.trim_end_matches(',')), table);
+    }
+}
+
+/// The sheet with the lists behind its edges, or without: its table has another first word, and all that comes of it is alike.
+fn in_other_format(comparison: &mut Comparison, random: &mut Random, model: &Model, table: &[u32]) {
+    let other = Model { format: 3 - model.format, ..model.clone() };
+    let text = if other.format == 1 { without_lists(&text_of(model)) } else { text_of(&other) };
+    let (answer, other_table) = comparison.read(&text, &vec![0; TABLE_WORDS]);
+    let same = answer == 0 && other_table[0] == other.format && other_table[1..] == table[1..];
+    comparison.law("the formats have one table but for its first word", same, || String::from_utf8_lossy(&text).into());
+    let merged = [table, &other_table].map(|table| {
+        let (answer, out) = comparison.merge(table, &vec![0; TEXT_BYTES]);
+        (calls::row(answer), calls::edges(answer), without_lists(out.get(..calls::length(answer)).unwrap_or(&[])))
+    });
+    comparison.law("the formats merge alike", merged[0] == merged[1], || String::from_utf8_lossy(&text).into());
+    for _ in 0..4 {
+        let from = state(random, model);
+        let proposed = proposal(random, model, &from);
+        let answers = [table, &other_table].map(|table| comparison.judge(table, &from, &proposed));
+        comparison.law("the formats are judged alike", answers[0] == answers[1], || format!("{from:?} {proposed:?}"));
+    }
+}
+
+/// A text without the lists behind its edges, and with the format that has none.
+fn without_lists(text: &[u8]) -> Vec<u8> {
+    let mut lines: Vec<&[u8]> = text.split(|byte| *byte == b'\n').filter(|line| !line.starts_with(b"writes=")).collect();
+    lines[0] = b"format=1";
+    lines.join(&b'\n')
 }
 
 fn damaged_reads(comparison: &mut Comparison, random: &mut Random, text: &[u8]) {

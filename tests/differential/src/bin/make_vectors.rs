@@ -41,7 +41,7 @@ fn files() -> Files {
     for case in cases::all() {
         put(&mut files, &case.name, &case.text, answer_by_hand(&case));
     }
-    for (name, lines) in cases::JUDGED {
+    for (name, lines) in cases::judged() {
         judge += &judged_by_hand(&files, name, lines);
     }
     let sheets = drawn_sheets();

@@ -96,6 +96,35 @@ pub const STARTS: &[&str] = &[
     "le mul mul 32767 32767 3 0",
     "le if le mul mul 32767 32767 3 0 0 1 0",
 ];
+/// What can stand behind `writes=`, or between two commas of it.
+pub const LISTS: &[&str] = &[
+    "",
+    "0",
+    "1",
+    "2",
+    "3",
+    "46",
+    "47",
+    "48",
+    "0,1",
+    "1,0",
+    "0,0",
+    "1,2",
+    ",",
+    "0,",
+    ",1",
+    "00",
+    "01",
+    "-0",
+    "-1",
+    "n0",
+    "v1",
+    "0 ",
+    " 1",
+    "1x",
+    "+1",
+    "99999999999999999999",
+];
 const BYTES: &[u8] = b"\n\r\t ,=-0123456789vnaALsyn\x00\x1f\x20\x7e\x7f\x80\xff";
 
 /// A text with one or two faults, perhaps.
@@ -108,10 +137,11 @@ pub fn damaged_text(random: &mut Random, text: &[u8]) -> Vec<u8> {
 }
 
 fn damaged_once(random: &mut Random, text: &[u8]) -> Vec<u8> {
-    match random.below(13) {
+    match random.below(16) {
         0 | 1 => damaged_byte(random, text),
         9 | 10 => rewritten_line(random, text),
         11 | 12 => more_starts(random, text),
+        13..=15 => damaged_writes(random, text),
         2 | 3 => damaged_parts(random, text, b'\n'),
         4 | 5 => damaged_token(random, text),
         6 | 7 => damaged_number(random, text),
@@ -225,6 +255,56 @@ fn more_starts(random: &mut Random, text: &[u8]) -> Vec<u8> {
         line.splice(at..at, more.into_bytes());
     }
     lines.join(&b'\n')
+}
+
+/// What edges write, said otherwise: another list, or its line somewhere else or not at all; or another format says which
+/// lines are due.
+fn damaged_writes(random: &mut Random, text: &[u8]) -> Vec<u8> {
+    let mut lines: Vec<Vec<u8>> = text.split(|byte| *byte == b'\n').map(<[u8]>::to_vec).collect();
+    if random.percent(15) {
+        lines[0] = format!("format={}", random.pick(&[0, 1, 1, 2, 2, 3])).into_bytes();
+        return lines.join(&b'\n');
+    }
+    let of_key = |key: &[u8]| (0..lines.len()).filter(|i| lines[*i].starts_with(key)).collect::<Vec<_>>();
+    let (edges, lists) = (of_key(b"edge="), of_key(b"writes="));
+    if edges.is_empty() {
+        return text.to_vec();
+    }
+    if lists.is_empty() || random.percent(5) {
+        let behind = 1 + random.pick(&edges);
+        lines.insert(behind, format!("writes={}", random.pick(LISTS)).into_bytes());
+        return lines.join(&b'\n');
+    }
+    let at = random.pick(&lists);
+    match random.below(16) {
+        0 => drop(lines.remove(at)),
+        1 => lines.insert(at, lines[at].clone()),
+        2 => lines.swap(at.saturating_sub(1), at),
+        3 => lines.swap(at, random.pick(&lists)),
+        _ => lines[at] = [b"writes=", &damaged_list(random, &lines[at][7..])[..]].concat(),
+    }
+    lines.join(&b'\n')
+}
+
+/// A list with an item more or less, or another, or in another order.
+fn damaged_list(random: &mut Random, list: &[u8]) -> Vec<u8> {
+    let mut items: Vec<Vec<u8>> = list.split(|byte| *byte == b',').filter(|item| !item.is_empty()).map(<[u8]>::to_vec).collect();
+    let at = random.below(items.len());
+    let other = if random.percent(60) { random.below(5).to_string() } else { random.pick(LISTS).to_string() };
+    match random.below(8) {
+        0 | 1 => items.insert(at, other.into_bytes()),
+        2 => items.push(other.into_bytes()),
+        _ if items.is_empty() => {}
+        3 => drop(items.remove(at)),
+        4 => items.insert(at, items[at].clone()),
+        5 => items[at..].rotate_left(1),
+        6 => items[at] = other.into_bytes(),
+        _ => items.reverse(),
+    }
+    if random.percent(40) {
+        items.sort_by_key(|item| std::str::from_utf8(item).map_or(0, |digits| digits.parse().unwrap_or(0)));
+    }
+    items.join(&b',')
 }
 
 /// What stands behind an `ini`; some are around the limits of depth and nodes.

@@ -21,7 +21,7 @@ struct Shape {
     inis: usize,
 }
 
-/// A sheet, mostly one that is accepted.
+/// A sheet, mostly one that is accepted; half of them say behind each edge what it writes.
 pub fn sheet(random: &mut Random) -> Model {
     let mut drawn = match random.below(20) {
         0..=7 => small(random),
@@ -34,6 +34,7 @@ pub fn sheet(random: &mut Random) -> Model {
     if random.percent(30) {
         paste(random, &mut drawn);
     }
+    drawn.format = 1 + random.below(HIGHEST_FORMAT as usize) as u32;
     drawn
 }
 
@@ -167,7 +168,7 @@ fn equal_edges(random: &mut Random) -> Model {
     if random.percent(50) {
         composition = with_ini(random, composition, Predicate::Le(Expression::Old(0), Expression::Number(2)));
     }
-    Model { actions: 1, ranges: vec![range; 1 + random.below(2)], automata, composition }
+    Model { format: 1, actions: 1, ranges: vec![range; 1 + random.below(2)], automata, composition }
 }
 
 fn model(random: &mut Random, shape: &Shape) -> Model {
@@ -188,7 +189,7 @@ fn model(random: &mut Random, shape: &Shape) -> Model {
         let start = start(random, &ranges, shape.depth);
         composition = with_ini(random, composition, start);
     }
-    Model { actions: shape.actions as u32, ranges, automata, composition }
+    Model { format: 1, actions: shape.actions as u32, ranges, automata, composition }
 }
 
 fn range(random: &mut Random) -> Range {
@@ -424,7 +425,7 @@ fn pad_merged(model: &mut Model, nodes: usize) {
     *place = padding(size);
 }
 
-/// The model with faults of rows 4 to 16, as its text will have them: one or several.
+/// The model with faults of rows 3 to 16, as its text will have them: one or several.
 pub fn faulty_sheet(random: &mut Random, model: &Model) -> Model {
     let mut faulty = model.clone();
     loop {
@@ -439,7 +440,7 @@ fn break_row(random: &mut Random, model: &mut Model) {
     let k = random.below(model.automata.len());
     let variables = model.ranges.len();
     let past = random.below(2);
-    match random.below(12) {
+    match random.below(25) / 2 {
         0 if variables > 0 => model.ranges[random.below(variables)] = (random.pick(&[1, 32_767]), random.pick(&[1, 0, -32_768])),
         1 | 2 => {
             let p = faulty_predicate(random, model);
@@ -465,6 +466,8 @@ fn break_row(random: &mut Random, model: &mut Model) {
             model.automata[k].edges.resize(count, edge);
         }
         9 => fill_tree(random, model, TREE_NODES + past),
+        // Seldom: at the first line it hides the others.
+        12 => model.format = random.below(HIGHEST_FORMAT as usize + 2) as u32,
         _ => {
             let action = random.pick(&[0, model.actions + 1, 63]);
             model.automata[k].sync.insert(action);

@@ -59,6 +59,7 @@ pub fn definition_4(model: &Model) -> Model {
         edges: (0..=model.actions).flat_map(|action| merged_edges(model, action)).collect(),
     };
     Model {
+        format: model.format,
         actions: model.actions,
         ranges: model.ranges.iter().copied().chain(pointers).collect(),
         automata: vec![automaton],

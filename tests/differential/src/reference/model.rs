@@ -7,6 +7,7 @@ pub const NODES: usize = 4_096;
 pub const DEPTH: usize = 24;
 pub const EDGES: usize = 512;
 pub const TREE_NODES: usize = 64;
+pub const HIGHEST_FORMAT: i64 = 2;
 pub const HIGHEST_ACTION: i64 = 63;
 pub const VARIABLES: i64 = 48;
 pub const AUTOMATA: i64 = 16;
@@ -72,6 +73,8 @@ pub struct Automaton {
 
 #[derive(Clone, Debug, PartialEq)]
 pub struct Model {
+    /// From 2 up the text says behind each edge what it writes.
+    pub format: u32,
     /// A: the actions are 0 (silent) and 1 to A.
     pub actions: u32,
     pub ranges: Vec<Range>,
@@ -236,6 +239,14 @@ impl Expression {
                 y.visit(visit);
             }
         }
+    }
+}
+
+impl Edge {
+    /// The variables that it writes, rising: those whose new value its update mentions.
+    pub fn writes(&self) -> Vec<u32> {
+        let mentioned = self.update.mentions_new();
+        (0..VARIABLES as u32).filter(|k| mentioned >> k & 1 == 1).collect()
     }
 }
 

@@ -12,7 +12,7 @@ pub fn read(text: &[u8], table_length: usize) -> Result<Model, Refusal> {
     if text.len() > TEXT_BYTES {
         return Err((1, 0));
     }
-    let mut sheet = Sheet { rest: text, line: 0, actions: 0, ranges: Vec::new(), nodes: 0, edges: 0 };
+    let mut sheet = Sheet { rest: text, line: 0, format: 0, actions: 0, ranges: Vec::new(), nodes: 0, edges: 0 };
     let model = sheet.model()?;
     sheet.end()?;
     Ok(model)
@@ -22,6 +22,7 @@ pub fn read(text: &[u8], table_length: usize) -> Result<Model, Refusal> {
 struct Sheet<'a> {
     rest: &'a [u8],
     line: u32,
+    format: u32,
     actions: u32,
     ranges: Vec<Range>,
     nodes: usize,
@@ -42,7 +43,7 @@ impl<'a> Sheet<'a> {
     }
 
     fn model(&mut self) -> Result<Model, Refusal> {
-        self.number("format=", 1, 1)?;
+        self.format = self.number("format=", 1, HIGHEST_FORMAT)? as u32;
         self.actions = self.number("actions=", 0, HIGHEST_ACTION)? as u32;
         for _ in 0..self.number("variables=", 0, VARIABLES)? {
             let range = self.range()?;
@@ -54,7 +55,7 @@ impl<'a> Sheet<'a> {
             automata.push(self.automaton()?);
         }
         let composition = self.composition(automata.len())?;
-        Ok(Model { actions: self.actions, ranges: self.ranges.clone(), automata, composition })
+        Ok(Model { format: self.format, actions: self.actions, ranges: self.ranges.clone(), automata, composition })
     }
 
     fn end(&mut self) -> Result<(), Refusal> {
@@ -114,19 +115,35 @@ impl<'a> Sheet<'a> {
         self.require(self.edges <= EDGES, 15)?;
         let mut edges = Vec::new();
         for _ in 0..count {
-            edges.push(self.edge(locations.len())?);
+            let edge = self.edge(locations.len())?;
+            if self.format >= 2 {
+                self.writes(&edge)?;
+            }
+            edges.push(edge);
         }
         Ok(Automaton { sync, locations, edges })
     }
 
     fn sync(&mut self) -> Result<ActionSet, Refusal> {
-        let value = self.value("sync=")?;
-        if value.is_empty() {
-            return Ok(ActionSet::new());
-        }
-        let actions = actions(value).ok_or((3, self.line))?;
+        let actions = self.list("sync=", HIGHEST_ACTION)?;
         self.require(rises_within(&actions, self.actions), 5)?;
         Ok(actions.into_iter().collect())
+    }
+
+    /// The numbers of a line that is a list, perhaps an empty one.
+    fn list(&mut self, key: &str, greatest: i64) -> Result<Vec<u32>, Refusal> {
+        match self.value(key)? {
+            b"" => Ok(Vec::new()),
+            value => list(value, greatest).ok_or((3, self.line)),
+        }
+    }
+
+    /// The line behind an edge. Nothing of it is kept: if no row refuses it, the edge says the same.
+    fn writes(&mut self, edge: &Edge) -> Result<(), Refusal> {
+        let written = self.list("writes=", VARIABLES - 1)?;
+        self.require(rises(&written), 5)?;
+        self.require(written.iter().all(|k| (*k as usize) < self.ranges.len()), 7)?;
+        self.require(written == edge.writes(), 44)
     }
 
     fn state_predicate(&mut self, key: &str) -> Result<Predicate, Refusal> {
@@ -215,14 +232,22 @@ pub fn number(digits: &[u8], least: i64, greatest: i64) -> Option<i64> {
     (least <= number && number <= greatest).then_some(number)
 }
 
-/// The actions of a list, each from 0 to 63.
-fn actions(list: &[u8]) -> Option<Vec<u32>> {
-    parts(list, b',').into_iter().map(|item| number(item, 0, HIGHEST_ACTION).map(|action| action as u32)).collect()
+/// The numbers between commas, each from 0 up to this one.
+fn list(items: &[u8], greatest: i64) -> Option<Vec<u32>> {
+    parts(items, b',').into_iter().map(|item| number(item, 0, greatest).map(|number| number as u32)).collect()
 }
 
-/// Not row 5: the list rises and holds actions from 1 to A.
+fn actions(items: &[u8]) -> Option<Vec<u32>> {
+    list(items, HIGHEST_ACTION)
+}
+
+fn rises(list: &[u32]) -> bool {
+    list.windows(2).all(|pair| pair[0] < pair[1])
+}
+
+/// Not row 5, for actions: the list rises and holds those from 1 to A.
 fn rises_within(list: &[u32], highest: u32) -> bool {
-    list.windows(2).all(|pair| pair[0] < pair[1]) && list.iter().all(|action| (1..=highest).contains(action))
+    rises(list) && list.iter().all(|action| (1..=highest).contains(action))
 }
 
 fn starts_number(token: &[u8]) -> bool {

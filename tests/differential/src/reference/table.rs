@@ -5,9 +5,9 @@ use super::model::*;
 const BIAS: i32 = 32_768;
 const KINDS: u32 = 16;
 
-/// The table of a model: 8,192 words.
+/// The table of a model: 8,192 words. What an edge writes has none; its update says it.
 pub fn table(model: &Model) -> Vec<u32> {
-    let mut out = vec![1, model.actions, model.ranges.len() as u32];
+    let mut out = vec![model.format, model.actions, model.ranges.len() as u32];
     for (low, high) in &model.ranges {
         out.extend([(low + BIAS) as u32, (high + BIAS) as u32]);
     }
@@ -142,7 +142,7 @@ impl Words<'_> {
     }
 
     fn model(&mut self) -> Option<Model> {
-        let _format = self.next()?;
+        let format = self.up_to(HIGHEST_FORMAT)?;
         let actions = self.up_to(HIGHEST_ACTION)?;
         let variables = self.up_to(VARIABLES)?;
         let ranges = (0..variables).map(|_| Some((self.biased()?, self.biased()?))).collect::<Option<_>>()?;
@@ -153,7 +153,7 @@ impl Words<'_> {
         let count = self.up_to(TREE_NODES as i64)?;
         let starts = (0..count).map(|_| self.counted()).collect::<Option<Vec<_>>>()?;
         composition.starts_mut().into_iter().zip(starts).for_each(|(place, start)| *place = start);
-        Some(Model { actions, ranges, automata, composition })
+        Some(Model { format, actions, ranges, automata, composition })
     }
 
     fn biased(&mut self) -> Option<i32> {
@@ -250,7 +250,8 @@ impl Words<'_> {
 
 /// Whether the model's text breaks none of the rows that a line can break.
 pub fn within_limits(model: &Model) -> bool {
-    model.ranges.iter().all(|(low, high)| low <= high)
+    model.format > 0
+        && model.ranges.iter().all(|(low, high)| low <= high)
         && !model.automata.is_empty()
         && model.automata.iter().all(|automaton| automaton_within(automaton, model))
         && model.edges() <= EDGES

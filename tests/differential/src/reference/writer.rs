@@ -5,7 +5,7 @@ use std::fmt::Write;
 pub fn write(model: &Model) -> Vec<u8> {
     let mut text = String::new();
     let out = &mut text;
-    line(out, format_args!("format=1"));
+    line(out, format_args!("format={}", model.format));
     line(out, format_args!("actions={}", model.actions));
     line(out, format_args!("variables={}", model.ranges.len()));
     for (low, high) in &model.ranges {
@@ -13,7 +13,7 @@ pub fn write(model: &Model) -> Vec<u8> {
     }
     line(out, format_args!("automata={}", model.automata.len()));
     for automaton in &model.automata {
-        write_automaton(out, automaton);
+        write_automaton(out, automaton, model.format);
     }
     line(out, format_args!("compose={}", composition(&model.composition)));
     text.into_bytes()
@@ -23,8 +23,8 @@ fn line(out: &mut String, content: std::fmt::Arguments) {
     writeln!(out, "{content}").expect("a string takes all");
 }
 
-fn write_automaton(out: &mut String, automaton: &Automaton) {
-    line(out, format_args!("sync={}", list(&automaton.sync)));
+fn write_automaton(out: &mut String, automaton: &Automaton, format: u32) {
+    line(out, format_args!("sync={}", list(automaton.sync.iter())));
     line(out, format_args!("locations={}", automaton.locations.len()));
     for location in &automaton.locations {
         line(out, format_args!("init={}", predicate(&location.init)));
@@ -33,11 +33,14 @@ fn write_automaton(out: &mut String, automaton: &Automaton) {
     line(out, format_args!("edges={}", automaton.edges.len()));
     for edge in &automaton.edges {
         line(out, format_args!("edge={},{},{},{}", edge.from, edge.action, edge.to, predicate(&edge.update)));
+        if format >= 2 {
+            line(out, format_args!("writes={}", list(edge.writes().iter())));
+        }
     }
 }
 
-fn list(actions: &ActionSet) -> String {
-    actions.iter().map(u32::to_string).collect::<Vec<_>>().join(",")
+fn list<'n>(numbers: impl Iterator<Item = &'n u32>) -> String {
+    numbers.map(u32::to_string).collect::<Vec<_>>().join(",")
 }
 
 pub fn predicate(p: &Predicate) -> String {
@@ -75,7 +78,7 @@ fn expression(x: &Expression) -> String {
 fn composition(c: &Composition) -> String {
     match c {
         Composition::Par(left, right) => format!("par {} {}", composition(left), composition(right)),
-        Composition::Syn(actions, inner) => format!("syn {} {}", list(actions), composition(inner)),
+        Composition::Syn(actions, inner) => format!("syn {} {}", list(actions.iter()), composition(inner)),
         Composition::Ini(p, inner) => format!("ini {} {}", predicate(p), composition(inner)),
         Composition::Leaf(k) => format!("a{k}"),
     }

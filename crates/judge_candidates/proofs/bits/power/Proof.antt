@@ -1,5 +1,5 @@
 -- `judge_candidates::bits::power` meets its contract.
-use Rattle.judge_candidates.proofs.BitsLaws.{power-is}
+use Rattle.table_writes.proofs.BitLaws.{power-is}
 use borrow.Author.Needs.{needs}
 use Rattle.judge_candidates.proofs.bits.power.Statement.{statement}
 use Rattle.judge_candidates.proofs.bits.power.Tie as tie

@@ -13,12 +13,12 @@ word-requires c κs = search needs
 nodes-at-requires : tie.Need-nodes-at-requires
 nodes-at-requires c κs = search needs
 
-rest-requires : tie.Need-rest-requires
-rest-requires c κs = search needs
+unwritten-requires : tie.Need-unwritten-requires
+unwritten-requires c κs = search needs
 
 returns : tie.Need-returns
 returns c = search (needs, rest-at-is)
 
 pub rest-at-spec : {M : Type 1} → statement M
 rest-at-spec =
-    tie.close (tie.spec update-at-requires word-requires nodes-at-requires rest-requires returns)
+    tie.close (tie.spec update-at-requires word-requires nodes-at-requires unwritten-requires returns)

@@ -38,6 +38,9 @@ same-length-2 c = search needs
 returns-2 : tie.Need-returns-2
 returns-2 c = (search (needs, value-laws), (search (needs, value-astray-kept), search (needs, scratch-laws)))
 
+left-alone-requires : tie.Need-left-alone-requires
+left-alone-requires c κs = search needs
+
 append-edge-requires : tie.Need-append-edge-requires
 append-edge-requires c κs = search (needs, value-laws)
 
@@ -89,6 +92,7 @@ read-value-spec =
     same-length
     same-length-2
     returns-2
+    left-alone-requires
     append-edge-requires
     enum-known-read-2
     enum-told-2

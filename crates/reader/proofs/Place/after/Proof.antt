@@ -13,6 +13,9 @@ after-requires-2 c κs = search needs
 add-t11 : tie.Need-add-t11
 add-t11 c = search needs
 
+listed-requires : tie.Need-listed-requires
+listed-requires c κs = search needs
+
 returns : tie.Need-returns
 returns c = search (needs, place-laws)
 
@@ -23,4 +26,5 @@ after-spec =
     after-requires
     after-requires-2
     add-t11
+    listed-requires
     returns)

@@ -13,14 +13,20 @@ returns c = search (needs, round-laws)
 returns-2 : tie.Need-returns-2
 returns-2 c = search (needs, round-laws)
 
+list-requires : tie.Need-list-requires
+list-requires c κs = search needs
+
 returns-3 : tie.Need-returns-3
 returns-3 c = search (needs, round-laws)
+
+returns-4 : tie.Need-returns-4
+returns-4 c = search (needs, round-laws)
 
 line-requires : tie.Need-line-requires
 line-requires c κs = search needs
 
-returns-4 : tie.Need-returns-4
-returns-4 c = search (needs, round-laws)
+returns-5 : tie.Need-returns-5
+returns-5 c = search (needs, round-laws)
 
 pub round-spec : {M : Type 1} → statement M
 round-spec =
@@ -29,6 +35,8 @@ round-spec =
     end-requires
     returns
     returns-2
+    list-requires
     returns-3
+    returns-4
     line-requires
-    returns-4)
+    returns-5)

@@ -33,8 +33,8 @@ returns c = search (needs, lines-laws)
 rest-requires : tie.Need-rest-requires Inv-loop μ-loop
 rest-requires c κs = search needs
 
-line-requires : tie.Need-line-requires Inv-loop μ-loop
-line-requires c κs = search needs
+entry-requires : tie.Need-entry-requires Inv-loop μ-loop
+entry-requires c κs = search needs
 
 rest-requires-2 : tie.Need-rest-requires-2 Inv-loop μ-loop
 rest-requires-2 c κs = search needs
@@ -82,7 +82,7 @@ all-lines-spec =
     same-length
     returns
     rest-requires
-    line-requires
+    entry-requires
     rest-requires-2
     count-requires
     after-requires

@@ -1,59 +1,20 @@
--- The actions below k are written.
-use Rattle.write_words.proofs.NodeLaws.{set-laws, actionsBelow}
-use Prim.Native.Nat.{_-_, _≤_}
-use mathlib.Core.Path.{_≡_}
-use Rattle.format.specs.Spelling.{textOfList}
-use Rattle.write_words.specs.Growing.{Grew}
-use Rattle.write_words.proofs.JoinLaws.{isNone}
+-- `write_words::tree::set` meets its contract: each way out is a law of NodeLaws.
+use Rattle.write_words.proofs.NodeLaws.{set-is}
 use borrow.Author.Needs.{needs}
 use Rattle.write_words.proofs.tree.set.Statement.{statement}
 use Rattle.write_words.proofs.tree.set.Tie as tie
 
-abbrev Inv-loop : tie.InvT-loop
-Inv-loop low high out₀ both end₀ first₀ k₀ out end first k = (k ≤ 64) × Grew (textOfList (actionsBelow both k)) end₀ out₀ out end × (first ≡ isNone (actionsBelow both k))
-
-abbrev μ-loop : tie.MeasureT-loop
-μ-loop low high out₀ both end₀ first₀ k₀ out end first k = 64 - k
-
-set-of-requires : tie.Need-set-of-requires Inv-loop μ-loop
+set-of-requires : tie.Need-set-of-requires
 set-of-requires c κs = search needs
 
-loop-holds : tie.Need-loop-holds Inv-loop μ-loop
-loop-holds c = search (needs, set-laws)
+members-requires : tie.Need-members-requires
+members-requires c κs = search needs
 
-in-word-requires : tie.Need-in-word-requires Inv-loop μ-loop
-in-word-requires c κs = search needs
-
-member-requires : tie.Need-member-requires Inv-loop μ-loop
-member-requires c κs = search needs
-
-add-k : tie.Need-add-k Inv-loop μ-loop
-add-k c = search needs
-
-loop-less : tie.Need-loop-less Inv-loop μ-loop
-loop-less c = search needs
-
-loop-again : tie.Need-loop-again Inv-loop μ-loop
-loop-again c = search (needs, set-laws)
-
-same-length : tie.Need-same-length Inv-loop μ-loop
+same-length : tie.Need-same-length
 same-length c = search needs
 
-returns : tie.Need-returns Inv-loop μ-loop
-returns c = search (needs, set-laws)
+returns : tie.Need-returns
+returns c = search (needs, set-is)
 
 pub set-spec : {M : Type 1} → statement M
-set-spec =
-    tie.close
-    (tie.spec
-    Inv-loop
-    μ-loop
-    set-of-requires
-    loop-holds
-    in-word-requires
-    member-requires
-    add-k
-    loop-less
-    loop-again
-    same-length
-    returns)
+set-spec = tie.close (tie.spec set-of-requires members-requires same-length returns)

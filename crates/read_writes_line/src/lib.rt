@@ -1,0 +1,44 @@
+// The line `writes=LIST` behind an edge: the row that it breaks, if any. It has no words in the table, for the edge
+// says the same.
+mod list;
+
+use list::Listed;
+ghost use mathlib.Core.Path.{_≡_};
+ghost use Rattle.read_writes_line.specs.Writes.{listRow, told, writesRow};
+
+// Fault has the smallest row that the line breaks.
+pub enum WritesRead {
+    Sound,
+    Fault(u32),
+}
+
+// Rows 3, 5, 7 and 44 of a list, where the edge leaves `rest` alone.
+fn judged(list: Listed, rest: u64) -> WritesRead
+    ensures { λ r. ⌜ r ≡ told (listRow list rest) ⌝ }
+{
+    if !list.sound {
+        return WritesRead::Fault(3);
+    }
+    if !list.rising {
+        return WritesRead::Fault(5);
+    }
+    if list.outside {
+        return WritesRead::Fault(7);
+    }
+    if list.rest != rest {
+        return WritesRead::Fault(44);
+    }
+    WritesRead::Sound
+}
+
+// The line's bytes without the LF, and whether an LF ended it; the model has so many variables, and the edge names the
+// new values of all but the set `rest`.
+pub fn read(line: &[u8], ended: bool, variables: usize, rest: usize) -> WritesRead
+    ensures { λ r. ⌜ r ≡ told (writesRow (now (line .entry)) ended variables rest) ⌝ }
+{
+    if read_form::misformed(line, ended, b"writes=", 0) {
+        return WritesRead::Fault(2);
+    }
+    let list = list::read_list(read_form::value(line, b"writes="), variables);
+    judged(list, rest as u64)
+}

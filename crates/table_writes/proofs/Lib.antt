@@ -1,0 +1,4 @@
+pub mod BitLaws
+pub mod CodeLaws
+pub mod MaskLaws
+pub mod WrittenLaws

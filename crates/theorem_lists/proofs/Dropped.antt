@@ -1,0 +1,28 @@
+-- Without its lists an accepted text of format 2 is that of the same sheet in format 1.
+use Prim.Native.Nat.{ℕ}
+use mathlib.Core.Path.{_≡_, sym, ap, _∙_}
+use native.Mathlib.Omega.{arith}
+use Rattle.model.specs.Bounds.{tableWords}
+use Rattle.model.specs.Model.{Model}
+use Rattle.model.specs.Linear.{linear}
+use Rattle.format.specs.Bytes.{Bytes}
+use Rattle.format.specs.Spelling.{textOf}
+use Rattle.format.specs.Reader.{accepted, readAnswer}
+use Rattle.format.proofs.Given.{reader-exact}
+use Rattle.format.proofs.Inverse.{read-back}
+use Rattle.theorem_lists.specs.Lists.{ListsDropped, inFormat, withoutLists}
+use Rattle.theorem_lists.proofs.SameSheet.{limits-same, tables-judge}
+use Rattle.theorem_lists.proofs.SameMerged.{linear-same, fault-same}
+use Rattle.theorem_lists.proofs.Without.{lists-away}
+
+pub lists-dropped : (text : Bytes) (table : ℕ) (m : Model) → readAnswer text table ≡ accepted m → m .format ≡ 2 → ListsDropped text m
+lists-dropped text table m reads format =
+    let r = reader-exact text table m .0 reads in
+    let limited = limits-same 1 (omega arith) (omega arith) m (r .1) in
+    record {
+      reads = ap (λ (t : Bytes). readAnswer t tableWords) (ap withoutLists (r .2) ∙ lists-away m) ∙ read-back (inFormat 1 m) tableWords limited (omega arith);
+      judged = tables-judge 1 (omega arith) (omega arith) m (r .1);
+      rows = fault-same 1 m;
+      merged = linear-same 1 m;
+      merged-text = ap textOf (linear-same 1 m) ∙ sym (lists-away (linear m));
+    }
