@@ -311,9 +311,41 @@ fn merging(title: &str, subjects: &[Subject]) {
     }
 }
 
+/// The same sheet in format 2, with a list behind each edge. In a table only the first word says so.
+fn in_format_2(subject: &Subject) -> Subject {
+    let mut table = subject.table.clone();
+    table[0] = 2;
+    let mut text = vec![0; TEXT_BYTES];
+    let length = calls::length(Reference.write(&table, &mut text));
+    text.truncate(length as usize);
+    Subject::new(&subject.name, String::from_utf8(text).unwrap())
+}
+
+/// What the lists of format 2 cost: a factor is the time over that of the same sheet in format 1.
+fn lists(title: &str, subjects: &[Subject]) {
+    println!("\n## {title}\n");
+    println!("| call | sheet | what | library, ns | factor | reference, ns | factor | ratio |");
+    println!("|---|---|---|---:|---:|---:|---:|---:|");
+    let listed: Vec<Subject> = subjects.iter().map(in_format_2).collect();
+    for (call, (name, measure)) in CALLS.into_iter().take(3).enumerate() {
+        let (before, after) = (best(subjects, measure), best(&listed, measure));
+        for ((subject, before), [library, reference]) in listed.iter().zip(before).zip(after) {
+            println!(
+                "| {name} | {} | {} | {library:.0} | {:.2} | {reference:.0} | {:.2} | {:.2} |",
+                subject.name,
+                subject.answers()[call],
+                library / before[0],
+                reference / before[1],
+                library / reference
+            );
+        }
+    }
+}
+
 fn main() {
     println!("## Calls\n");
     calls_table(&subjects());
+    lists("Format 2", &subjects());
     growth("Growth with the text", &sizes());
     growth("Growth with the automata", &automata());
     merging("Merging equal edges of seven nodes", &equal_edges());
