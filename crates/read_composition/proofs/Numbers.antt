@@ -1,170 +1,111 @@
 -- What the answer says of a list: row 3, row 5, and the words of its set.
-use Prim.Native.Nat.{ℕ, _+_, _-_, _*_, _^_, _≤_, _<_}
+use Prim.Native.Nat.{ℕ, suc, _+_, _-_, _*_, _%_, _/_, _^_, _<_}
 use mathlib.Core.Path.{_≡_, refl, sym, _∙_, ap, ap₂}
-use mathlib.Core.Bool.{Bool, true, false, _&&_, and-assoc, and-true}
+use mathlib.Core.Bool.{Bool, true, false, not, _&&_, _||_}
 use mathlib.Core.List.{List, [], _∷_, map}
 use native.Mathlib.Omega.{arith}
-use native.Mathlib.Nat.{one-mul, add-zero, zero-add}
-use borrow.Author.Tests.{leb-true, leb-false, ltb-true, le-leb}
-use lib.Bits.{bitOr, or-shifted-r}
-use lib.Pow.{pow-mono, pow-add}
+use borrow.Author.Tests.{leb-true, leb-false, le-leb, lt-leb}
 use lib.Dec.{leb, ltb}
 use lib.IntN.{pos}
-use Rattle.model.specs.Basic.{every}
+use Rattle.model.specs.Basic.{every, exists, keep, member, countUp}
 use Rattle.model.specs.Bounds.{maxActions}
-use Rattle.model.specs.Limits.{rises}
-use Rattle.model.specs.Table.{lowBits, highBits, setWords}
-use Rattle.model.proofs.Tests.{and-left, and-right}
+use Rattle.model.specs.Limits.{ascends, rises}
+use Rattle.model.specs.Table.{bit, setWords, setOf}
+use Rattle.model.proofs.Tests.{and-intro, and-left, and-right}
 use Rattle.model.proofs.Bits.{rises-cons}
+use Rattle.model.proofs.Written.{ascends-cons, kept-list}
 use Rattle.format.specs.Bytes.{Bytes}
 use Rattle.format.specs.Number.{within, naturalOf}
-use Rattle.format.proofs.ReadLaws.{number-of}
-use Rattle.format.proofs.TokenLaws.{every-cons}
-use Rattle.read_composition.specs.List.{withLow, withHigh, withItem, unsound, listFrom, listOf}
+use Rattle.table_tree.specs.Sets.{oneWord}
+use Rattle.table_tree.proofs.SetLaws.{keep-alike, set-of-one, words-back}
+use Rattle.table_writes.specs.Sets.{mask, cleared}
+use Rattle.table_writes.proofs.MaskLaws.{bit-mask, mask-other, mask-small, out-list}
+use Rattle.read_list.specs.declared.Listed as Read
+use Rattle.read_list.specs.Items.{itemsOf}
+use Rattle.read_list.proofs.Meaning.{items-sound, items-rising, items-outside, items-rest, items-ranged}
+use Rattle.read_composition.specs.List.{allActions, askedOf, wordsOf, listOf}
 use Rattle.read_composition.specs.declared.list.Listed.{Listed}
-use Rattle.read_composition.specs.declared.list.Numbers.{Numbers}
-use Rattle.read_composition.proofs.ListLaws.{next-yes}
 
--- row 3
-abbrev inRow3 : Bytes → Bool
-inRow3 s = within (pos 0) (pos maxActions) s
-
-from-sound : (A : ℕ) (x : Numbers) (ss : List Bytes) → listFrom A x ss .sound ≡ every inRow3 ss
-unfolding listFrom every
-from-sound A x [] = refl
-from-sound A x (s ∷ ss) = go (inRow3 s) (from-sound A (withItem A x (naturalOf s)) ss)
+-- to rise up to A is to rise, with nothing above A
+not-above : (A k : ℕ) → leb k A ≡ not (leb (A + 1) k)
+not-above A k = go (leb k A) refl
   where
-    go : (v : Bool) → listFrom A (withItem A x (naturalOf s)) ss .sound ≡ every inRow3 ss
-        → elim v as (λ b. Listed) [ true ↦ listFrom A (withItem A x (naturalOf s)) ss | false ↦ unsound ] .sound ≡ (v && every inRow3 ss)
-    go true ih = ih
-    go false ih = refl
+    go : (b : Bool) → leb k A ≡ b → b ≡ not (leb (A + 1) k)
+    go true e = let l = leb-true k A e in sym (ap not (lt-leb (A + 1) k (omega arith)))
+    go false e = let l = leb-false k A e in sym (ap not (le-leb (A + 1) k (omega arith)))
 
--- row 5
-from-rising : (A : ℕ) (x : Numbers) (ss : List Bytes) → every inRow3 ss ≡ true
-    → listFrom A x ss .rising ≡ (x .rising && rises A (x .last) (map naturalOf ss))
-unfolding withItem
-from-rising A x [] h = unfold listFrom rises in sym (and-true (x .rising))
-from-rising A x (s ∷ ss) h =
-    let i = every-cons inRow3 s ss h in
-    let k = naturalOf s in
-    let step = ltb (x .last) k && leb k A in
-    ap (λ (l : Listed). l .rising) (next-yes A x s ss (i .0)) ∙ from-rising A (withItem A x k) ss (i .1) ∙
-    and-assoc (x .rising) step (rises A k (map naturalOf ss)) ∙ ap (λ b. x .rising && b) (sym (rises-cons A (x .last) k (map naturalOf ss)))
-
--- the set
-or-bit : (word k : ℕ) → word < 2 ^ k → bitOr word (2 ^ k) ≡ word + 2 ^ k
-or-bit word k h =
-    let e : bitOr word (1 * 2 ^ k) ≡ 1 * 2 ^ k + word = or-shifted-r 1 k word h in
-    let f : bitOr word (2 ^ k) ≡ 2 ^ k + word = rw one-mul at e in
-    f ∙ omega arith
-
--- bit k is above all bits of a word
-record Added (word k bits : ℕ) (new : ℕ) : Type 0 where
-  sum : new + bits ≡ word + 2 ^ k + bits
-  below : new < 2 ^ (k + 1)
-
-added : (word k bits : ℕ) → word < 2 ^ k → k ≤ 31 → Added word k bits (withLow word k)
-unfolding withLow
-added word k bits h l =
-    let e : withLow word k ≡ word + 2 ^ k = rw (le-leb k 31 l, withLow) (or-bit word k h) in
-    let p : 2 ^ (k + 1) ≡ 2 ^ k * 2 = pow-add 2 k 1 in
-    record { sum = ap (λ n. n + bits) e; below = rw e (omega arith) }
-
--- a list that rises from above `last`: its first number, and the rest
-record Risen (B last k : ℕ) (ks : List ℕ) : Type 0 where
-  above : last < k
-  later : rises B k ks ≡ true
-
-risen : (B last k : ℕ) (ks : List ℕ) → rises B last (k ∷ ks) ≡ true → Risen B last k ks
-risen B last k ks r =
-    let q = rw (rises-cons B last k ks) at r in
-    record {
-      above = ltb-true last k (and-left (ltb last k) _ (and-left (ltb last k && leb k B) _ q));
-      later = and-right (ltb last k && leb k B) _ q;
-    }
-
-from-low : (A B : ℕ) (x : Numbers) (ss : List Bytes) → every inRow3 ss ≡ true → rises B (x .last) (map naturalOf ss) ≡ true
-    → x .low < 2 ^ (x .last + 1)
-    → listFrom A x ss .low ≡ x .low + lowBits (map naturalOf ss)
-unfolding withItem lowBits withLow
-from-low A B x [] h r b = unfold listFrom lowBits in sym (add-zero (x .low))
-from-low A B x (s ∷ ss) h r b = go (leb (naturalOf s) 31) refl (from-low A B (withItem A x (naturalOf s)) ss (every-cons inRow3 s ss h .1))
+sorted : (a b c d e : Bool) → b ≡ not d → (a && b) && (c && not e) ≡ (a && c) && not (d || e)
+sorted true b c true e h = rw h (and-no c (not (true || e)) refl)
   where
-    up : Risen B (x .last) (naturalOf s) (map naturalOf ss)
-    up = risen B (x .last) (naturalOf s) (map naturalOf ss) r
+    and-no : (x y : Bool) → y ≡ false → false ≡ x && y
+    and-no true y q = sym q
+    and-no false y q = refl
+sorted true b c false e h = rw h
+sorted false b c d e h = refl
 
-    small : x .low < 2 ^ naturalOf s
-    small =
-        let a = up .above in
-        let m = pow-mono {i = x .last + 1} {j = naturalOf s} (omega arith) in
-        omega arith
+rises-is : (A last : ℕ) (list : List ℕ) → rises A last list ≡ (ascends (suc last) list && not (exists (λ k. leb (A + 1) k) list))
+unfolding exists
+rises-is A last [] = unfold rises ascends in refl
+rises-is A last (k ∷ ks) =
+    rises-cons A last k ks ∙ ap (λ (b : Bool). (ltb last k && leb k A) && b) (rises-is A k ks) ∙
+    sorted (leb (suc last) k) (leb k A) (ascends (suc k) ks) (leb (A + 1) k) (exists (λ j. leb (A + 1) j) ks) (not-above A k) ∙
+    ap (λ (b : Bool). b && not (leb (A + 1) k || exists (λ j. leb (A + 1) j) ks)) (sym (ascends-cons (suc last) k ks))
 
-    here : listFrom A x (s ∷ ss) .low ≡ listFrom A (withItem A x (naturalOf s)) ss .low
-    here = ap (λ (l : Listed). l .low) (next-yes A x s ss (every-cons inRow3 s ss h .0))
+lower : (n : ℕ) (list : List ℕ) → ascends (suc n) list ≡ true → ascends n list ≡ true
+unfolding ascends
+lower n [] h = refl
+lower n (k ∷ ks) h =
+    let q = sym (ascends-cons (suc n) k ks) ∙ h in
+    let l = leb-true (suc n) k (and-left (leb (suc n) k) _ q) in
+    ascends-cons n k ks ∙ and-intro (le-leb n k (omega arith)) (and-right (leb (suc n) k) _ q)
 
-    go : (v : Bool) → leb (naturalOf s) 31 ≡ v
-        → (rises B (naturalOf s) (map naturalOf ss) ≡ true → withLow (x .low) (naturalOf s) < 2 ^ (naturalOf s + 1)
-        → listFrom A (withItem A x (naturalOf s)) ss .low ≡ withLow (x .low) (naturalOf s) + lowBits (map naturalOf ss))
-        → listFrom A x (s ∷ ss) .low ≡ x .low + lowBits (naturalOf s ∷ map naturalOf ss)
-    go true e ih =
-        let a = added (x .low) (naturalOf s) (lowBits (map naturalOf ss)) small (leb-true (naturalOf s) 31 e) in
-        let f : lowBits (naturalOf s ∷ map naturalOf ss) ≡ 2 ^ naturalOf s + lowBits (map naturalOf ss) = rw (e, lowBits) in
-        here ∙ ih (up .later) (a .below) ∙ a .sum ∙ omega arith
-    go false e ih =
-        let w : withLow (x .low) (naturalOf s) ≡ x .low = rw (e, withLow) in
-        let f : lowBits (naturalOf s ∷ map naturalOf ss) ≡ lowBits (map naturalOf ss) = rw (e, lowBits) in
-        let m = pow-mono {i = naturalOf s} {j = naturalOf s + 1} (omega arith) in
-        here ∙ ih (up .later) (rw w (omega (arith, small))) ∙ rw (w, f)
+-- the set of a rising list of numbers up to 63, as one word and as two
+module _ (list : List ℕ) (rise : ascends 0 list ≡ true) (ranged : every (λ k. leb k maxActions) list ≡ true) where
+  abbrev set : ℕ
+  set = allActions - cleared allActions list
 
-from-high : (A B : ℕ) (x : Numbers) (ss : List Bytes) → every inRow3 ss ≡ true → rises B (x .last) (map naturalOf ss) ≡ true
-    → x .high < 2 ^ (x .last + 1 - 32)
-    → listFrom A x ss .high ≡ x .high + highBits (map naturalOf ss)
-unfolding withItem highBits withHigh
-from-high A B x [] h r b = unfold listFrom highBits in sym (add-zero (x .high))
-from-high A B x (s ∷ ss) h r b = go (leb (naturalOf s) 31) refl (from-high A B (withItem A x (naturalOf s)) ss (every-cons inRow3 s ss h .1))
-  where
-    up : Risen B (x .last) (naturalOf s) (map naturalOf ss)
-    up = risen B (x .last) (naturalOf s) (map naturalOf ss) r
+  all-is : allActions ≡ mask (λ k. true) 64
+  unfolding mask
+  all-is = refl
 
-    top : naturalOf s ≤ 63
-    top = leb-true (naturalOf s) 63 (number-of 63 s (every-cons inRow3 s ss h .0) .1)
+  set-is : set ≡ mask (λ k. member k list) 64
+  set-is =
+      let a = ap (λ (s : ℕ). cleared s list) all-is ∙ out-list 64 list (λ k. true) in
+      let b = mask-other (λ k. member k list) 64 in
+      let c = all-is in
+      omega arith
 
-    here : listFrom A x (s ∷ ss) .high ≡ listFrom A (withItem A x (naturalOf s)) ss .high
-    here = ap (λ (l : Listed). l .high) (next-yes A x s ss (every-cons inRow3 s ss h .0))
+  members : keep (bit set) (countUp 0 64) ≡ list
+  members =
+      ap (λ (s : ℕ). keep (bit s) (countUp 0 64)) set-is ∙
+      keep-alike (bit (mask (λ k. member k list) 64)) (λ k. member k list) 0 64 (λ k a b. bit-mask (λ j. member j list) 64 k (omega arith)) ∙
+      kept-list (λ k. member k list) 64 0 maxActions list rise ranged (omega arith) (λ k l. refl)
 
-    go : (v : Bool) → leb (naturalOf s) 31 ≡ v
-        → (rises B (naturalOf s) (map naturalOf ss) ≡ true → withHigh (x .high) (naturalOf s) < 2 ^ (naturalOf s + 1 - 32)
-        → listFrom A (withItem A x (naturalOf s)) ss .high ≡ withHigh (x .high) (naturalOf s) + highBits (map naturalOf ss))
-        → listFrom A x (s ∷ ss) .high ≡ x .high + highBits (naturalOf s ∷ map naturalOf ss)
-    go true e ih =
-        let w : withHigh (x .high) (naturalOf s) ≡ x .high = rw (e, withHigh) in
-        let f : highBits (naturalOf s ∷ map naturalOf ss) ≡ highBits (map naturalOf ss) = rw (e, highBits) in
-        let a = up .above in
-        let m = pow-mono {i = x .last + 1 - 32} {j = naturalOf s + 1 - 32} (omega arith) in
-        here ∙ ih (up .later) (rw w (omega arith)) ∙ rw (w, f)
-    go false e ih =
-        let l = leb-false (naturalOf s) 31 e in
-        let w : withHigh (x .high) (naturalOf s) ≡ withLow (x .high) (naturalOf s - 32) = rw (e, withHigh) in
-        let f : highBits (naturalOf s ∷ map naturalOf ss) ≡ 2 ^ (naturalOf s - 32) + highBits (map naturalOf ss) = rw (e, highBits) in
-        let u = up .above in
-        let m = pow-mono {i = x .last + 1 - 32} {j = naturalOf s - 32} (omega arith) in
-        let z : naturalOf s + 1 - 32 ≡ naturalOf s - 32 + 1 = omega arith in
-        let a = added (x .high) (naturalOf s - 32) (highBits (map naturalOf ss)) (omega arith) (omega (arith, top)) in
-        here ∙ ih (up .later) (rw (w, z) (a .below)) ∙ ap (λ n. n + highBits (map naturalOf ss)) w ∙ a .sum ∙ omega arith
+  set-words : set % 4294967296 ∷ set / 4294967296 ∷ [] ≡ setWords list
+  unfolding oneWord
+  set-words =
+      let small : set < 2 ^ 64 = rw set-is (mask-small (λ k. member k list) 64) in
+      let l : set % 4294967296 < 4294967296 = omega arith in
+      let u : set / 4294967296 < 4294967296 = omega arith in
+      let one : set ≡ set / 4294967296 * 2 ^ 32 + set % 4294967296 = omega arith in
+      sym (words-back (set % 4294967296) (set / 4294967296) l u) ∙
+      ap setWords (set-of-one (set % 4294967296) (set / 4294967296) l u set one ∙ members)
 
 -- the laws of `list_of` and `sync_list`, by the items of the list
 module _ (A : ℕ) (ss : List Bytes) where
   pub list-sound : listOf A ss .sound ≡ every (within (pos 0) (pos maxActions)) ss
-  unfolding listOf
-  list-sound = from-sound A _ ss
+  unfolding listOf wordsOf askedOf
+  list-sound = items-sound (askedOf A) ss
 
   module _ (h : every (within (pos 0) (pos maxActions)) ss ≡ true) where
     pub list-rising : listOf A ss .rising ≡ rises A 0 (map naturalOf ss)
-    unfolding listOf
-    list-rising = from-rising A _ ss h
+    unfolding listOf wordsOf askedOf
+    list-rising =
+        ap₂ (λ (a b : Bool). a && not b) (items-rising (askedOf A) ss h) (items-outside (askedOf A) ss h) ∙ sym (rises-is A 0 (map naturalOf ss))
 
     pub list-set : (B : ℕ) → rises B 0 (map naturalOf ss) ≡ true → listOf A ss .low ∷ listOf A ss .high ∷ [] ≡ setWords (map naturalOf ss)
-    unfolding listOf setWords
+    unfolding listOf wordsOf askedOf
     list-set B r =
-        ap₂ (λ a b. a ∷ b ∷ []) (from-low A B _ ss h r (omega arith) ∙ zero-add (lowBits (map naturalOf ss)))
-        (from-high A B _ ss h r (omega arith) ∙ zero-add (highBits (map naturalOf ss)))
+        let rise = lower 0 (map naturalOf ss) (and-left (ascends 1 (map naturalOf ss)) _ (sym (rises-is B 0 (map naturalOf ss)) ∙ r)) in
+        ap (λ (n : ℕ). (allActions - n) % 4294967296 ∷ (allActions - n) / 4294967296 ∷ []) (items-rest (askedOf A) ss h) ∙
+        set-words (map naturalOf ss) rise (items-ranged maxActions ss h)

@@ -1,45 +1,32 @@
--- A list of actions as the code reads it: item after item. What it says of sound and rising lists is in the laws
--- list-sound, list-rising and list-set.
-use Prim.Native.Nat.{ℕ, _-_, _^_}
-use mathlib.Core.Bool.{true, false, _&&_}
-use mathlib.Core.List.{List, [], _∷_}
-use lib.Bits.{bitOr}
-use lib.Dec.{leb, ltb}
-use lib.IntN.{pos}
+-- A list of actions as the code reads it. What it says of sound and rising lists is in the laws list-sound, list-rising
+-- and list-set.
+use Prim.Native.Nat.{ℕ, _+_, _-_, _%_, _/_}
+use mathlib.Core.Bool.{not, _&&_}
+use mathlib.Core.List.{List}
 use Rattle.model.specs.Bounds.{maxActions}
 use Rattle.format.specs.Bytes.{Bytes}
-use Rattle.format.specs.Number.{within, naturalOf}
+use Rattle.read_list.specs.declared.Asked.{Asked}
+use Rattle.read_list.specs.declared.Listed as Read
+use Rattle.read_list.specs.Items.{itemsOf}
 use Rattle.read_composition.specs.declared.list.Listed.{Listed}
-use Rattle.read_composition.specs.declared.list.Numbers.{Numbers}
 
--- a word with bit k too
-unfoldable pub withLow : (word k : ℕ) → ℕ
-withLow word k = elim (leb k 31) [ true ↦ bitOr word (2 ^ k) | false ↦ word ]
+-- all numbers from 0 to 63
+abbrev pub allActions : ℕ
+allActions = 18446744073709551615
 
-unfoldable pub withHigh : (word k : ℕ) → ℕ
-withHigh word k = elim (leb k 31) [ true ↦ word | false ↦ withLow word (k - 32) ]
+-- what is asked of a list of actions, of which A is the highest
+unfoldable pub askedOf : (A : ℕ) → Asked
+askedOf A = record { most = maxActions; least = 1; below = A + 1; all = allActions }
 
--- one number more
-unfoldable pub withItem : (A : ℕ) → Numbers → ℕ → Numbers
-withItem A x k =
+-- the set as two words; row 5 is also about actions above the highest
+unfoldable pub wordsOf : Read.Listed → Listed
+wordsOf l =
     record {
-      last = k;
-      rising = x .rising && (ltb (x .last) k && leb k A);
-      low = withLow (x .low) k;
-      high = withHigh (x .high) k;
+      sound = l .sound;
+      rising = l .rising && not (l .outside);
+      low = (allActions - l .rest) % 4294967296;
+      high = (allActions - l .rest) / 4294967296;
     }
 
-abbrev pub noNumbers : Numbers
-noNumbers = record { last = 0; rising = true; low = 0; high = 0 }
-
-abbrev pub unsound : Listed
-unsound = record { sound = false; rising = false; low = 0; high = 0 }
-
--- the items after the numbers x
-unfoldable pub listFrom : (A : ℕ) → Numbers → List Bytes → Listed
-listFrom A x [] = record { sound = true; rising = x .rising; low = x .low; high = x .high }
-listFrom A x (s ∷ ss) =
-    elim (within (pos 0) (pos maxActions) s) [ true ↦ listFrom A (withItem A x (naturalOf s)) ss | false ↦ unsound ]
-
 unfoldable pub listOf : (A : ℕ) → List Bytes → Listed
-listOf A items = listFrom A noNumbers items
+listOf A items = wordsOf (itemsOf (askedOf A) items)

@@ -8,7 +8,7 @@ use native.Mathlib.Omega.{arith}
 use borrow.Author.Tests.{ltb-false}
 use lib.ListN.{length, take, length-replicate, length-drop}
 use Rattle.model.specs.Basic.{exists, lacks, orElse, same}
-use Rattle.model.specs.Bounds.{maxTreeNodes}
+use Rattle.model.specs.Bounds.{maxTreeNodes, maxActions}
 use Rattle.model.specs.Predicate.{Pred, Range, words, namesOutside, namesNew}
 use Rattle.model.specs.Composition.{Tree, leaf, nodes, starts, startNodes, treeSize}
 use Rattle.model.specs.Limits.{broken, rises, isTooDeep, exceedsSpan, passesNodes, isDisordered, isTooLarge, variableCount}
@@ -51,7 +51,7 @@ use Rattle.read_form.specs.Outcome.{thenRow, answered, written}
 use Rattle.read_form.proofs.FormLaws.{row2-by}
 use Rattle.read_form.proofs.Outcomes.{same-row, then-broken, then-none, first-none, answered-fault, answered-sound, written-sound, written-long}
 use Rattle.read_composition_line.specs.Composition.{blank, treeIn, treeFault, treeWords, startsJudged, composedFault, composedWords, partTold, partAfter, partOf, composeFault, composeRead, composeAfter}
-use Rattle.read_composition_line.proofs.SyncLaws.{few-items}
+use Rattle.read_list.proofs.Meaning.{items-ranged}
 use Rattle.read_composition_line.proofs.CompositionLaws.{rowsBy}
 
 -- Where row 3 is not broken, no list has a number above 63, so that A and the cap of A ask the same.
@@ -65,7 +65,7 @@ module _ (A : ℕ) where
           (elim w as (λ q. Bool) [ true ↦ rises A 0 (items u) | false ↦ true ])
       after u e true q =
           let z : sound (bytes "syn") t ≡ true = ap (λ (b : Bytes). sound b t) (sym (same-is before (bytes "syn") q)) ∙ h in
-          rises-capped A 0 (items u) (few-items (parts comma u) (syn-sound t u e z))
+          rises-capped A 0 (items u) (items-ranged maxActions (parts comma u) (syn-sound t u e z))
       after u e false q = refl
 
       go : (x : Numeral) → numeral t ≡ x → listSound (capped A) before t ≡ listSound A before t

@@ -6,13 +6,12 @@ use mathlib.Core.List.{List, [], _∷_, map}
 use mathlib.Core.Option.{Option, none, some}
 use lib.ListN.{length}
 use lib.IntN.{pos}
-use lib.Dec.{leb}
 use Rattle.model.specs.Basic.{every}
 use Rattle.model.specs.Bounds.{maxActions}
 use Rattle.model.specs.Limits.{broken, rises}
 use Rattle.model.specs.Lines.{Reading, sync}
 use Rattle.model.specs.Table.{setWords, lineWords}
-use Rattle.model.proofs.Tests.{and-intro, not-false}
+use Rattle.model.proofs.Tests.{not-false}
 use Rattle.line_order.specs.declared.Counts.{Counts}
 use Rattle.line_order.specs.Due.{numberOf}
 use Rattle.line_order.specs.Counts.{nodesOf, Counted}
@@ -22,11 +21,10 @@ use Rattle.format.specs.Bytes.{Bytes, bytes}
 use Rattle.format.specs.Number.{within, naturalOf}
 use Rattle.format.specs.Rows.{fault, entry, field, fields, hasPred, is, listItems, numbersSound, place, syncList, valueOf, row2, row3, row4, row5, row6, row7, row8, row9, row10, row11, row12, row13, row14, row15, row16}
 use Rattle.format.specs.Spelling.{spelling}
-use Rattle.format.proofs.ReadLaws.{number-of}
-use Rattle.format.proofs.TokenLaws.{every-cons}
 use Rattle.read_composition.specs.declared.list.Listed.{Listed}
 use Rattle.read_composition.specs.List.{listOf}
 use Rattle.read_composition.proofs.Numbers.{list-sound, list-rising, list-set}
+use Rattle.read_list.proofs.Meaning.{items-ranged}
 use Rattle.read_form.specs.declared.LineRead.the-variants.{Sound, Fault}
 use Rattle.table_append.specs.Append.{nextPlace, put}
 use Rattle.read_form.specs.Form.{lineOf, valueAfter, misformed, fieldsOf}
@@ -112,14 +110,6 @@ module _ (s : Bytes) (ended : Bool) (c : Counts) (words : List ℕ) (at : ℕ) w
 
 pub ruleset sync-laws = (form-read, form-after, sound-read, sound-after, rising-read, rising-after, set-read, set-after)
 
--- numbers up to 63, of which A and the cap of A ask the same
-pub few-items : (ss : List Bytes) → every (within (pos 0) (pos maxActions)) ss ≡ true → every (λ k. leb k maxActions) (map naturalOf ss) ≡ true
-unfolding every
-few-items [] h = refl
-few-items (s ∷ ss) h =
-    let i = every-cons (within (pos 0) (pos maxActions)) s ss h in
-    and-intro (number-of maxActions s (i .0) .1) (few-items ss (i .1))
-
 module _ (r : Reading) (c : Counts) (counted : Counted r c) (s : Bytes) (ended : Bool) where
   abbrev itemsOf : List Bytes
   itemsOf = listItems (valueAfter (bytes "sync=") s)
@@ -131,7 +121,7 @@ module _ (r : Reading) (c : Counts) (counted : Counted r c) (s : Bytes) (ended :
   rising-by : inRow3 ≡ true → syncListed s c .rising ≡ rises (r .model .actions) 0 (map naturalOf itemsOf)
   unfolding syncListed
   rising-by h =
-      list-rising (capped (c .actions)) itemsOf h ∙ rises-capped (c .actions) 0 (map naturalOf itemsOf) (few-items itemsOf h) ∙
+      list-rising (capped (c .actions)) itemsOf h ∙ rises-capped (c .actions) 0 (map naturalOf itemsOf) (items-ranged maxActions itemsOf h) ∙
       ap (λ (A : ℕ). rises A 0 (map naturalOf itemsOf)) (counted .actions)
 
   sound-by : syncListed s c .sound ≡ inRow3

@@ -10,11 +10,20 @@ use Rattle.model.proofs.Decode.{is-broken, not-broken}
 use Rattle.format.specs.Bytes.{Bytes}
 use Rattle.format.specs.Rows.{listItems}
 use Rattle.read_form.specs.Form.{valueAfter, misformed}
-use Rattle.read_writes_line.specs.declared.list.Listed.{Listed}
+use Rattle.table_writes.specs.Sets.{allVariables}
+use Rattle.read_list.specs.declared.Asked.{Asked}
+use Rattle.read_list.specs.declared.Listed.{Listed}
+use Rattle.read_list.specs.Items.{itemsOf}
 use Rattle.read_writes_line.specs.declared.WritesRead.{WritesRead}
 use Rattle.read_writes_line.specs.declared.WritesRead.the-variants.{Sound, Fault}
-use Rattle.read_writes_line.specs.List.{itemsOf}
-use Rattle.read_writes_line.specs.Writes.{writesName, listRow, writesRow, told}
+use Rattle.read_writes_line.specs.Writes.{writesName, askedOf, listRow, writesRow, told}
+
+-- `asked`
+pub asked-is : (variables all : ℕ) → all ≡ allVariables → _≡_ {A = Asked} (record { most = 47; least = 0; below = variables; all = all }) (askedOf variables)
+unfolding askedOf
+asked-is variables all e = rw e
+
+pub ruleset asked-laws = (asked-is)
 
 -- `judged`
 module _ (l : Listed) (rest : ℕ) where
@@ -53,11 +62,11 @@ module _ (s : Bytes) (ended : Bool) (variables rest : ℕ) (p : Bool) (hp : p �
   unfolding writesRow told
   read-misformed h = sym (ap told (is-broken 2 _ _ (sym hp ∙ h)))
 
-  pub read-list : p ≡ false → (v : Bytes) → v ≡ valueAfter writesName s → (l : Listed) → l ≡ itemsOf variables (listItems v) → (r : WritesRead) → r ≡ told (listRow l rest)
+  pub read-list : p ≡ false → (q : Asked) → q ≡ askedOf variables → (v : Bytes) → v ≡ valueAfter writesName s → (l : Listed) → l ≡ itemsOf q (listItems v) → (r : WritesRead) → r ≡ told (listRow l rest)
       → r ≡ told (writesRow s ended variables rest)
   unfolding writesRow
-  read-list h v hv l hl r hr =
-      hr ∙ ap (λ (x : Listed). told (listRow x rest)) (hl ∙ ap (λ (b : Bytes). itemsOf variables (listItems b)) hv) ∙
+  read-list h q hq v hv l hl r hr =
+      hr ∙ ap (λ (x : Listed). told (listRow x rest)) (hl ∙ rw (hq, hv)) ∙
       sym (ap told (not-broken 2 _ _ (sym hp ∙ h)))
 
 pub ruleset read-laws = (read-misformed, read-list)

@@ -1,15 +1,27 @@
 // The line `writes=LIST` behind an edge: the row that it breaks, if any. It has no words in the table, for the edge
 // says the same.
-mod list;
-
-use list::Listed;
+use model::Model;
+use read_list::Asked;
+use read_list::Listed;
 ghost use mathlib.Core.Path.{_≡_};
-ghost use Rattle.read_writes_line.specs.Writes.{listRow, told, writesRow};
+ghost use Rattle.read_writes_line.specs.Writes.{askedOf, listRow, told, writesRow};
 
 // Fault has the smallest row that the line breaks.
 pub enum WritesRead {
     Sound,
     Fault(u32),
+}
+
+// What is asked of a list of variables, where the model has so many.
+fn asked(variables: usize) -> Asked
+    ensures { λ r. ⌜ r ≡ askedOf variables ⌝ }
+{
+    Asked {
+        most: Model::LAST_VARIABLE,
+        least: 0,
+        below: variables,
+        all: table_writes::all(),
+    }
 }
 
 // Rows 3, 5, 7 and 44 of a list, where the edge leaves `rest` alone.
@@ -39,6 +51,7 @@ pub fn read(line: &[u8], ended: bool, variables: usize, rest: usize) -> WritesRe
     if read_form::misformed(line, ended, b"writes=", 0) {
         return WritesRead::Fault(2);
     }
-    let list = list::read_list(read_form::value(line, b"writes="), variables);
+    let q = asked(variables);
+    let list = read_list::read(read_form::value(line, b"writes="), q);
     judged(list, rest as u64)
 }

@@ -162,7 +162,7 @@ pub rest-words : (ws : List Word) → every inRange ws ≡ true → restOf allVa
 rest-words ws h = ap (λ s. restOf s (map code ws)) all-mask ∙ out-words maxVariables ws (λ k. true) h
 
 -- a list's items taken out of a set, and of all variables
-out-list : (n : ℕ) (list : List ℕ) (f : ℕ → Bool) → cleared (mask f n) list ≡ mask (λ j. f j && not (member j list)) n
+pub out-list : (n : ℕ) (list : List ℕ) (f : ℕ → Bool) → cleared (mask f n) list ≡ mask (λ j. f j && not (member j list)) n
 unfolding cleared member exists
 out-list n [] f = all-stay f n
 out-list n (k ∷ ks) f =

@@ -13,14 +13,17 @@ misformed-requires c κs = search needs
 returns : tie.Need-returns
 returns c = search (needs, read-laws)
 
+asked-requires : tie.Need-asked-requires
+asked-requires c κs = search needs
+
 slice-aggregate-value : tie.Need-slice-aggregate-value
 slice-aggregate-value c = search needs
 
 value-requires : tie.Need-value-requires
 value-requires c κs = search needs
 
-read-list-requires : tie.Need-read-list-requires
-read-list-requires c κs = search needs
+read-requires : tie.Need-read-requires
+read-requires c κs = search needs
 
 judged-requires : tie.Need-judged-requires
 judged-requires c κs = search needs
@@ -35,8 +38,9 @@ read-spec =
     slice-aggregate-misformed
     misformed-requires
     returns
+    asked-requires
     slice-aggregate-value
     value-requires
-    read-list-requires
+    read-requires
     judged-requires
     returns-2)

@@ -1,82 +1,20 @@
--- `read_composition::list::list_of` meets its contract: the definition goes on from the place `at` with the numbers so far.
--- The measure is what is left of the text.
+-- `list_of` meets its contract, by a law of ListLaws.
 use Rattle.read_composition.proofs.ListLaws.{list-laws}
-use Prim.Native.Nat.{_+_, _-_, _≤_}
-use mathlib.Core.Path.{_≡_}
-use lib.ListN.{length}
-use Rattle.format.specs.Bytes.{parts, comma}
-use Rattle.text_bytes.proofs.Parting.{partsFrom, turn-laws}
-use Rattle.read_composition.specs.List.{listOf, listFrom}
 use borrow.Author.Needs.{needs}
 use Rattle.read_composition.proofs.list.list_of.Statement.{statement}
 use Rattle.read_composition.proofs.list.list_of.Tie as tie
 
-abbrev Inv-loop : tie.InvT-loop
-Inv-loop part actions seen₀ at₀ seen at =
-    (at ≤ length part + 1) × (listOf actions (parts comma part) ≡ listFrom actions seen (partsFrom comma part at))
+asked-requires : tie.Need-asked-requires
+asked-requires c κs = search needs
 
-abbrev μ-loop : tie.MeasureT-loop
-μ-loop part actions seen₀ at₀ seen at = length part + 1 - at
+filled-requires : tie.Need-filled-requires
+filled-requires c κs = search needs
 
-loop-holds : tie.Need-loop-holds Inv-loop μ-loop
-loop-holds c = search (needs, list-laws)
+in-words-requires : tie.Need-in-words-requires
+in-words-requires c κs = search needs
 
-find-requires : tie.Need-find-requires Inv-loop μ-loop
-find-requires c κs = search needs
-
-sub-natural : tie.Need-sub-natural Inv-loop μ-loop
-sub-natural c = search (needs, turn-laws)
-
-part-natural-start : tie.Need-part-natural-start Inv-loop μ-loop
-part-natural-start c = search (needs, turn-laws)
-
-part-natural-end : tie.Need-part-natural-end Inv-loop μ-loop
-part-natural-end c = search needs
-
-natural-requires : tie.Need-natural-requires Inv-loop μ-loop
-natural-requires c κs = search needs
-
-enum-known-n : tie.Need-enum-known-n Inv-loop μ-loop
-enum-known-n c = search needs
-
-enum-told : tie.Need-enum-told Inv-loop μ-loop
-enum-told c = search needs
-
-returns : tie.Need-returns Inv-loop μ-loop
+returns : tie.Need-returns
 returns c = search (needs, list-laws)
 
-with-item-requires : tie.Need-with-item-requires Inv-loop μ-loop
-with-item-requires c κs = search needs
-
-add-at : tie.Need-add-at Inv-loop μ-loop
-add-at c = search needs
-
-loop-less : tie.Need-loop-less Inv-loop μ-loop
-loop-less c = search (needs, turn-laws)
-
-loop-again : tie.Need-loop-again Inv-loop μ-loop
-loop-again c = search (needs, list-laws)
-
-returns-2 : tie.Need-returns-2 Inv-loop μ-loop
-returns-2 c = search (needs, list-laws)
-
 pub list-of-spec : {M : Type 1} → statement M
-list-of-spec =
-    tie.close
-    (tie.spec
-    Inv-loop
-    μ-loop
-    loop-holds
-    find-requires
-    sub-natural
-    part-natural-start
-    part-natural-end
-    natural-requires
-    enum-known-n
-    enum-told
-    returns
-    with-item-requires
-    add-at
-    loop-less
-    loop-again
-    returns-2)
+list-of-spec = tie.close (tie.spec asked-requires filled-requires in-words-requires returns)

@@ -1,25 +1,25 @@
--- `read_items` meets its contract: the definition goes on from the place `at` with the numbers so far. The measure is what
--- is left of the text.
-use Rattle.read_writes_line.proofs.ListLaws.{item-few, items-laws}
+-- `filled` meets its contract: the definition goes on from the place `at` with the numbers so far. The measure is what is
+-- left of the text.
+use Rattle.read_list.proofs.CodeLaws.{items-laws}
 use Prim.Native.Nat.{_+_, _-_, _≤_}
 use mathlib.Core.Path.{_≡_}
 use lib.ListN.{length}
 use Rattle.format.specs.Bytes.{parts, comma}
 use Rattle.text_bytes.proofs.Parting.{partsFrom, turn-laws}
-use Rattle.read_writes_line.specs.List.{itemsOf, itemsFrom}
+use Rattle.read_list.specs.Items.{itemsOf, itemsFrom}
 use borrow.Author.Needs.{needs}
-use Rattle.read_writes_line.proofs.list.read_items.Statement.{statement}
-use Rattle.read_writes_line.proofs.list.read_items.Tie as tie
+use Rattle.read_list.proofs.filled.Statement.{statement}
+use Rattle.read_list.proofs.filled.Tie as tie
 
 abbrev Inv-loop : tie.InvT-loop
-Inv-loop part variables seen₀ at₀ seen at =
-    (at ≤ length part + 1) × (itemsOf variables (parts comma part) ≡ itemsFrom variables seen (partsFrom comma part at))
+Inv-loop part asked most seen₀ at₀ seen at =
+    (at ≤ length part + 1) × (itemsOf asked (parts comma part) ≡ itemsFrom asked seen (partsFrom comma part at))
 
 abbrev μ-loop : tie.MeasureT-loop
-μ-loop part variables seen₀ at₀ seen at = length part + 1 - at
+μ-loop part asked most seen₀ at₀ seen at = length part + 1 - at
 
-all-requires : tie.Need-all-requires Inv-loop μ-loop
-all-requires c κs = search needs
+no-items-requires : tie.Need-no-items-requires Inv-loop μ-loop
+no-items-requires c κs = search needs
 
 loop-holds : tie.Need-loop-holds Inv-loop μ-loop
 loop-holds c = search (needs, items-laws)
@@ -49,7 +49,7 @@ returns : tie.Need-returns Inv-loop μ-loop
 returns c = search (needs, items-laws)
 
 with-item-requires : tie.Need-with-item-requires Inv-loop μ-loop
-with-item-requires c κs = search (needs, item-few)
+with-item-requires c κs = search needs
 
 add-at : tie.Need-add-at Inv-loop μ-loop
 add-at c = search needs
@@ -63,13 +63,13 @@ loop-again c = search (needs, items-laws)
 returns-2 : tie.Need-returns-2 Inv-loop μ-loop
 returns-2 c = search (needs, items-laws)
 
-pub read-items-spec : {M : Type 1} → statement M
-read-items-spec =
+pub filled-spec : {M : Type 1} → statement M
+filled-spec =
     tie.close
     (tie.spec
     Inv-loop
     μ-loop
-    all-requires
+    no-items-requires
     loop-holds
     find-requires
     sub-natural
