@@ -28,12 +28,12 @@
 #include <stdint.h>
 
 /* The version of these declarations. The first number changes when a call that was right is right no more. */
-#define SHEET_VERSION_MAJOR 2
-#define SHEET_VERSION_MINOR 1
+#define SHEET_VERSION_MAJOR 3
+#define SHEET_VERSION_MINOR 0
 #define SHEET_VERSION_PATCH 0
 
 /* The words that a table has at least. A longer one keeps its rest. docs/TABLE.md has its layout. */
-#define SHEET_TABLE_WORDS 8192
+#define SHEET_TABLE_WORDS 16384
 /* The bytes that a text has at most, also one that is written or merged. */
 #define SHEET_TEXT_BYTES 65536
 /* The most actions, variables and automata that a sheet has. */
@@ -43,9 +43,9 @@
 
 /* The bytes of stack that a call needs. No proof speaks of them: they were measured, on the deepest and largest
  * sheets that could be made, and rounded up; rust/hemdoqur/tests/stack.rs holds the archive to them. */
-#define SHEET_STACK_READ 229376
+#define SHEET_STACK_READ 262144
 #define SHEET_STACK_WRITE 73728
-#define SHEET_STACK_MERGE 245760
+#define SHEET_STACK_MERGE 376832
 #define SHEET_STACK_SIZE 12288
 #define SHEET_STACK_STEP 147456
 #define SHEET_STACK_ENVIRONMENT 16384
@@ -118,14 +118,14 @@ static inline const char *sheet_sentence(uint32_t number)
     case 7: return "the sheet has no such variable";
     case 8: return "an init, an inv or a start condition cannot have a new value";
     case 9: return "the predicate is deeper than 24";
-    case 10: return "an expression can leave the 32-bit numbers";
+    case 10: return "an expression can leave the numbers from -2^62 to 2^62";
     case 11: return "with this line the predicates have more than 4,096 nodes";
     case 12: return "the edge has a location or an action that is not there";
     case 13: return "this is no composition";
     case 14: return "the composition does not name the automata in order, each once";
     case 15: return "with this line there are more than 512 edges";
     case 16: return "the composition has more than 64 nodes";
-    case 18: return "the table has fewer than 8,192 words";
+    case 18: return "the table has fewer than 16,384 words";
     case 19: return "the table is not one that the reader makes";
     case 20: return "the phase is neither 0 nor 1";
     case 21: return "there are too many or too few locations or values";
@@ -149,8 +149,8 @@ static inline const char *sheet_sentence(uint32_t number)
 extern "C" {
 #endif
 
-/* Reads a text, of format 1 or 2, into the first 8,192 words of a table. 0: accepted. Else row * 2^32 + line: rows 1 to
- * 16 and 44, or 18 for a table that is too short. Lines count from 1; rows 1 and 18 have line 0. */
+/* Reads a text, of format 1 or 2, into the first 16,384 words of a table. 0: accepted. Else row * 2^32 + line: rows 1
+ * to 16 and 44, or 18 for a table that is too short. Lines count from 1; rows 1 and 18 have line 0. */
 uint64_t sheet_read(const uint8_t *text, size_t text_length, uint32_t *table, size_t table_length);
 
 /* The numbers of the table's sheet, by which a caller makes its lists: SHEET_ACTIONS (the highest action),

@@ -92,7 +92,7 @@ impl Sheet {
 
     pub fn read(&self, sure: bool) -> Table {
         let text = self.text(sure);
-        let mut table = vec![0; 8192];
+        let mut table = vec![0; 16384];
         let answer = unsafe { sheet_read(text.as_ptr(), text.len(), table.as_mut_ptr(), table.len()) };
         assert_eq!(answer, 0, "refused: row {}, line {}\n{text}", answer >> 32, answer & 0xffff_ffff);
         Table(table)

@@ -1,5 +1,5 @@
 -- Row 10 is what the evaluator needs: an expression's value lies in its interval, so in a predicate whose intervals all stay
--- in the span no number on the way leaves the range of an i32.
+-- in the span no number on the way leaves the range of an i64.
 use mathlib.Core.Path.{_≡_, refl, sym, _∙_}
 use mathlib.Core.Bool.{Bool, true, false, _||_, true≢false}
 use mathlib.Core.List.{List, _++_}
@@ -9,10 +9,11 @@ use lib.IntN.{ℤ, pos}
 use lib.ListN.{length, getD}
 use lib.Dec.{leb}
 use Rattle.model.specs.Basic.{between, exists}
+use Rattle.model.specs.Bounds.{leastValue, greatestValue}
 use Rattle.model.specs.Predicate.{Pred, Preds, Expr, Word, all, any, negate, imp, eq, le, none, more, num, old, new, add, sub, mul, choose, holds, value, words, wordsAll, wordsOf, named, isOutside, namesOutside, Range, range, interval, stays, allStay, allStayAll, allStayIn}
 use Rattle.model.proofs.Tests.{and-left, and-right, exists-append, or-none-left, or-none-right}
 use Rattle.arithmetic.specs.Values.{Inside, Small, SmallAll, SmallIn, Held}
-use Rattle.arithmetic.proofs.Order.{Within, Le-refl, between-Within, Within-between, add-within, sub-within, times-within, hull-either, span-fits}
+use Rattle.arithmetic.proofs.Order.{Within, Le-refl, between-Within, Within-between, add-within, sub-within, times-within, hull-either, span-within, span-fits}
 
 module _ (count : ℕ) (k l : List Word) (h : namesOutside count (k ++ l) ≡ false) where
   pub named-first : namesOutside count k ≡ false
@@ -49,7 +50,12 @@ module _ (declared : List Range) (before after : List ℤ) (olds : Inside declar
   pub value-within : (x : Expr) → namesOutside count (wordsOf x) ≡ false → between (interval declared x .low) (interval declared x .high) (value before after x) ≡ true
   value-within x h = Within-between _ _ (within x h)
 
-  -- an i32 holds the value
+  -- the value of an expression that row 10 lets pass is in the span of row 10
+  pub value-spans : (x : Expr) → namesOutside count (wordsOf x) ≡ false → stays declared x ≡ true → between leastValue greatestValue (value before after x) ≡ true
+  unfolding stays range
+  value-spans x h s = Within-between _ (range leastValue greatestValue) (span-within _ _ (within x h) s)
+
+  -- so an i64 holds it
   pub value-fits : (x : Expr) → namesOutside count (wordsOf x) ≡ false → stays declared x ≡ true → Held before after x
   unfolding stays
   value-fits x h s = span-fits _ _ (within x h) s
@@ -57,7 +63,7 @@ module _ (declared : List Range) (before after : List ℤ) (olds : Inside declar
   mutual
     unfolding Small allStay words namesOutside exists named isOutside
 
-    -- no number on the way leaves the range of an i32
+    -- no number on the way leaves the range of an i64
     pub all-small : (p : Pred) → namesOutside count (words p) ≡ false → allStay declared p ≡ true → Small before after p
     all-small (all ps) h s = smalls ps h s
     all-small (any ps) h s = smalls ps h s

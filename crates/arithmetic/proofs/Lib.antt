@@ -1,4 +1,5 @@
 pub mod Order
 pub mod Signed
+pub mod CutLaws
 pub mod Intervals
 pub mod SumLaws

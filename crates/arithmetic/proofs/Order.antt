@@ -1,14 +1,14 @@
 -- The order on ℤ by positive and negative parts, so that `omega` proves what is linear, and intervals.
-use mathlib.Core.Path.{_≡_, refl}
+use mathlib.Core.Path.{_≡_, refl, ap}
 use mathlib.Core.Bool.{Bool, true, false, cond, _&&_, true≢false, false≢true}
-use Prim.Native.Nat.{ℕ, zero, suc, _+_, _*_, _-_, _≤_}
+use Prim.Native.Nat.{ℕ, zero, suc, _+_, _*_, _-_, _≤_, _<_}
 use native.Mathlib.Omega.{arith}
 use native.Mathlib.Nat.{mul-le-mul-right}
-use borrow.Author.Tests.{ltb-true, ltb-false, leb-true, leb-false, le-leb}
+use borrow.Author.Tests.{ltb-true, ltb-false, le-ltb, leb-true, leb-false, le-leb}
 use lib.Dec.{ltb}
 use lib.IntN.{ℤ, pos, negsuc, negℤ, subℕ, _+ℤ_, _-ℤ_, _*ℤ_, *ℤ-comm}
-use lib.Signed.{leZ}
-use mir.Syntax.{w32}
+use lib.Signed.{leZ, ltZ}
+use mir.Syntax.{w64}
 use mir.Val.{SFits}
 use Rattle.model.specs.Basic.{between}
 use Rattle.model.specs.Bounds.{leastValue, greatestValue}
@@ -61,6 +61,12 @@ Le-refl a = omega arith
 pub Le-trans : {a b c : ℤ} → Le a b → Le b c → Le a c
 Le-trans h k = omega arith
 
+pub Le-antisym : (a b : ℤ) → Le a b → Le b a → a ≡ b
+Le-antisym (pos a) (pos b) h k = ap pos (omega arith)
+Le-antisym (pos a) (negsuc b) h k = absurd (omega arith)
+Le-antisym (negsuc a) (pos b) h k = absurd (omega arith)
+Le-antisym (negsuc a) (negsuc b) h k = ap negsuc (omega arith)
+
 pub add-mono : {a a′ b b′ : ℤ} → Le a a′ → Le b b′ → Le (a +ℤ b) (a′ +ℤ b′)
 add-mono {a} {a′} {b} {b′} h k = omega (arith, add-bal a b, add-bal a′ b′)
 
@@ -86,6 +92,25 @@ Le-leZ (pos a) (pos b) h = le-leb a b (omega arith)
 Le-leZ (pos a) (negsuc b) h = absurd (omega arith)
 Le-leZ (negsuc a) (pos b) h = refl
 Le-leZ (negsuc a) (negsuc b) h = le-leb b a (omega arith)
+
+-- the strict test, and the fact by the parts
+pub ltZ-lt : (a b : ℤ) → ltZ a b ≡ true → up a + down b < up b + down a
+ltZ-lt (pos a) (pos b) e = omega (arith, ltb-true a b e)
+ltZ-lt (pos a) (negsuc b) e = absurd (false≢true e)
+ltZ-lt (negsuc a) (pos b) e = omega arith
+ltZ-lt (negsuc a) (negsuc b) e = omega (arith, ltb-true b a e)
+
+pub not-ltZ : (a b : ℤ) → ltZ a b ≡ false → Le b a
+not-ltZ (pos a) (pos b) e = omega (arith, ltb-false a b e)
+not-ltZ (pos a) (negsuc b) e = omega arith
+not-ltZ (negsuc a) (pos b) e = absurd (true≢false e)
+not-ltZ (negsuc a) (negsuc b) e = omega (arith, ltb-false b a e)
+
+pub le-ltZ : (a b : ℤ) → Le b a → ltZ a b ≡ false
+le-ltZ (pos a) (pos b) h = le-ltb a b (omega arith)
+le-ltZ (pos a) (negsuc b) h = refl
+le-ltZ (negsuc a) (pos b) h = absurd (omega arith)
+le-ltZ (negsuc a) (negsuc b) h = le-ltb b a (omega arith)
 
 pub between-Within : (z : ℤ) (r : Range) → between (r .low) (r .high) z ≡ true → Within z r
 unfolding between
@@ -199,13 +224,19 @@ module _ (a b : ℤ) (r s : Range) (wa : Within a r) (wb : Within b s) where
   hull-either true = hull-first
   hull-either false = hull-next
 
--- an i32 holds a number within an interval that stays in the span of row 10
-holds-i32 : (z : ℤ) → Le leastValue z → Le z greatestValue → SFits w32 z
-holds-i32 (pos n) h k = record { sfits = omega arith }
-holds-i32 (negsuc n) h k = record { sfits = omega arith }
+-- a number within an interval that stays in the span of row 10 is in the span itself, and an i64 holds it
+module _ (z : ℤ) (r : Range) (h : Within z r) (e : leZ leastValue (r .low) && leZ (r .high) greatestValue ≡ true) where
+  pub span-within : Within z (range leastValue greatestValue)
+  unfolding range
+  span-within =
+      let low = leZ-Le leastValue (r .low) (and-left _ _ e) in
+      let high = leZ-Le (r .high) greatestValue (and-right (leZ leastValue (r .low)) _ e) in
+      record { low = omega arith; high = omega arith }
 
-pub span-fits : (z : ℤ) (r : Range) → Within z r → leZ leastValue (r .low) && leZ (r .high) greatestValue ≡ true → SFits w32 z
-span-fits z r h e =
-    let low = leZ-Le leastValue (r .low) (and-left _ _ e) in
-    let high = leZ-Le (r .high) greatestValue (and-right (leZ leastValue (r .low)) _ e) in
-    holds-i32 z (omega arith) (omega arith)
+  pub span-fits : SFits w64 z
+  unfolding range
+  span-fits = by z (span-within .low) (span-within .high)
+    where
+      by : (z : ℤ) → Le leastValue z → Le z greatestValue → SFits w64 z
+      by (pos n) l k = record { sfits = omega arith }
+      by (negsuc n) l k = record { sfits = omega arith }

@@ -1,9 +1,15 @@
--- What the evaluator does with a number that an i32 does not hold. No checked predicate has one.
+-- What the arithmetic does with a number that an i64 does not hold. No checked predicate has one.
 use mathlib.Core.Bool.{cond}
-use lib.IntN.{ℤ}
+use lib.IntN.{ℤ, pos, negsuc}
 use lib.Signed.{ltZ}
-use Rattle.model.specs.Bounds.{leastValue, greatestValue}
 
--- the number nearest to x that an i32 holds
+-- the ends of an i64's range
+abbrev pub leastHeld : ℤ
+leastHeld = negsuc 9223372036854775807
+
+abbrev pub greatestHeld : ℤ
+greatestHeld = pos 9223372036854775807
+
+-- the number nearest to x that an i64 holds
 unfoldable pub cut : ℤ → ℤ
-cut x = cond (ltZ x leastValue) leastValue (cond (ltZ greatestValue x) greatestValue x)
+cut x = cond (ltZ x leastHeld) leastHeld (cond (ltZ greatestHeld x) greatestHeld x)

@@ -5,7 +5,7 @@ use mathlib.Core.List.{List}
 use Prim.Native.Nat.{ℕ, _<_}
 use lib.IntN.{ℤ, pos}
 use lib.ListN.{length, getD}
-use mir.Syntax.{w32}
+use mir.Syntax.{w64}
 use mir.Val.{SFits}
 use Rattle.model.specs.Basic.{between}
 use Rattle.model.specs.Predicate.{Pred, Preds, Expr, all, any, negate, imp, eq, le, none, more, num, old, new, add, sub}
@@ -18,10 +18,10 @@ Inside declared values =
     between (getD declared k (range (pos 0) (pos 0)) .low) (getD declared k (range (pos 0) (pos 0)) .high)
     (getD values k (pos 0)) ≡ true
 
--- an i32 holds the value of every expression in P, also of the ones inside an `if`'s predicate
+-- an i64 holds the value of every expression in P, also of the ones inside an `if`'s predicate
 module _ (before after : List ℤ) where
   abbrev pub Held : Expr → Type 0
-  Held x = SFits w32 (value before after x)
+  Held x = SFits w64 (value before after x)
 
   unfoldable mutual
     pub Small : Pred → Type 0

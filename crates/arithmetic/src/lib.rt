@@ -1,5 +1,5 @@
-// Numbers of expressions: steps on i32 that never leave its range, and tests. Each is worked out in i64, where it
-// always fits, and then cut to the range; on checked expressions the cut changes nothing (proofs/Intervals.antt).
+// Numbers of expressions: steps on i64 that stop at the ends of its range, and tests. On checked expressions, which
+// keep to the span of row 10, no step comes that far (proofs/Intervals.antt).
 use model::Model;
 ghost use mathlib.Core.Path.{_≡_};
 ghost use mathlib.Core.Bool.{cond, _&&_};
@@ -13,6 +13,8 @@ ghost use Rattle.model.specs.Bounds.{leastValue, greatestValue};
 ghost use Rattle.model.specs.Predicate.{least, greatest};
 ghost use Rattle.model.specs.Table.{unbiased};
 ghost use Rattle.arithmetic.specs.Cut.{cut};
+
+mod magnitudes;
 
 pub fn index(x: u32) -> usize
     ensures { λ r. ⌜ r ≡ x ⌝ }
@@ -30,42 +32,22 @@ pub fn fits(x: usize, y: usize, most: usize) -> bool
     x <= most - y
 }
 
-pub fn choose(test: bool, a: i32, b: i32) -> i32
+pub fn choose(test: bool, a: i64, b: i64) -> i64
     ensures { λ r. ⌜ r ≡ cond test a b ⌝ }
 {
     if test { a } else { b }
 }
 
-pub fn same(a: i32, b: i32) -> bool
+pub fn same(a: i64, b: i64) -> bool
     ensures { λ r. ⌜ r ≡ eqZ a b ⌝ }
 {
     a == b
 }
 
-pub fn at_most(a: i32, b: i32) -> bool
+pub fn at_most(a: i64, b: i64) -> bool
     ensures { λ r. ⌜ r ≡ leZ a b ⌝ }
 {
     a <= b
-}
-
-// The number nearest to x that an i32 holds.
-pub fn cut_to(x: i64) -> i32
-    ensures { λ r. ⌜ r ≡ cut x ⌝ }
-{
-    if x < -2147483648 {
-        -2147483648
-    } else if 2147483647 < x {
-        2147483647
-    } else {
-        x as i32
-    }
-}
-
-// The number that a table word's argument stands for. Any argument has one, so that any word can be read.
-pub fn number(argument: u32) -> i32
-    ensures { λ r. ⌜ r ≡ cut (unbiased argument) ⌝ }
-{
-    cut_to(argument as i64 - Model::BIAS)
 }
 
 // Variable k's value; there is none past the end, and the definitions read 0 there.
@@ -75,54 +57,62 @@ pub fn variable(values: &[i32], k: usize) -> i32
     if k < values.len() { values[k] } else { 0 }
 }
 
-pub fn sum(a: i32, b: i32) -> i32
-    ensures { λ r. ⌜ r ≡ cut (a +ℤ b) ⌝ }
+// The same as an expression's number.
+pub fn value(values: &[i32], k: usize) -> i64
+    ensures { λ r. ⌜ r ≡ getD (now (values .entry)) k (pos 0) ⌝ }
 {
-    cut_to(a as i64 + b as i64)
-}
-
-pub fn difference(a: i32, b: i32) -> i32
-    ensures { λ r. ⌜ r ≡ cut (a -ℤ b) ⌝ }
-{
-    cut_to(a as i64 - b as i64)
-}
-
-pub fn product(a: i32, b: i32) -> i32
-    ensures { λ r. ⌜ r ≡ cut (a *ℤ b) ⌝ }
-{
-    cut_to(a as i64 * b as i64)
-}
-
-// For intervals, which are checked before they are cut: the steps in i64, where nothing is lost.
-pub fn wide(a: i32) -> i64
-    ensures { λ r. ⌜ r ≡ a ⌝ }
-{
-    a as i64
-}
-
-pub fn wide_sum(a: i32, b: i32) -> i64
-    ensures { λ r. ⌜ r ≡ a +ℤ b ⌝ }
-{
-    a as i64 + b as i64
-}
-
-pub fn wide_difference(a: i32, b: i32) -> i64
-    ensures { λ r. ⌜ r ≡ a -ℤ b ⌝ }
-{
-    a as i64 - b as i64
-}
-
-pub fn wide_product(a: i32, b: i32) -> i64
-    ensures { λ r. ⌜ r ≡ a *ℤ b ⌝ }
-{
-    a as i64 * b as i64
+    variable(values, k) as i64
 }
 
 // The number that a biased table word stands for.
 pub fn unbias(word: u32) -> i64
     ensures { λ r. ⌜ r ≡ unbiased word ⌝ }
 {
-    word as i64 - Model::BIAS
+    word as i64 - Model::BIAS as i64
+}
+
+// The sum; past an end of the range, that end.
+pub fn sum(a: i64, b: i64) -> i64
+    ensures { λ r. ⌜ r ≡ cut (a +ℤ b) ⌝ }
+{
+    if b < 0 {
+        if a < -9223372036854775808 - b {
+            -9223372036854775808
+        } else {
+            a + b
+        }
+    } else {
+        if 9223372036854775807 - b < a {
+            9223372036854775807
+        } else {
+            a + b
+        }
+    }
+}
+
+pub fn difference(a: i64, b: i64) -> i64
+    ensures { λ r. ⌜ r ≡ cut (a -ℤ b) ⌝ }
+{
+    if b < 0 {
+        if 9223372036854775807 + b < a {
+            9223372036854775807
+        } else {
+            a - b
+        }
+    } else {
+        if a < -9223372036854775808 + b {
+            -9223372036854775808
+        } else {
+            a - b
+        }
+    }
+}
+
+pub fn product(a: i64, b: i64) -> i64
+    ensures { λ r. ⌜ r ≡ cut (a *ℤ b) ⌝ }
+{
+    let n = magnitudes::extent(magnitudes::magnitude(a), magnitudes::magnitude(b));
+    magnitudes::signed((a < 0) != (b < 0), n)
 }
 
 pub fn lesser(a: i64, b: i64) -> i64

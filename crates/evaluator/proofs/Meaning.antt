@@ -20,7 +20,7 @@ use Rattle.model.specs.Table.{code}
 use Rattle.model.proofs.Tests.{and-left, and-right}
 use Rattle.arithmetic.specs.Values.{Inside, Small, SmallAll, SmallIn}
 use Rattle.model.proofs.Decode.{word-back}
-use Rattle.arithmetic.proofs.Signed.{cut-fits}
+use Rattle.arithmetic.proofs.CutLaws.{cut-fits}
 use Rattle.arithmetic.proofs.Intervals.{all-small}
 use Rattle.evaluator.specs.declared.nodes.Truth.{Truth}
 use Rattle.evaluator.proofs.Steps.{deep-p}
@@ -143,8 +143,7 @@ module _ (w : List ℕ) (before after : List ℤ) where
 
     right-e : (x : Expr) (d left at : ℕ) → depthOf x ≤ d → length (wordsOf x) ≤ left → SmallIn before after x → Stands (wordsOf x) w at
         → E d left at ≡ valued (value before after x) (at + length (wordsOf x)) (left - length (wordsOf x))
-    right-e (num z) d left at h n r s =
-        node-e (numWord z) d left at (omega arith) (omega arith) (s .0) ∙ ap (λ (v : ℤ). valued v (at + 1) (left - 1)) (cut-fits z r)
+    right-e (num z) d left at h n r s = node-e (numWord z) d left at (omega arith) (omega arith) (s .0)
     right-e (old k) d left at h n r s = node-e (oldWord k) d left at (omega arith) (omega arith) (s .0)
     right-e (new k) d left at h n r s = node-e (newWord k) d left at (omega arith) (omega arith) (s .0)
     right-e (add x y) d left at h n r s =

@@ -142,7 +142,7 @@ module _ (words : List ℕ) (before after : List ℤ) where
                 (tt, tt, tt, tt, tt, tt, same, same, same, refl, refl, refl, refl, refl))
 
           module _ (r : Value) where
-            pub num-e : (k : ℕ) → n ≡ Number k → r ≡ valued (cut (unbiased k)) (at + 1) (left - 1) → r ≡ E left at
+            pub num-e : (k : ℕ) → n ≡ Number k → r ≡ valued (unbiased k) (at + 1) (left - 1) → r ≡ E left at
             unfolding expressionBy meant
             num-e k h hr = rw (by-node-e (Number k) h) hr
 

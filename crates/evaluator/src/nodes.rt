@@ -19,7 +19,7 @@ pub struct Truth {
 
 // An expression's number.
 pub struct Value {
-    pub number: i32,
+    pub number: i64,
     pub next: usize,
     pub left: usize,
 }
@@ -34,8 +34,8 @@ pub struct Gathered {
 
 // The numbers of two expressions in a row.
 pub struct Pair {
-    pub first: i32,
-    pub second: i32,
+    pub first: i64,
+    pub second: i64,
     pub next: usize,
     pub left: usize,
 }
@@ -126,10 +126,10 @@ pub fn ordered(n: Pair) -> Truth
 
 // A number, by its word's argument, and a variable's value.
 pub fn constant(argument: u32, next: usize, left: usize) -> Value
-    ensures { λ r. ⌜ r ≡ valued (cut (unbiased argument)) next left ⌝ }
+    ensures { λ r. ⌜ r ≡ valued (unbiased argument) next left ⌝ }
 {
     Value {
-        number: arithmetic::number(argument),
+        number: arithmetic::unbias(argument),
         next,
         left,
     }
@@ -139,7 +139,7 @@ pub fn variable(values: &[i32], k: u32, next: usize, left: usize) -> Value
     ensures { λ r. ⌜ r ≡ valued (getD (now (values .entry)) k (pos 0)) next left ⌝ }
 {
     Value {
-        number: arithmetic::variable(values, arithmetic::index(k)),
+        number: arithmetic::value(values, arithmetic::index(k)),
         next,
         left,
     }

@@ -24,10 +24,7 @@ fn with_bit(set: u64, k: usize, test: bool) -> u64
 fn differs(before: &[i32], after: &[i32], k: usize) -> bool
     ensures { λ r. ⌜ r ≡ differs (now (before .entry)) (now (after .entry)) k ⌝ }
 {
-    !arithmetic::same(
-        arithmetic::variable(before, k),
-        arithmetic::variable(after, k),
-    )
+    !arithmetic::same(arithmetic::value(before, k), arithmetic::value(after, k))
 }
 
 // The variables whose values differ.

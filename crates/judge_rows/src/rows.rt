@@ -73,7 +73,7 @@ fn value_known(words: &[u32], values: &[i32], k: usize) -> bool
     let at = table_places::range_at(words, k);
     let low = arithmetic::unbias(table_places::low(words, at));
     let high = arithmetic::unbias(table_places::high(words, at));
-    within(low, high, arithmetic::wide(arithmetic::variable(values, k)))
+    within(low, high, arithmetic::value(values, k))
 }
 
 // Row 23: each variable's value is in its range.

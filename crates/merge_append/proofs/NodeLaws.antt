@@ -3,12 +3,13 @@ use mathlib.Core.Path.{_≡_, refl}
 use Prim.Native.Nat.{ℕ, _+_, _-_, _%_, _≤_, _<_}
 use native.Mathlib.Omega.{arith}
 use borrow.Author.Tests.{le-leb, lt-leb}
+use Rattle.model.specs.Bounds.{bias}
 use Rattle.node_words.specs.declared.Node.the-variants.{All, Imp, Eq, Number, Old, New}
 use Rattle.node_words.specs.Nodes.{meant, fitted, wordFor}
 use Rattle.merge_append.specs.Append.{narrow}
 use Rattle.merge_append.specs.NodeWords.{upward, impNode, eqNode, allNode, numberNode, oldNode, newNode, pointerOf, most, capped}
 
-pub upward-is : (z : ℕ) → 32768 + z % 4294967296 ≡ upward z
+pub upward-is : (z : ℕ) → bias + z % 4294967296 ≡ upward z
 unfolding upward narrow
 upward-is z = refl
 

@@ -1,5 +1,6 @@
 // The words of the nodes that merged predicates have of their own, and sums that stay within a word.
 use crate::append::{self};
+use model::Model;
 use node_words::Node;
 ghost use mathlib.Core.Path.{_≡_};
 ghost use Prim.Native.Nat.{_+_};
@@ -11,7 +12,7 @@ ghost use Rattle.node_words.specs.Nodes.{wordFor};
 pub fn upward(z: usize) -> usize
     ensures { λ r. ⌜ r ≡ upward z ⌝ }
 {
-    32768 + z % 4294967296
+    Model::BIAS as usize + z % 4294967296
 }
 
 // The word of a node.

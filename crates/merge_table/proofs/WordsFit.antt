@@ -5,7 +5,6 @@ use mathlib.Core.List.{List, [], _∷_, _++_, map, map-append, flatMap, List·Me
 use mathlib.Core.Option.{Option, none}
 use Prim.Native.Nat.{ℕ, _+_, _≤_, _<_}
 use native.Mathlib.Omega.{arith}
-use lib.IntN.{ℤ, pos, negsuc}
 use lib.ListN.{length, length-append}
 use lib.Dec.{leb, ltb}
 use borrow.Author.Tests.{leb-true, ltb-false}
@@ -17,7 +16,7 @@ use Rattle.model.specs.Model.{Model}
 use Rattle.model.specs.Lawful.{Lawful}
 use Rattle.model.specs.Lines.{Entry, formatLine, actionsLine, variablesLine, variableLine, automataLine, syncLine, locationsLine, initLine, invLine, edgesLine, edgeLine, composeLine, lines, Reading, atFirst, noted}
 use Rattle.model.specs.Limits.{inRange, treeInRange, numbersInRange, rises, treeRises, isTooDeep, exceedsSpan, passesNodes, variableCount, listsFilled, isDisordered, isTooLarge, predFault, locationFault, contentFault, faultOf, withinLimits, limits}
-use Rattle.node_words.proofs.NodeLaws.{code-small}
+use Rattle.node_words.proofs.NodeLaws.{biased-small, code-small}
 use Rattle.model.specs.Table.{biased, lowBits, highBits, setWords, code, predWords, startWords, lineWords, sheetWords}
 use Rattle.model.proofs.Tests.{and-intro, and-left, and-right}
 use Rattle.model.proofs.LimitLines.{starts-ranged, starts-clear}
@@ -42,11 +41,6 @@ both-fit : (ks ws : List ℕ) → Fit ks → Fit ws → Fit (ks ++ ws)
 both-fit ks ws f g = map-append narrow ks ws ∙ ap₂ (λ (k l : List ℕ). k ++ l) f g
 
 -- numbers, and nodes of predicates
-biased-small : (z : ℤ) → between leastNumber greatestNumber z ≡ true → biased z < 65536
-unfolding biased between
-biased-small (pos n) h = let l = leb-true n 32767 h in omega arith
-biased-small (negsuc n) h = omega arith
-
 codes-fit : (ws : List Word) → every inRange ws ≡ true → Fit (map code ws)
 unfolding every
 codes-fit [] h = refl

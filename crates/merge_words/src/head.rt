@@ -23,7 +23,7 @@ fn last_location(t: &[u32], at: usize) -> usize
 fn range(high: usize, out: &mut [u32; Model::WORDS], at: usize) -> usize
     ensures { λ r. ⌜ Appended (bias ∷ high ∷ []) at (now (out .entry)) (now (out .exit)) r ⌝ }
 {
-    let next = merge_append::put(32768, out, at);
+    let next = merge_append::put(Model::BIAS as usize, out, at);
     merge_append::put(high, out, next)
 }
 

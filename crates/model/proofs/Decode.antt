@@ -11,7 +11,7 @@ use lib.ListN.{length, getD, length-map}
 use lib.Seq.{take-at, drop-at}
 use borrow.Author.Tests.{leb-true, le-leb, lt-leb, not-false}
 use Rattle.model.specs.Basic.{between, every, exists, keep, countUp, lacks, onSome}
-use Rattle.model.specs.Bounds.{maxActions, leastNumber, greatestNumber, bias}
+use Rattle.model.specs.Bounds.{maxActions, maxOperands, lastVariable, leastNumber, greatestNumber, bias, firstNumberWord}
 use Rattle.model.specs.Predicate.{Pred, Word, words, nodeCount, namesOutside, namesNew, range, allOf, anyOf, notWord, impWord, eqWord, leWord, numWord, oldWord, newWord, addWord, subWord, mulWord, ifWord, stray}
 use Rattle.model.specs.Composition.{Tree, Node, nodes, starts, treeSize, par, syn, ini, leaf, parNode, synNode, iniNode, leafNode, strayNode}
 use Rattle.model.specs.Model.{Edge, Model}
@@ -32,7 +32,7 @@ number-back (pos n) h =
     let back : (bias + n) - bias ≡ n = omega arith in
     rw (e, unbiased) (ap pos back)
 number-back (negsuc n) h =
-    let l = leb-true n 32767 (and-left (leb n 32767) _ h) in
+    let l = leb-true n 999999999 (and-left (leb n 999999999) _ h) in
     let e : leb bias (bias - suc n) ≡ false = lt-leb bias (bias - suc n) (omega arith) in
     let back : bias - suc (bias - suc n) ≡ n = omega arith in
     rw (e, unbiased) (ap negsuc back)
@@ -46,26 +46,32 @@ pub argument-of : (kind k : ℕ) → kind < 16 → argumentOf (nodeWord kind k) 
 unfolding argumentOf nodeWord
 argument-of kind k h = omega arith
 
-word-parts : (kind k : ℕ) → kind < 16 → wordOf (nodeWord kind k) ≡ getD (kinds k) kind stray
+number-word : (n : ℕ) → wordOf (firstNumberWord + n) ≡ numWord (unbiased n)
 unfolding wordOf
-word-parts kind k l = rw (argument-of kind k l, kind-of kind k l)
+number-word n =
+    let back : (firstNumberWord + n) - firstNumberWord ≡ n = omega arith in
+    rw (le-leb firstNumberWord (firstNumberWord + n) (omega arith), wordOf, back)
+
+word-parts : (kind k : ℕ) → kind < 16 → k < 134217728 → wordOf (nodeWord kind k) ≡ getD (kinds k) kind stray
+unfolding wordOf nodeWord
+word-parts kind k l small = rw (lt-leb firstNumberWord (nodeWord kind k) (omega arith), wordOf, argument-of kind k l, kind-of kind k l)
 
 pub word-back : (w : Word) → inRange w ≡ true → wordOf (code w) ≡ w
 unfolding code kinds inRange
-word-back (allOf k) h = word-parts 0 k (omega arith)
-word-back (anyOf k) h = word-parts 1 k (omega arith)
-word-back notWord h = word-parts 2 0 (omega arith)
-word-back impWord h = word-parts 3 0 (omega arith)
-word-back eqWord h = word-parts 4 0 (omega arith)
-word-back leWord h = word-parts 5 0 (omega arith)
-word-back (numWord z) h = word-parts 6 (biased z) (omega arith) ∙ ap numWord (number-back z h)
-word-back (oldWord k) h = word-parts 7 k (omega arith)
-word-back (newWord k) h = word-parts 8 k (omega arith)
-word-back addWord h = word-parts 9 0 (omega arith)
-word-back subWord h = word-parts 10 0 (omega arith)
-word-back mulWord h = word-parts 11 0 (omega arith)
-word-back ifWord h = word-parts 12 0 (omega arith)
-word-back stray h = word-parts 15 0 (omega arith)
+word-back (allOf k) h = let l = leb-true k maxOperands h in word-parts 0 k (omega arith) (omega arith)
+word-back (anyOf k) h = let l = leb-true k maxOperands h in word-parts 1 k (omega arith) (omega arith)
+word-back notWord h = word-parts 2 0 (omega arith) (omega arith)
+word-back impWord h = word-parts 3 0 (omega arith) (omega arith)
+word-back eqWord h = word-parts 4 0 (omega arith) (omega arith)
+word-back leWord h = word-parts 5 0 (omega arith) (omega arith)
+word-back (numWord z) h = number-word (biased z) ∙ ap numWord (number-back z h)
+word-back (oldWord k) h = let l = leb-true k lastVariable h in word-parts 7 k (omega arith) (omega arith)
+word-back (newWord k) h = let l = leb-true k lastVariable h in word-parts 8 k (omega arith) (omega arith)
+word-back addWord h = word-parts 9 0 (omega arith) (omega arith)
+word-back subWord h = word-parts 10 0 (omega arith) (omega arith)
+word-back mulWord h = word-parts 11 0 (omega arith) (omega arith)
+word-back ifWord h = word-parts 12 0 (omega arith) (omega arith)
+word-back stray h = word-parts 15 0 (omega arith) (omega arith)
 
 pub words-back : (ws : List Word) → every inRange ws ≡ true → map wordOf (map code ws) ≡ ws
 unfolding every

@@ -159,12 +159,14 @@ all-old l h = words-none (λ w. isNew (named w)) l h
 -- number is lawful.
 spans : (z : ℤ) → between leastNumber greatestNumber z ≡ true → between leastValue greatestValue z ≡ true
 unfolding between
-spans (pos n) h = let l = leb-true n 32767 h in le-leb n 2147483647 (omega arith)
-spans (negsuc n) h = let l = leb-true n 32767 (and-left _ true h) in and-intro (le-leb n 2147483647 (omega arith)) refl
+spans (pos n) h = let l = leb-true n 1000000000 h in le-leb n 4611686018427387904 (omega arith)
+spans (negsuc n) h =
+    let l = leb-true n 999999999 (and-left _ true h) in
+    and-intro (le-leb n 4611686018427387903 (omega arith)) refl
 
 small : (j : ℕ) → j ≤ lastLocation → between leastNumber greatestNumber (pos j) ≡ true
 unfolding between
-small j l = le-leb j 32767 (omega arith)
+small j l = le-leb j 1000000000 (omega arith)
 
 range-spans : (r : Range) → LawfulRange r → (leZ leastValue (r .low) && leZ (r .high) greatestValue) ≡ true
 unfolding between

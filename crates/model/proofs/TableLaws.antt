@@ -1,4 +1,4 @@
--- A model's table has 8,192 words and gives the model back; the tables that row 19 lets pass are the models' tables.
+-- A model's table has 16,384 words and gives the model back; the tables that row 19 lets pass are the models' tables.
 use Prim.Native.Nat.{ℕ, _-_}
 use mathlib.Core.Path.{_≡_, refl, sym, ap, _∙_}
 use mathlib.Core.Bool.{Bool, true, false, true≢false}

@@ -43,19 +43,19 @@ lastLocation = 31
 abbrev pub lastAutomaton : ℕ
 lastAutomaton = 15
 
--- numbers in expressions, and the bounds of variables
+-- numbers in expressions, and the bounds of variables (request (c))
 abbrev pub leastNumber : ℤ
-leastNumber = negsuc 32767
+leastNumber = negsuc 999999999
 
 abbrev pub greatestNumber : ℤ
-greatestNumber = pos 32767
+greatestNumber = pos 1000000000
 
--- row 10: the span that every expression's interval must keep to
+-- row 10: the span that every expression's interval must keep to, 2^62 both ways, ends included (request (c))
 abbrev pub leastValue : ℤ
-leastValue = negsuc 2147483647
+leastValue = negsuc 4611686018427387903
 
 abbrev pub greatestValue : ℤ
-greatestValue = pos 2147483647
+greatestValue = pos 4611686018427387904
 
 -- rows 9, 11, 16 and 1
 abbrev pub maxDepth : ℕ
@@ -72,8 +72,16 @@ maxBytes = 65536
 
 -- row 18: the words of a table
 abbrev pub tableWords : ℕ
-tableWords = 8192
+tableWords = 16384
 
--- a number's word in the table is the number plus this, so that the least number has 0
+-- a variable's bound is the bound plus this in the table, so that the least number is 0
 abbrev pub bias : ℕ
-bias = 32768
+bias = 1000000000
+
+-- the greatest number, with the bias
+abbrev pub lastBiased : ℕ
+lastBiased = 2000000000
+
+-- the node words from here on are numbers: this, and the number with the bias
+abbrev pub firstNumberWord : ℕ
+firstNumberWord = 2147483648

@@ -1,4 +1,4 @@
--- The table of a model (docs/TABLE.md): line after line as words, then zeros up to 8,192 words.
+-- The table of a model (docs/TABLE.md): line after line as words, then zeros up to 16,384 words.
 use Prim.Native.Nat.{ℕ, zero, suc, _+_, _-_, _*_, _/_, _%_, _^_}
 use mathlib.Core.Bool.{Bool, true, false, _&&_}
 use mathlib.Core.List.{List, [], _∷_, _++_, map, flatMap}
@@ -7,7 +7,7 @@ use lib.ListN.{length, getD, take, drop, replicate}
 use lib.IntN.{ℤ, pos, negsuc}
 use lib.Dec.{eqb, leb, ltb}
 use Rattle.model.specs.Basic.{keep, same, countUp, onSome, lacks}
-use Rattle.model.specs.Bounds.{tableWords, bias}
+use Rattle.model.specs.Bounds.{tableWords, bias, firstNumberWord}
 use Rattle.model.specs.Predicate.{Pred, Range, range, Word, words, nodeCount, allOf, anyOf, notWord, impWord}
 use Rattle.model.specs.Predicate.{eqWord, leWord, numWord, oldWord, newWord, addWord, subWord, mulWord, ifWord}
 use Rattle.model.specs.Predicate.{stray}
@@ -38,8 +38,9 @@ highBits (k ∷ ks) = elim (leb k 31) [ true ↦ highBits ks | false ↦ 2 ^ (k 
 unfoldable pub setWords : List ℕ → List ℕ
 setWords list = lowBits list ∷ highBits list ∷ []
 
--- A node of a predicate is one word, which holds a kind and an argument. Code that reads or makes such words calls the
--- crate node_words, and proofs cite its laws: nobody else looks into a node's word.
+-- A node of a predicate is one word. A number has the words from `firstNumberWord` on; any other node has a kind and an
+-- argument in a word below. Code that reads or makes such words calls the crate node_words, and proofs cite its laws:
+-- nobody else looks into a node's word.
 unfoldable pub nodeWord : (kind argument : ℕ) → ℕ
 nodeWord kind k = kind + 16 * k
 
@@ -56,7 +57,7 @@ code notWord = nodeWord 2 0
 code impWord = nodeWord 3 0
 code eqWord = nodeWord 4 0
 code leWord = nodeWord 5 0
-code (numWord z) = nodeWord 6 (biased z)
+code (numWord z) = firstNumberWord + biased z
 code (oldWord k) = nodeWord 7 k
 code (newWord k) = nodeWord 8 k
 code addWord = nodeWord 9 0
@@ -112,14 +113,18 @@ bit word k = eqb (word / 2 ^ k % 2) 1
 unfoldable pub setOf : (low high : ℕ) → List ℕ
 setOf low high = keep (bit low) (countUp 0 32) ++ keep (λ k. bit high (k - 32)) (countUp 32 32)
 
--- the words by their kinds, all with one argument
+-- the words by their kinds, all with one argument; no word has the kind 6
 unfoldable pub kinds : ℕ → List Word
 kinds k =
-    allOf k ∷ anyOf k ∷ notWord ∷ impWord ∷ eqWord ∷ leWord ∷ numWord (unbiased k) ∷ oldWord k ∷ newWord k ∷
-    addWord ∷ subWord ∷ mulWord ∷ ifWord ∷ []
+    allOf k ∷ anyOf k ∷ notWord ∷ impWord ∷ eqWord ∷ leWord ∷ stray ∷ oldWord k ∷ newWord k ∷ addWord ∷ subWord ∷
+    mulWord ∷ ifWord ∷ []
 
 unfoldable pub wordOf : ℕ → Word
-wordOf w = getD (kinds (argumentOf w)) (kindOf w) stray
+wordOf w =
+    elim (leb firstNumberWord w) [
+      | true ↦ numWord (unbiased (w - firstNumberWord))
+      | false ↦ getD (kinds (argumentOf w)) (kindOf w) stray
+    ]
 
 -- what was taken, and the words that are left
 pub record Split (A : Type 0) : Type 0 where
@@ -215,7 +220,7 @@ decode (suc n) r (k ∷ ks) ws =
     ])
     (splitEntry k ws)
 
--- do the first 8,192 words of t make up the table of m?
+-- do the first 16,384 words of t make up the table of m?
 unfoldable pub isTableOf : List ℕ → Model → Bool
 isTableOf t m = limits m && same (take tableWords t) (tableOf m)
 

@@ -33,15 +33,23 @@ impl Model {
 
     pub const LAST_VARIABLE: u32 = 47;
 
-    // A number of a sheet is written in a table as itself plus the bias; the largest number that this gives.
-    pub const BIAS: i64 = 32768;
+    // The numbers of expressions, and the bounds of variables.
+    pub const LEAST_NUMBER: i32 = -1000000000;
 
-    pub const LAST_NUMBER: u32 = 65535;
+    pub const GREATEST_NUMBER: i32 = 1000000000;
+
+    // A bound is written in a table as itself plus the bias; the largest number that this gives.
+    pub const BIAS: u32 = 1000000000;
+
+    pub const LAST_NUMBER: u32 = 2000000000;
+
+    // The node words from here on are numbers, each with the bias.
+    pub const FIRST_NUMBER_WORD: u32 = 2147483648;
 
     // The span that every expression's interval keeps to.
-    pub const LEAST_VALUE: i64 = -2147483648;
+    pub const LEAST_VALUE: i64 = -4611686018427387904;
 
-    pub const GREATEST_VALUE: i64 = 2147483647;
+    pub const GREATEST_VALUE: i64 = 4611686018427387904;
 
     // Predicates: their nodes in all, and how deep one goes.
     pub const NODES: usize = 4096;
@@ -51,7 +59,7 @@ impl Model {
     // The text, and the table.
     pub const BYTES: usize = 65536;
 
-    pub const WORDS: usize = 8192;
+    pub const WORDS: usize = 16384;
 }
 
 // What rows that are asked in their order say: no row refuses, or the first that does.

@@ -4,7 +4,7 @@ use mathlib.Core.Bool.{Bool, true, false, not, _||_, true≢false}
 use mathlib.Core.List.{List, [], _∷_}
 use Prim.Native.Nat.{ℕ, suc, _+_, _-_, _*_, _%_, _/_, _≤_, _<_}
 use native.Mathlib.Omega.{arith}
-use borrow.Author.Tests.{leb-true, leb-false, le-leb, eqb-true}
+use borrow.Author.Tests.{leb-true, leb-false, le-leb, eqb-true, eqb-false}
 use native.Mathlib.Nat.{mod-eq-of-lt}
 use lib.IntN.{ℤ, pos, negsuc}
 use lib.Signed.{leZ}
@@ -14,17 +14,17 @@ use denote.Enum.Declared.{tagOf}
 use mir.Val.{hasKey}
 use types.Run.{OneOf, miss}
 use Rattle.model.specs.Basic.{between}
-use Rattle.model.specs.Bounds.{bias, leastNumber, greatestNumber, maxOperands, lastVariable}
+use Rattle.model.specs.Bounds.{bias, firstNumberWord, leastNumber, greatestNumber, maxOperands, lastVariable, lastBiased}
 use Rattle.model.specs.Predicate.{Word, allOf, anyOf, notWord, impWord, eqWord, leWord, numWord, oldWord, newWord, addWord, subWord, mulWord, ifWord, stray}
 use Rattle.model.specs.Limits.{inRange}
 use Rattle.model.specs.Table.{biased, unbiased, nodeWord, kindOf, argumentOf, code, kinds, wordOf}
 use Rattle.model.proofs.Tests.{and-right}
 use Rattle.model.proofs.Decode.{number-back}
-use Rattle.model.proofs.WordKinds.{word-of, each-at, kind-from}
+use Rattle.model.proofs.WordKinds.{Each, number-of, word-of, each-word, kind-from}
 use Rattle.node_words.specs.declared.Node.{Node}
 use Rattle.node_words.specs.declared.Node.the-variants.{All, Any, Not, Imp, Eq, Le, Number, Old, New, Add, Sub, Mul, If, Stray}
 use Rattle.node_words.proofs.Node.{the-type}
-use Rattle.node_words.specs.Nodes.{meant, nodeFor, nodeOf, room, fitted, wordFor}
+use Rattle.node_words.specs.Nodes.{meant, nodeFor, nodeOf, room, numberRoom, fitted, wordFor}
 
 -- the bias, put back
 pub biased-unbiased : (n : ℕ) → biased (unbiased n) ≡ n
@@ -40,7 +40,7 @@ pub unbiased-up : (z : ℕ) → unbiased (bias + z) ≡ pos z
 unfolding unbiased
 unbiased-up z = rw (le-leb bias (bias + z) (omega arith), unbiased) (ap pos (omega arith))
 
--- the numbers in range are those that are at most 65535 with the bias
+-- the numbers in range are those that are at most `lastBiased` with the bias
 leb-same : (k l m n : ℕ) → (k ≤ l → m ≤ n) → (m ≤ n → k ≤ l) → leb k l ≡ leb m n
 leb-same k l m n to from = go (leb k l) refl (leb m n) refl
   where
@@ -49,29 +49,29 @@ leb-same k l m n to from = go (leb k l) refl (leb m n) refl
     go false e true f = let g = leb-false k l e in let h = from (leb-true m n f) in absurd (omega arith)
     go false e false f = e ∙ sym f
 
-pub number-span : (n : ℕ) → leb n 65535 ≡ between leastNumber greatestNumber (unbiased n)
+pub number-span : (n : ℕ) → leb n lastBiased ≡ between leastNumber greatestNumber (unbiased n)
 unfolding between unbiased
 number-span n = go (leb bias n) refl
   where
-    go : (t : Bool) → leb bias n ≡ t → leb n 65535 ≡ between leastNumber greatestNumber (elim t [ true ↦ pos (n - bias) | false ↦ negsuc (bias - suc n) ])
-    go true e = let l = leb-true bias n e in leb-same n 65535 (n - bias) 32767 (λ h. omega arith) (λ h. omega arith)
+    go : (t : Bool) → leb bias n ≡ t → leb n lastBiased ≡ between leastNumber greatestNumber (elim t [ true ↦ pos (n - bias) | false ↦ negsuc (bias - suc n) ])
+    go true e = let l = leb-true bias n e in leb-same n lastBiased (n - bias) 1000000000 (λ h. omega arith) (λ h. omega arith)
     go false e =
         let l = leb-false bias n e in
-        le-leb n 65535 (omega arith) ∙ sym (rw (le-leb (bias - suc n) 32767 (omega arith)))
+        le-leb n lastBiased (omega arith) ∙ sym (rw (le-leb (bias - suc n) 999999999 (omega arith)))
 
 -- a number in range, with the bias
-pub biased-small : (z : ℤ) → between leastNumber greatestNumber z ≡ true → biased z ≤ 65535
+pub biased-small : (z : ℤ) → between leastNumber greatestNumber z ≡ true → biased z ≤ lastBiased
 unfolding between biased
-biased-small (pos n) h = omega (arith, leb-true n 32767 (and-right (leZ leastNumber (pos n)) (leZ (pos n) greatestNumber) h))
+biased-small (pos n) h = omega (arith, leb-true n 1000000000 (and-right (leZ leastNumber (pos n)) (leZ (pos n) greatestNumber) h))
 biased-small (negsuc n) h = omega arith
 
 -- the node that a word holds stands for the word
 pub meant-of : (w : ℕ) → meant (nodeOf w) ≡ wordOf w
-unfolding meant nodeFor nodeOf wordOf kinds
+unfolding meant nodeFor nodeOf kinds
 meant-of w =
-    let number = ap (λ (n : ℕ). numWord (unbiased n)) (biased-unbiased (argumentOf w)) in
-    each-at (λ (x : Word). meant (nodeFor x) ≡ x) (kinds (argumentOf w))
-    (refl, (refl, (refl, (refl, (refl, (refl, (number, (refl, (refl, (refl, (refl, (refl, (refl, refl))))))))))))) (kindOf w)
+    let number = ap (λ (n : ℕ). numWord (unbiased n)) (biased-unbiased (w - firstNumberWord)) in
+    each-word (λ (x : Word). meant (nodeFor x) ≡ x) w (λ h. number)
+    (λ h. (refl, (refl, (refl, (refl, (refl, (refl, (refl, (refl, (refl, (refl, (refl, (refl, (refl, refl))))))))))))))
 
 -- so a word is known by its node
 pub word-by : (w : ℕ) (n m : Node) → n ≡ nodeOf w → n ≡ m → wordOf w ≡ meant m
@@ -169,78 +169,85 @@ past : {k : ℕ} (n : ℕ) → n ≤ k → (k ≡ n → ⊥) → n + 1 ≤ k
 past n h ne = omega arith
 
 module _ (w : ℕ) where
-  held : (kind : ℕ) → w % 16 ≡ kind → nodeFor (getD (kinds (w / 16)) kind stray) ≡ nodeOf w
-  unfolding nodeOf kindOf argumentOf
-  held kind e = rw (word-of w kind e)
+  pub holds-number : firstNumberWord ≤ w → Number (w - firstNumberWord) ≡ nodeOf w
+  unfolding nodeFor nodeOf
+  holds-number h = rw (number-of w h) (ap Number (sym (biased-unbiased (w - firstNumberWord))))
 
-  pub holds-all : w % 16 ≡ 0 → All (w / 16) ≡ nodeOf w
-  unfolding nodeFor kinds
-  holds-all e = held 0 e
+  module _ (below : w < firstNumberWord) where
+    held : (kind : ℕ) → w % 16 ≡ kind → nodeFor (getD (kinds (w / 16)) kind stray) ≡ nodeOf w
+    unfolding nodeOf kindOf argumentOf
+    held kind e = rw (word-of w kind below e)
 
-  pub holds-any : w % 16 ≡ 1 → Any (w / 16) ≡ nodeOf w
-  unfolding nodeFor kinds
-  holds-any e = held 1 e
+    pub holds-all : w % 16 ≡ 0 → All (w / 16) ≡ nodeOf w
+    unfolding nodeFor kinds
+    holds-all e = held 0 e
 
-  pub holds-not : w % 16 ≡ 2 → Not ≡ nodeOf w
-  unfolding nodeFor kinds
-  holds-not e = held 2 e
+    pub holds-any : w % 16 ≡ 1 → Any (w / 16) ≡ nodeOf w
+    unfolding nodeFor kinds
+    holds-any e = held 1 e
 
-  pub holds-imp : w % 16 ≡ 3 → Imp ≡ nodeOf w
-  unfolding nodeFor kinds
-  holds-imp e = held 3 e
+    pub holds-not : w % 16 ≡ 2 → Not ≡ nodeOf w
+    unfolding nodeFor kinds
+    holds-not e = held 2 e
 
-  pub holds-eq : w % 16 ≡ 4 → Eq ≡ nodeOf w
-  unfolding nodeFor kinds
-  holds-eq e = held 4 e
+    pub holds-imp : w % 16 ≡ 3 → Imp ≡ nodeOf w
+    unfolding nodeFor kinds
+    holds-imp e = held 3 e
 
-  pub holds-le : w % 16 ≡ 5 → Le ≡ nodeOf w
-  unfolding nodeFor kinds
-  holds-le e = held 5 e
+    pub holds-eq : w % 16 ≡ 4 → Eq ≡ nodeOf w
+    unfolding nodeFor kinds
+    holds-eq e = held 4 e
 
-  pub holds-number : w % 16 ≡ 6 → Number (w / 16) ≡ nodeOf w
-  unfolding nodeFor kinds
-  holds-number e = ap Number (sym (biased-unbiased (w / 16))) ∙ held 6 e
+    pub holds-le : w % 16 ≡ 5 → Le ≡ nodeOf w
+    unfolding nodeFor kinds
+    holds-le e = held 5 e
 
-  pub holds-old : w % 16 ≡ 7 → Old (w / 16) ≡ nodeOf w
-  unfolding nodeFor kinds
-  holds-old e = held 7 e
+    pub holds-old : w % 16 ≡ 7 → Old (w / 16) ≡ nodeOf w
+    unfolding nodeFor kinds
+    holds-old e = held 7 e
 
-  pub holds-new : w % 16 ≡ 8 → New (w / 16) ≡ nodeOf w
-  unfolding nodeFor kinds
-  holds-new e = held 8 e
+    pub holds-new : w % 16 ≡ 8 → New (w / 16) ≡ nodeOf w
+    unfolding nodeFor kinds
+    holds-new e = held 8 e
 
-  pub holds-add : w % 16 ≡ 9 → Add ≡ nodeOf w
-  unfolding nodeFor kinds
-  holds-add e = held 9 e
+    pub holds-add : w % 16 ≡ 9 → Add ≡ nodeOf w
+    unfolding nodeFor kinds
+    holds-add e = held 9 e
 
-  pub holds-sub : w % 16 ≡ 10 → Sub ≡ nodeOf w
-  unfolding nodeFor kinds
-  holds-sub e = held 10 e
+    pub holds-sub : w % 16 ≡ 10 → Sub ≡ nodeOf w
+    unfolding nodeFor kinds
+    holds-sub e = held 10 e
 
-  pub holds-mul : w % 16 ≡ 11 → Mul ≡ nodeOf w
-  unfolding nodeFor kinds
-  holds-mul e = held 11 e
+    pub holds-mul : w % 16 ≡ 11 → Mul ≡ nodeOf w
+    unfolding nodeFor kinds
+    holds-mul e = held 11 e
 
-  pub holds-if : w % 16 ≡ 12 → If ≡ nodeOf w
-  unfolding nodeFor kinds
-  holds-if e = held 12 e
+    pub holds-if : w % 16 ≡ 12 → If ≡ nodeOf w
+    unfolding nodeFor kinds
+    holds-if e = held 12 e
 
-  pub holds-none : (w % 16 ≡ 0 → ⊥) → (w % 16 ≡ 1 → ⊥) → (w % 16 ≡ 2 → ⊥) → (w % 16 ≡ 3 → ⊥) → (w % 16 ≡ 4 → ⊥) → (w % 16 ≡ 5 → ⊥) → (w % 16 ≡ 6 → ⊥) → (w % 16 ≡ 7 → ⊥) → (w % 16 ≡ 8 → ⊥) → (w % 16 ≡ 9 → ⊥) → (w % 16 ≡ 10 → ⊥) → (w % 16 ≡ 11 → ⊥) → (w % 16 ≡ 12 → ⊥) → Stray ≡ nodeOf w
-  unfolding nodeFor nodeOf kinds kindOf argumentOf
-  holds-none a b c d e f g h i j k l m =
-      let six = past 5 (past 4 (past 3 (past 2 (past 1 (past 0 (omega arith) a) b) c) d) e) f in
-      let above = past 12 (past 11 (past 10 (past 9 (past 8 (past 7 (past 6 six g) h) i) j) k) l) m in
-      kind-from (λ (x : Word). Stray ≡ nodeFor x) w 13 refl above
+    pub holds-none : (w % 16 ≡ 0 → ⊥) → (w % 16 ≡ 1 → ⊥) → (w % 16 ≡ 2 → ⊥) → (w % 16 ≡ 3 → ⊥) → (w % 16 ≡ 4 → ⊥) → (w % 16 ≡ 5 → ⊥) → (w % 16 ≡ 7 → ⊥) → (w % 16 ≡ 8 → ⊥) → (w % 16 ≡ 9 → ⊥) → (w % 16 ≡ 10 → ⊥) → (w % 16 ≡ 11 → ⊥) → (w % 16 ≡ 12 → ⊥) → Stray ≡ nodeOf w
+    unfolding nodeFor nodeOf kinds kindOf argumentOf
+    holds-none a b c d e f g h i j k l =
+        let six = past 5 (past 4 (past 3 (past 2 (past 1 (past 0 (omega arith) a) b) c) d) e) f in
+        by (eqb (w % 16) 6) refl six
+      where
+        by : (t : Bool) → eqb (w % 16) 6 ≡ t → 6 ≤ w % 16 → Stray ≡ nodeOf w
+        by true z six = held 6 (eqb-true (w % 16) 6 z)
+        by false z six =
+            let seven = past 6 six (eqb-false (w % 16) 6 z) in
+            let above = past 12 (past 11 (past 10 (past 9 (past 8 (past 7 seven g) h) i) j) k) l in
+            kind-from (λ (x : Word). Stray ≡ nodeFor x) w 13 below refl above
 
 pub ruleset holds-laws = (holds-all, holds-any, holds-not, holds-imp, holds-eq, holds-le, holds-number, holds-old, holds-new, holds-add, holds-sub, holds-mul, holds-if, holds-none)
 
 -- `word_of`, by the node
 module _ (n : Node) where
-  pub word-all : (k r : ℕ) → n ≡ All k → r ≡ 0 + 16 * (k % 268435456) → r ≡ wordFor n
+  pub word-all : (k r : ℕ) → n ≡ All k → r ≡ 0 + 16 * (k % 134217728) → r ≡ wordFor n
   unfolding wordFor fitted room meant code nodeWord
   word-all k r h e = rw h e
 
-  pub word-any : (k r : ℕ) → n ≡ Any k → r ≡ 1 + 16 * (k % 268435456) → r ≡ wordFor n
+  pub word-any : (k r : ℕ) → n ≡ Any k → r ≡ 1 + 16 * (k % 134217728) → r ≡ wordFor n
   unfolding wordFor fitted room meant code nodeWord
   word-any k r h e = rw h e
 
@@ -260,15 +267,15 @@ module _ (n : Node) where
   unfolding wordFor fitted meant code nodeWord
   word-le h = rw h
 
-  pub word-number : (k r : ℕ) → n ≡ Number k → r ≡ 6 + 16 * (k % 268435456) → r ≡ wordFor n
-  unfolding wordFor fitted room meant code nodeWord
-  word-number k r h e = rw (h, biased-unbiased (k % 268435456)) e
+  pub word-number : (k r : ℕ) → n ≡ Number k → r ≡ firstNumberWord + k % 2147483648 → r ≡ wordFor n
+  unfolding wordFor fitted numberRoom meant code
+  word-number k r h e = rw (h, biased-unbiased (k % 2147483648)) e
 
-  pub word-old : (k r : ℕ) → n ≡ Old k → r ≡ 7 + 16 * (k % 268435456) → r ≡ wordFor n
+  pub word-old : (k r : ℕ) → n ≡ Old k → r ≡ 7 + 16 * (k % 134217728) → r ≡ wordFor n
   unfolding wordFor fitted room meant code nodeWord
   word-old k r h e = rw h e
 
-  pub word-new : (k r : ℕ) → n ≡ New k → r ≡ 8 + 16 * (k % 268435456) → r ≡ wordFor n
+  pub word-new : (k r : ℕ) → n ≡ New k → r ≡ 8 + 16 * (k % 134217728) → r ≡ wordFor n
   unfolding wordFor fitted room meant code nodeWord
   word-new k r h e = rw h e
 
@@ -295,25 +302,34 @@ module _ (n : Node) where
 pub ruleset word-laws = (word-all, word-any, word-not, word-imp, word-eq, word-le, word-number, word-old, word-new, word-add, word-sub, word-mul, word-if, word-stray)
 
 -- a word of 32 bits has room for its node's argument, so its node's word is the code of what it says
-room-small : (k : ℕ) → k < 268435456 → room k ≡ k
+room-small : (k : ℕ) → k < 134217728 → room k ≡ k
 unfolding room
 room-small k h = mod-eq-of-lt h
 
+number-room : (n : ℕ) → n < 2147483648 → numberRoom n ≡ n
+unfolding numberRoom
+number-room n h = mod-eq-of-lt h
+
 fits-node : (w : ℕ) → w < 4294967296 → fitted (nodeOf w) ≡ nodeOf w
-unfolding fitted nodeOf nodeFor wordOf kinds argumentOf
-fits-node w h =
-    let a = argumentOf w in
-    let e : room a ≡ a = room-small a (omega arith) in
-    let number : Number (room (biased (unbiased a))) ≡ Number (biased (unbiased a)) = ap Number (rw (biased-unbiased a) e) in
-    each-at (λ (x : Word). fitted (nodeFor x) ≡ nodeFor x) (kinds a)
-    (ap All e, (ap Any e, (refl, (refl, (refl, (refl, (number, (ap Old e, (ap New e, (refl, (refl, (refl, (refl, refl))))))))))))) (kindOf w)
+unfolding fitted nodeOf nodeFor kinds argumentOf
+fits-node w small = each-word (λ (x : Word). fitted (nodeFor x) ≡ nodeFor x) w number other
+  where
+    number : firstNumberWord ≤ w → Number (numberRoom (biased (unbiased (w - firstNumberWord)))) ≡ Number (biased (unbiased (w - firstNumberWord)))
+    number h =
+        let a = w - firstNumberWord in
+        ap Number (rw (biased-unbiased a) (number-room a (omega arith)))
+
+    other : w < firstNumberWord → Each (λ (x : Word). fitted (nodeFor x) ≡ nodeFor x) (kinds (argumentOf w))
+    other h =
+        let e : room (argumentOf w) ≡ argumentOf w = room-small (argumentOf w) (omega arith) in
+        (ap All e, (ap Any e, (refl, (refl, (refl, (refl, (refl, (ap Old e, (ap New e, (refl, (refl, (refl, (refl, refl)))))))))))))
 
 pub word-again : (w : ℕ) → w < 4294967296 → wordFor (nodeOf w) ≡ code (wordOf w)
 unfolding wordFor
 word-again w h = ap (λ (n : Node). code (meant n)) (fits-node w h) ∙ ap code (meant-of w)
 
 -- so has the word of a node with a small argument
-module _ (k : ℕ) (h : k < 268435456) where
+module _ (k : ℕ) (h : k < 134217728) where
   pub all-held : wordFor (All k) ≡ code (allOf k)
   unfolding wordFor fitted meant
   all-held = ap (λ (j : ℕ). code (allOf j)) (room-small k h)
@@ -330,9 +346,9 @@ module _ (k : ℕ) (h : k < 268435456) where
   unfolding wordFor fitted meant
   new-held = ap (λ (j : ℕ). code (newWord j)) (room-small k h)
 
-pub number-held : (n : ℕ) → n < 268435456 → wordFor (Number n) ≡ code (numWord (unbiased n))
+pub number-held : (n : ℕ) → n < 2147483648 → wordFor (Number n) ≡ code (numWord (unbiased n))
 unfolding wordFor fitted meant
-number-held n h = ap (λ (j : ℕ). code (numWord (unbiased j))) (room-small n h)
+number-held n h = ap (λ (j : ℕ). code (numWord (unbiased j))) (number-room n h)
 
 -- and with one in range
 pub word-for : (x : Word) → inRange x ≡ true → wordFor (nodeFor x) ≡ code x

@@ -45,9 +45,12 @@ nodeFor stray = Stray
 unfoldable pub nodeOf : ℕ → Node
 nodeOf w = nodeFor (wordOf w)
 
--- as much of an argument as a word has room for: the low 28 bits
+-- as much of an argument as a word has room for: the low 27 bits, of a number the low 31
 unfoldable pub room : ℕ → ℕ
-room k = k % 268435456
+room k = k % 134217728
+
+unfoldable pub numberRoom : ℕ → ℕ
+numberRoom n = n % 2147483648
 
 unfoldable pub fitted : Node → Node
 fitted (All k) = All (room k)
@@ -56,7 +59,7 @@ fitted Not = Not
 fitted Imp = Imp
 fitted Eq = Eq
 fitted Le = Le
-fitted (Number n) = Number (room n)
+fitted (Number n) = Number (numberRoom n)
 fitted (Old k) = Old (room k)
 fitted (New k) = New (room k)
 fitted Add = Add

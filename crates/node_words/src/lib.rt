@@ -1,6 +1,8 @@
 // The words of predicate nodes (docs/TABLE.md): the one place that knows how a word holds a node.
+use model::Model;
 ghost use mathlib.Core.Path.{_≡_};
 ghost use Prim.Native.Nat.{_+_, _*_, _%_, _<_};
+ghost use Rattle.model.specs.Bounds.{firstNumberWord};
 ghost use Rattle.node_words.specs.Nodes.{nodeOf, wordFor};
 
 // A node with its argument: the operands of `all` and `any`, a number with the bias, the variable of `vK` and `nK`.
@@ -26,6 +28,9 @@ pub enum Node {
 pub fn node_of(word: u32) -> Node
     ensures { λ r. ⌜ r ≡ nodeOf word ⌝ }
 {
+    if Model::FIRST_NUMBER_WORD <= word {
+        return Node::Number(word - Model::FIRST_NUMBER_WORD);
+    }
     let argument = word / 16;
     match word % 16 {
         0 => Node::All(argument),
@@ -34,7 +39,6 @@ pub fn node_of(word: u32) -> Node
         3 => Node::Imp,
         4 => Node::Eq,
         5 => Node::Le,
-        6 => Node::Number(argument),
         7 => Node::Old(argument),
         8 => Node::New(argument),
         9 => Node::Add,
@@ -45,12 +49,19 @@ pub fn node_of(word: u32) -> Node
     }
 }
 
-// A word with an argument, of which the low 28 bits find room.
+// A word with an argument, of which the low 27 bits find room below the numbers.
 fn packed(kind: u32, argument: u32) -> u32
     requires { ⌜ kind < 16 ⌝ }
-    ensures { λ r. ⌜ r ≡ kind + 16 * (argument % 268435456) ⌝ }
+    ensures { λ r. ⌜ r ≡ kind + 16 * (argument % 134217728) ⌝ }
 {
-    kind + 16 * (argument % 268435456)
+    kind + 16 * (argument % 134217728)
+}
+
+// A number's word, with the low 31 bits of the number.
+fn numbered(n: u32) -> u32
+    ensures { λ r. ⌜ r ≡ firstNumberWord + n % 2147483648 ⌝ }
+{
+    Model::FIRST_NUMBER_WORD + n % 2147483648
 }
 
 // The word that holds a node.
@@ -64,7 +75,7 @@ pub fn word_of(node: Node) -> u32
         Node::Imp => 3,
         Node::Eq => 4,
         Node::Le => 5,
-        Node::Number(n) => packed(6, n),
+        Node::Number(n) => numbered(n),
         Node::Old(k) => packed(7, k),
         Node::New(k) => packed(8, k),
         Node::Add => 9,

@@ -1,4 +1,5 @@
 // A variable's line with the two ends of its range: rows 2, 3 and 4.
+use model::Model;
 use read_form::field;
 use text_numbers::Integer;
 ghost use mathlib.Core.Path.{_≡_};
@@ -16,7 +17,7 @@ pub enum Bounds {
 fn end_of(part: &[u8]) -> Integer
     ensures { λ r. ⌜ r ≡ integerIn (now (part .entry)) leastNumber greatestNumber ⌝ }
 {
-    text_numbers::integer(part, -32768, 32767)
+    text_numbers::integer(part, Model::LEAST_NUMBER, Model::GREATEST_NUMBER)
 }
 
 // Row 4: the ends are in order.

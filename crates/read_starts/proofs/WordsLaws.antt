@@ -9,7 +9,7 @@ use borrow.Author.Tests.{le-leb, lt-leb}
 use lib.Dec.{leb}
 use lib.ListN.{length, take, drop, length-append}
 use lib.Seq.{take-all}
-use Rattle.model.specs.Bounds.{maxNodes}
+use Rattle.model.specs.Bounds.{maxNodes, tableWords}
 use Rattle.format.specs.Bytes.{Bytes}
 use Rattle.table_append.specs.Append.{nextPlace, put}
 use Rattle.table_append.proofs.AppendLaws.{next-in, next-over}
@@ -27,10 +27,10 @@ use Rattle.read_starts.specs.Words.{countedWords, wordsBy, startWords, s
 use Rattle.read_starts.proofs.PartLaws.{textsFrom, texts-start, texts-past, texts-none, texts-next, texts-later}
 
 -- `place`
-pub place-in : (at : ℕ) → at ≤ 8192 → at ≡ nextPlace at 0
+pub place-in : (at : ℕ) → at ≤ tableWords → at ≡ nextPlace at 0
 place-in at h = let z : at ≡ at + 0 = omega arith in z ∙ next-in at 0 (omega arith)
 
-pub place-over : (at : ℕ) → 8192 < at → 8192 ≡ nextPlace at 0
+pub place-over : (at : ℕ) → tableWords < at → tableWords ≡ nextPlace at 0
 place-over at h = next-over at 0 (omega arith)
 
 pub ruleset place-laws = (place-in, place-over)

@@ -1,4 +1,5 @@
 // One token: which bytes of it, if any, are judged as a number?
+use model::Model;
 ghost use mathlib.Core.Path.{_≡_};
 ghost use lib.IntN.{pos};
 ghost use Rattle.model.specs.Bounds.{leastNumber, greatestNumber};
@@ -41,7 +42,7 @@ pub fn numeral(token: &[u8]) -> Shape
 pub fn number_fits(s: &[u8]) -> bool
     ensures { λ r. ⌜ r ≡ N.within leastNumber greatestNumber (now (s .entry)) ⌝ }
 {
-    let m = text_numbers::integer(s, -32768, 32767);
+    let m = text_numbers::integer(s, Model::LEAST_NUMBER, Model::GREATEST_NUMBER);
     match m {
         text_numbers::Integer::In(_) => true,
         text_numbers::Integer::Out => false,

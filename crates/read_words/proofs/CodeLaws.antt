@@ -14,7 +14,7 @@ use mir.Syntax.{w32, w64}
 use mir.Val.{SFits, Fits, toZ, ofZ}
 use mir.ValLaws.{toZ-ofZ}
 use Rattle.model.specs.Basic.{between, same}
-use Rattle.model.specs.Bounds.{leastNumber, greatestNumber}
+use Rattle.model.specs.Bounds.{leastNumber, greatestNumber, bias}
 use Rattle.model.specs.Predicate.{Word, numWord, stray}
 use Rattle.model.specs.Limits.{inRange}
 use Rattle.model.specs.Table.{code, biased}
@@ -62,14 +62,14 @@ pub ruleset keyword-laws = (keyword-here, keyword-on, keyword-none)
 below-least : (z : ℤ) → ltZ z leastNumber ≡ true → 0 ≡ biased z
 unfolding biased
 below-least (pos n) h = absurd (false-true h)
-below-least (negsuc n) h = omega (arith, ltb-true 32767 n h)
+below-least (negsuc n) h = omega (arith, ltb-true 999999999 n h)
 
-moved-up : (z : ℤ) → ltZ z leastNumber ≡ false → z +ℤ pos 32768 ≡ pos (biased z)
+moved-up : (z : ℤ) → ltZ z leastNumber ≡ false → z +ℤ pos bias ≡ pos (biased z)
 unfolding biased
 moved-up (pos n) h = ap pos (omega arith)
 moved-up (negsuc n) h =
-    let l : n ≤ 32767 = ltb-false 32767 n h in
-    rw (le-ltb 32768 (suc n) (omega arith))
+    let l : n ≤ 999999999 = ltb-false 999999999 n h in
+    rw (le-ltb bias (suc n) (omega arith))
 
 biased-fits : (z : ℤ) → SFits w32 z → biased z < 2 ^ 32
 unfolding biased
@@ -81,21 +81,21 @@ module _ (z : ℤ) (f : SFits w32 z) where
   biased-least h = below-least z (rw (toZ-ofZ w32 z f) at h)
 
   module _ (h : ltZ (toZ w32 (ofZ w32 z)) leastNumber ≡ false) where
-    moved : toZ w64 (ofZ w64 (toZ w32 (ofZ w32 z))) +ℤ pos 32768 ≡ pos (biased z)
+    moved : toZ w64 (ofZ w64 (toZ w32 (ofZ w32 z))) +ℤ pos bias ≡ pos (biased z)
     moved = rw (widened z f) (moved-up z (rw (toZ-ofZ w32 z f) at h))
 
-    pub moved-fits : SFits w64 (toZ w64 (ofZ w64 (toZ w32 (ofZ w32 z))) +ℤ pos 32768)
+    pub moved-fits : SFits w64 (toZ w64 (ofZ w64 (toZ w32 (ofZ w32 z))) +ℤ pos bias)
     moved-fits = rw moved (record { sfits = omega (arith, biased-fits z f) })
 
-    moved-read : toZ w64 (ofZ w64 (toZ w64 (ofZ w64 (toZ w32 (ofZ w32 z))) +ℤ pos 32768)) ≡ pos (biased z)
+    moved-read : toZ w64 (ofZ w64 (toZ w64 (ofZ w64 (toZ w32 (ofZ w32 z))) +ℤ pos bias)) ≡ pos (biased z)
     moved-read = toZ-ofZ w64 _ moved-fits ∙ moved
 
     pub moved-cast :
-        T (nonNeg (toZ w64 (ofZ w64 (toZ w64 (ofZ w64 (toZ w32 (ofZ w32 z))) +ℤ pos 32768)))) ×
-        Fits w32 (natAbs (toZ w64 (ofZ w64 (toZ w64 (ofZ w64 (toZ w32 (ofZ w32 z))) +ℤ pos 32768))))
+        T (nonNeg (toZ w64 (ofZ w64 (toZ w64 (ofZ w64 (toZ w32 (ofZ w32 z))) +ℤ pos bias)))) ×
+        Fits w32 (natAbs (toZ w64 (ofZ w64 (toZ w64 (ofZ w64 (toZ w32 (ofZ w32 z))) +ℤ pos bias))))
     moved-cast = rw moved-read (tt, record { fits = biased-fits z f })
 
-    pub moved-is : natAbs (toZ w64 (ofZ w64 (toZ w64 (ofZ w64 (toZ w32 (ofZ w32 z))) +ℤ pos 32768))) ≡ biased z
+    pub moved-is : natAbs (toZ w64 (ofZ w64 (toZ w64 (ofZ w64 (toZ w32 (ofZ w32 z))) +ℤ pos bias))) ≡ biased z
     moved-is = ap natAbs moved-read
 
 -- `number_code`

@@ -75,16 +75,16 @@ fn keyword_code(token: &[u8]) -> u32
 pub fn biased(z: i32) -> u32
     ensures { λ r. ⌜ r ≡ Table.biased z ⌝ }
 {
-    if z < -32768 {
+    if z < Model::LEAST_NUMBER {
         return 0;
     }
-    (z as i64 + Model::BIAS) as u32
+    (z as i64 + Model::BIAS as i64) as u32
 }
 
 fn number_code(s: &[u8]) -> u32
     ensures { λ r. ⌜ r ≡ numberCode (now (s .entry)) ⌝ }
 {
-    let m = text_numbers::integer(s, -32768, 32767);
+    let m = text_numbers::integer(s, Model::LEAST_NUMBER, Model::GREATEST_NUMBER);
     match m {
         text_numbers::Integer::In(z) => node_words::word_of(Node::Number(biased(z))),
         text_numbers::Integer::Out => stray_code(),

@@ -305,7 +305,7 @@ module _ (t : List ℕ) (line : ℕ → Key → Counts → Line) (exact : LineEx
   unfolding scannedSheet
   scanned-gives o e = ap {B = Bool} (λ p. elim p [ none ↦ false | some at ↦ zerosFrom t at ]) e
 
-  -- the scan passes a table of 8,192 words exactly if it is some model's
+  -- the scan passes a table of 16,384 words exactly if it is some model's
   pub scan-exact : length t ≡ tableWords → (scannedSheet line t ≡ true) ↔ ((m : Model) × (limits m ≡ true) × (t ≡ tableOf m))
   unfolding scanFirst zerosFrom limits tableOf sheetWords
   scan-exact whole = (from-scan (scanned line (tableWords + 1) scanFirst) refl, to-scan)
@@ -329,7 +329,7 @@ module _ (t : List ℕ) (line : ℕ → Key → Counts → Line) (exact : LineEx
           let c = scan-complete (lines m) dueAtFirst (tableWords + 1) 0 scanFirst atFirst m (replicate zeros 0) (omega arith) (going-first t) due-first (follow-lines m) (h .1) (h .2) (omega arith) in
           scanned-gives (some (c .0)) (c .1) ∙ ap (every (λ w. eqb w 0)) (c .2) ∙ are-zeros zeros
 
--- and so it passes the first 8,192 words of a table exactly if row 19 does not refuse the table
+-- and so it passes the first 16,384 words of a table exactly if row 19 does not refuse the table
 pub check-exact-by : (u : List ℕ) (line : ℕ → Key → Counts → Line) → tableWords ≤ length u → LineExact (take tableWords u) line → (scannedSheet line (take tableWords u) ≡ true) ↔ (row19 u ≡ false)
 check-exact-by u line l exact =
     let e = scan-exact (take tableWords u) line exact (length-take-le tableWords u l) in

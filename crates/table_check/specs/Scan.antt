@@ -46,6 +46,6 @@ module _ (line : ℕ → Key → Counts → Line) where
         ]
       ]
 
-  -- Each line takes a word at least, so the fuel is enough for a table. The list has been cut to its 8,192 words.
+  -- Each line takes a word at least, so the fuel is enough for a table. The list has been cut to its 16,384 words.
   unfoldable pub scannedSheet : List ℕ → Bool
   scannedSheet t = elim (scanned (tableWords + 1) scanFirst) [ none ↦ false | some at ↦ zerosFrom t at ]

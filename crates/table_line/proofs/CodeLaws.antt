@@ -7,7 +7,7 @@ use native.Mathlib.Omega.{arith}
 use lib.ListN.{length, getD}
 use lib.Dec.{leb, ltb}
 use borrow.Author.Tests.{lt-ltb, le-ltb, le-leb, lt-leb, not-true, not-false}
-use Rattle.model.specs.Bounds.{firstFormat, lastFormat, maxEdges}
+use Rattle.model.specs.Bounds.{firstFormat, lastFormat, maxEdges, lastBiased}
 use Rattle.model.specs.Limits.{rises}
 use Rattle.model.specs.Table.{setOf}
 use Rattle.model.proofs.Tests.{and-intro, and-no-right}
@@ -51,23 +51,23 @@ module _ (t : List ℕ) (at : ℕ) where
 
   pub variable-end : length t ≤ at → Bad ≡ variableAt t at
   unfolding variableAt
-  variable-end h = when-false _ _ (no-left (ltb (at + 1) (length t)) (leb high 65535 && leb low high) (le-ltb (at + 1) (length t) (omega arith)))
+  variable-end h = when-false _ _ (no-left (ltb (at + 1) (length t)) (leb high lastBiased && leb low high) (le-ltb (at + 1) (length t) (omega arith)))
 
   pub variable-short : length t ≤ at + 1 → Bad ≡ variableAt t at
   unfolding variableAt
-  variable-short h = when-false _ _ (no-left (ltb (at + 1) (length t)) (leb high 65535 && leb low high) (le-ltb (at + 1) (length t) h))
+  variable-short h = when-false _ _ (no-left (ltb (at + 1) (length t)) (leb high lastBiased && leb low high) (le-ltb (at + 1) (length t) h))
 
-  pub variable-high : 65535 < high → Bad ≡ variableAt t at
+  pub variable-high : lastBiased < high → Bad ≡ variableAt t at
   unfolding variableAt
-  variable-high l = when-false _ _ (and-no-right (ltb (at + 1) (length t)) (leb high 65535 && leb low high) (no-left (leb high 65535) (leb low high) (lt-leb high 65535 l)))
+  variable-high l = when-false _ _ (and-no-right (ltb (at + 1) (length t)) (leb high lastBiased && leb low high) (no-left (leb high lastBiased) (leb low high) (lt-leb high lastBiased l)))
 
   pub variable-order : high < low → Bad ≡ variableAt t at
   unfolding variableAt
-  variable-order l = when-false _ _ (and-no-right (ltb (at + 1) (length t)) (leb high 65535 && leb low high) (and-no-right (leb high 65535) (leb low high) (lt-leb low high l)))
+  variable-order l = when-false _ _ (and-no-right (ltb (at + 1) (length t)) (leb high lastBiased && leb low high) (and-no-right (leb high lastBiased) (leb low high) (lt-leb low high l)))
 
-  pub variable-good : at + 1 < length t → high ≤ 65535 → low ≤ high → Sound 0 0 (at + 2) ≡ variableAt t at
+  pub variable-good : at + 1 < length t → high ≤ lastBiased → low ≤ high → Sound 0 0 (at + 2) ≡ variableAt t at
   unfolding variableAt
-  variable-good h l m = when-true _ _ (and-intro (lt-ltb (at + 1) (length t) h) (and-intro (le-leb high 65535 l) (le-leb low high m)))
+  variable-good h l m = when-true _ _ (and-intro (lt-ltb (at + 1) (length t) h) (and-intro (le-leb high lastBiased l) (le-leb low high m)))
 
 pub ruleset variable-laws = (variable-end, variable-short, variable-high, variable-order, variable-good)
 

@@ -13,7 +13,7 @@ use lib.ListN.{length, drop, length-drop}
 use lib.Seq.{drop-cons}
 use lib.Dec.{eqb, leb, ltb}
 use Rattle.model.specs.Basic.{between, every, lacks}
-use Rattle.model.specs.Bounds.{maxActions, maxEdges, leastNumber, greatestNumber, bias}
+use Rattle.model.specs.Bounds.{maxActions, maxEdges, leastNumber, greatestNumber, bias, lastBiased}
 use Rattle.model.specs.Predicate.{Range, range}
 use Rattle.model.specs.Lines.{Entry, actionsLine, variableLine, syncLine, edgesLine, keyOf, Reading, noted, withModel}
 use Rattle.model.specs.Limits.{inRange, rises, broken, numbersInRange, contentFault, faultOf}
@@ -117,9 +117,9 @@ module _ (t : List ℕ) where
       let few = edges-line r n .0 (ap lacks g) in
       rw (f .is) (when-true _ (and-intro (lt-ltb at (length t) (f .below)) (le-leb (c .edges + n) maxEdges (omega (arith, k .edges)))))
 
--- A word up to 65535 is a number's, put back by the bias.
-number-word : (n : ℕ) → n ≤ 65535 → (biased (unbiased n) ≡ n) × (between leastNumber greatestNumber (unbiased n) ≡ true)
-number-word n l = (biased-unbiased n, sym (number-span n) ∙ le-leb n 65535 l)
+-- A word up to `lastBiased` is a number's, put back by the bias.
+number-word : (n : ℕ) → n ≤ lastBiased → (biased (unbiased n) ≡ n) × (between leastNumber greatestNumber (unbiased n) ≡ true)
+number-word n l = (biased-unbiased n, sym (number-span n) ∙ le-leb n lastBiased l)
 
 -- words and numbers have one order
 unbiased-le : (a b : ℕ) → a ≤ b → leZ (unbiased a) (unbiased b) ≡ true
@@ -155,10 +155,10 @@ module _ (t : List ℕ) (r : Reading) (at : ℕ) where
       let a = word t at in
       let b = word t (at + 1) in
       let s = when-sound _ _ number nodes next h in
-      let inside = ltb-true (at + 1) (length t) (and-left (ltb (at + 1) (length t)) (leb b 65535 && leb a b) (s .0)) in
-      let tests = and-right (ltb (at + 1) (length t)) (leb b 65535 && leb a b) (s .0) in
-      let few = leb-true b 65535 (and-left (leb b 65535) (leb a b) tests) in
-      let up = leb-true a b (and-right (leb b 65535) (leb a b) tests) in
+      let inside = ltb-true (at + 1) (length t) (and-left (ltb (at + 1) (length t)) (leb b lastBiased && leb a b) (s .0)) in
+      let tests = and-right (ltb (at + 1) (length t)) (leb b lastBiased && leb a b) (s .0) in
+      let few = leb-true b lastBiased (and-left (leb b lastBiased) (leb a b) tests) in
+      let up = leb-true a b (and-right (leb b lastBiased) (leb a b) tests) in
       let low = number-word a (omega arith) in
       let high = number-word b few in
       let lawful : LawfulRange (range (unbiased a) (unbiased b)) = record { low = low .1; high = high .1; ordered = unbiased-le a b up } in
@@ -172,7 +172,7 @@ module _ (t : List ℕ) (r : Reading) (at : ℕ) where
       rw (f .0 .is, f .1 .is)
       (when-true _
       (and-intro (lt-ltb (at + 1) (length t) (f .1 .below))
-      (and-intro (le-leb (biased (x .high)) 65535 (biased-small (x .high) (l .high))) (le-leb (biased (x .low)) (biased (x .high)) (biased-le (x .low) (x .high) (l .ordered))))))
+      (and-intro (le-leb (biased (x .high)) lastBiased (biased-small (x .high) (l .high))) (le-leb (biased (x .low)) (biased (x .high)) (biased-le (x .low) (x .high) (l .ordered))))))
 
 -- a list that rises up to 63 holds nothing above it: so says row 5's own law, of a reading with so many actions
 rises-few : (r : Reading) (A : ℕ) (list : List ℕ) → A ≤ maxActions → rises A 0 list ≡ true → every (λ k. leb k maxActions) list ≡ true

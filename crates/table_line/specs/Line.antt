@@ -6,7 +6,7 @@ use lib.ListN.{length, getD, take, drop}
 use lib.Dec.{eqb, leb, ltb}
 use Rattle.model.specs.Basic.{every}
 use Rattle.model.specs.Bounds.{firstFormat, lastFormat, maxActions, maxVariables, maxAutomata, maxLocations, maxEdges}
-use Rattle.model.specs.Bounds.{maxNodes, lastLocation}
+use Rattle.model.specs.Bounds.{maxNodes, lastLocation, lastBiased}
 use Rattle.model.specs.Predicate.{namesOutside, namesNew}
 use Rattle.model.specs.Limits.{rises}
 use Rattle.model.specs.Table.{wordOf, setOf}
@@ -55,7 +55,7 @@ module _ (t : List ℕ) where
 
   unfoldable pub variableAt : (at : ℕ) → Line
   variableAt at =
-      when (ltb (at + 1) (length t) && (leb (word (at + 1)) 65535 && leb (word at) (word (at + 1))))
+      when (ltb (at + 1) (length t) && (leb (word (at + 1)) lastBiased && leb (word at) (word (at + 1))))
       (Sound 0 0 (at + 2))
 
   unfoldable pub syncAt : (at A : ℕ) → Line

@@ -25,7 +25,7 @@ fn number(t: &[u32], at: usize, least: usize, most: usize) -> Line
     Line::Sound(n, 0, at + 1)
 }
 
-// A range, both ends plus 32768.
+// A range, both ends with the bias.
 fn variable(t: &[u32], at: usize) -> Line
     ensures { λ r. ⌜ r ≡ variableAt (now (t .entry)) at ⌝ }
 {

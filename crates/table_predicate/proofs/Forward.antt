@@ -15,7 +15,7 @@ use Rattle.model.proofs.Tests.{and-left, and-right}
 use Rattle.model.proofs.Lists.{all-at}
 use Rattle.arithmetic.specs.Cut.{cut}
 use Rattle.arithmetic.proofs.Order.{Le, Le-refl, Le-trans, Within, leZ-Le, add-within, sub-within, times-within, hull-first, span-fits}
-use Rattle.arithmetic.proofs.Signed.{cut-fits}
+use Rattle.arithmetic.proofs.CutLaws.{cut-fits}
 use Rattle.table_predicate.specs.declared.Walked.{Walked}
 use Rattle.table_predicate.specs.declared.Reach.{Reach}
 use Rattle.table_predicate.specs.Walk.{sound, deeper, unreached, inSpan, reached, ends, plus, minus, couple, joined, gather, declaredOf, predicateBy, expressionBy, predicateAt, expressionAt}

@@ -1,3 +1,4 @@
+pub mod ReachLaws
 pub mod Steps
 pub mod Standing
 pub mod Forward

@@ -11,7 +11,7 @@ use lib.IntN.{pos, negsuc}
 use lib.ListN.{length, getD, take, drop, drop-of-length-le}
 use lib.Seq.{drop-cons, take-nil}
 use Rattle.model.specs.Basic.{between, every, exists}
-use Rattle.model.specs.Bounds.{bias, leastNumber, greatestNumber}
+use Rattle.model.specs.Bounds.{bias, leastNumber, greatestNumber, lastBiased}
 use Rattle.model.specs.Predicate.{Word, named, isOutside, isNew, namesOutside, namesNew}
 use Rattle.model.specs.Limits.{inRange}
 use Rattle.model.specs.Table.{unbiased, code, wordOf}
@@ -88,7 +88,7 @@ module _ (n : Node) where
   unfolding meant inRange
   range-any k h = rw h
 
-  pub range-number : (k : ℕ) → n ≡ Number k → leb k 65535 ≡ inRange (meant n)
+  pub range-number : (k : ℕ) → n ≡ Number k → leb k lastBiased ≡ inRange (meant n)
   unfolding meant inRange
   range-number k h = rw h (number-span k)
 

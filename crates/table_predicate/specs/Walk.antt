@@ -51,7 +51,7 @@ entered words w =
       ]
     ]
 
--- past an expression: with no interval, and with one, which is checked and cut
+-- past an expression: with no interval, and with one, which is checked, and cut to what an i64 holds
 unfoldable pub unreached : Walked → Reach
 unreached w = record { walk = w; low = pos 0; high = pos 0 }
 

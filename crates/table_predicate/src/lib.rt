@@ -30,11 +30,11 @@ pub struct Entered {
     pub node: Node,
 }
 
-// A walk that is past an expression, and the expression's interval, cut to the span.
+// A walk that is past an expression, and the expression's interval, cut to what an i64 holds.
 pub struct Reach {
     pub walk: Walked,
-    pub low: i32,
-    pub high: i32,
+    pub low: i64,
+    pub high: i64,
 }
 
 // No depth is left for the next node.
@@ -103,7 +103,7 @@ fn unreached(walk: Walked) -> Reach
     }
 }
 
-// Past an expression with this interval, which is checked and cut.
+// Past an expression with this interval, which is checked.
 fn reached(walk: Walked, low: i64, high: i64) -> Reach
     ensures { λ r. ⌜ r ≡ reached walk (range low high) ⌝ }
 {
@@ -116,8 +116,8 @@ fn reached(walk: Walked, low: i64, high: i64) -> Reach
     };
     Reach {
         walk: past,
-        low: arithmetic::cut_to(low),
-        high: arithmetic::cut_to(high),
+        low,
+        high,
     }
 }
 
@@ -147,8 +147,8 @@ fn sum(x: Reach, y: Reach) -> Reach
 {
     reached(
         y.walk,
-        arithmetic::wide_sum(x.low, y.low),
-        arithmetic::wide_sum(x.high, y.high),
+        arithmetic::sum(x.low, y.low),
+        arithmetic::sum(x.high, y.high),
     )
 }
 
@@ -157,18 +157,18 @@ fn difference(x: Reach, y: Reach) -> Reach
 {
     reached(
         y.walk,
-        arithmetic::wide_difference(x.low, y.high),
-        arithmetic::wide_difference(x.high, y.low),
+        arithmetic::difference(x.low, y.high),
+        arithmetic::difference(x.high, y.low),
     )
 }
 
 fn product(x: Reach, y: Reach) -> Reach
     ensures { λ r. ⌜ r ≡ reached (y .walk) (times (ends x) (ends y)) ⌝ }
 {
-    let a = arithmetic::wide_product(x.low, y.low);
-    let b = arithmetic::wide_product(x.low, y.high);
-    let c = arithmetic::wide_product(x.high, y.low);
-    let d = arithmetic::wide_product(x.high, y.high);
+    let a = arithmetic::product(x.low, y.low);
+    let b = arithmetic::product(x.low, y.high);
+    let c = arithmetic::product(x.high, y.low);
+    let d = arithmetic::product(x.high, y.high);
     let low = arithmetic::lesser(arithmetic::lesser(a, b), arithmetic::lesser(c, d));
     let high = arithmetic::greater(arithmetic::greater(a, b), arithmetic::greater(c, d));
     reached(y.walk, low, high)
@@ -178,8 +178,8 @@ fn product(x: Reach, y: Reach) -> Reach
 fn either(x: Reach, y: Reach) -> Reach
     ensures { λ r. ⌜ r ≡ reached (y .walk) (hull (ends x) (ends y)) ⌝ }
 {
-    let low = arithmetic::lesser(arithmetic::wide(x.low), arithmetic::wide(y.low));
-    let high = arithmetic::greater(arithmetic::wide(x.high), arithmetic::wide(y.high));
+    let low = arithmetic::lesser(x.low, y.low);
+    let high = arithmetic::greater(x.high, y.high);
     reached(y.walk, low, high)
 }
 

@@ -49,7 +49,7 @@ pub record ReadCall (text : Bytes) (lent : List ℕ) : Type 0 where
   -- an acceptance puts the sheet's table into the first words, and changes no other
   pub accepted-puts : (m : Model) → readAnswer text (length lent) ≡ accepted m
       → PutInto lent (tableOf m) (tableAfter text lent)
-  -- these are 8,192
+  -- these are 16,384
   pub words-put : (m : Model) → readAnswer text (length lent) ≡ accepted m → length (tableOf m) ≡ tableWords
 
 -- writer::write, which is also reader::write

@@ -4,3 +4,4 @@ pub mod Oven
 pub mod Refused
 pub mod Starts
 pub mod Writes
+pub mod Wide

@@ -14,10 +14,10 @@ use Rattle.theorem_examples.proofs.Cases.{sheet, times, Case, accepts, 
 use Rattle.theorem_examples.proofs.Oven.{oven, ovenMerged, small, true', quiet, heavy}
 
 -- the start of a sheet with some variables' lines, and one automaton around an init
-abbrev begin : Bytes
+abbrev pub begin : Bytes
 begin = bytes "format=1\nactions=2\nvariables=1\n"
 
-abbrev ranged : (range init : Bytes) → Bytes
+abbrev pub ranged : (range init : Bytes) → Bytes
 ranged range init =
     begin ++ (bytes "variable=" ++ (range ++ (bytes "\nautomata=1\nsync=\nlocations=1\ninit=" ++ (init ++ bytes "\ninv=all 0\nedges=0\ncompose=a0\n"))))
 
@@ -126,8 +126,8 @@ refusedCases =
     refuses (small true' (bytes "eq v1 0") quiet (bytes "a0")) 7 9 ∷
     refuses (small true' (bytes "eq n0 0") quiet (bytes "a0")) 8 9 ∷
     refuses (small (times 24 (bytes "not ") ++ true') true' quiet (bytes "a0")) 9 8 ∷
-    refuses (ranged (bytes "0,2000") (bytes "eq mul mul v0 v0 v0 0")) 10 8 ∷
-    accepts (ranged (bytes "0,1290") (bytes "eq mul mul v0 v0 v0 0")) ∷
+    refuses (ranged (bytes "0,2000000") (bytes "eq mul mul v0 v0 v0 0")) 10 8 ∷
+    accepts (ranged (bytes "0,1664510") (bytes "eq mul mul v0 v0 v0 0")) ∷
     refuses (heavy (bytes "not ")) 11 12 ∷
     accepts (heavy []) ∷
     refuses (acting (bytes "3")) 12 11 ∷
@@ -138,14 +138,14 @@ refusedCases =
     refuses (sharing (bytes "300") (pastedEdges (bytes "edge=0,1,0,all 0") 300) (bytes "213") []) 15 314 ∷
     refuses (composed (times 64 (bytes "syn 1 ") ++ bytes "a0")) 16 11 ∷
     accepts (composed (times 63 (bytes "syn 1 ") ++ bytes "a0")) ∷
-    refusesTable oven 8191 18 0 ∷
-    answersTable (take 8191 ovenTable) (call 0 (0 ∷ 0 ∷ []) 0 1) (Judge.refused 18) ∷
+    refusesTable oven 16383 18 0 ∷
+    answersTable (take 16383 ovenTable) (call 0 (0 ∷ 0 ∷ []) 0 1) (Judge.refused 18) ∷
     answersTable (3 ∷ drop 1 ovenTable) (call 0 (0 ∷ 0 ∷ []) 0 1) (Judge.refused 19) ∷
     answersTable (ovenTable ++ 7 ∷ []) (call 0 (0 ∷ 0 ∷ []) 0 1) no ∷
-    answersTable (take 8191 ovenTable ++ 7 ∷ []) (call 0 (0 ∷ 0 ∷ []) 0 1) (Judge.refused 19) ∷
-    refusesWrite (take 8191 ovenTable) 65536 18 ∷
+    answersTable (take 16383 ovenTable ++ 7 ∷ []) (call 0 (0 ∷ 0 ∷ []) 0 1) (Judge.refused 19) ∷
+    refusesWrite (take 16383 ovenTable) 65536 18 ∷
     refusesWrite (3 ∷ drop 1 ovenTable) 65536 19 ∷
-    refusesMerge (take 8191 ovenTable) 65536 18 ∷
+    refusesMerge (take 16383 ovenTable) 65536 18 ∷
     refusesMerge (3 ∷ drop 1 ovenTable) 65536 19 ∷
     answers oven (call 2 (0 ∷ 0 ∷ []) 0 1) (Judge.refused 20) ∷
     answers oven (call 0 (0 ∷ []) 0 1) (Judge.refused 21) ∷

@@ -11,6 +11,7 @@ use lib.Seq.{take-at, length-take-le}
 use lib.Dec.{leb}
 use Rattle.format.specs.Bytes.{Bytes}
 use Rattle.format.specs.Number.{decimal, signed}
+use Rattle.model.specs.Bounds.{bias}
 use Rattle.model.specs.Table.{unbiased}
 use Rattle.text_bytes.specs.declared.answer.Written.{Written}
 use Rattle.text_bytes.specs.declared.answer.Written.the-variants.{To, Full}
@@ -136,15 +137,15 @@ apart-later mark first at r old new e g = rw e g
 pub ruleset apart-laws = (apart-first, apart-later)
 
 -- a biased word is below or not below the bias
-pub biased-below : (w : ℕ) (at a r : Written) (old mid new : Bytes) → w < 32768 → Grew (45 ∷ []) at old mid a → Grew (decimal (32768 - w)) a mid new r → Grew (signed (unbiased w)) at old new r
+pub biased-below : (w : ℕ) (at a r : Written) (old mid new : Bytes) → w < bias → Grew (45 ∷ []) at old mid a → Grew (decimal (bias - w)) a mid new r → Grew (signed (unbiased w)) at old new r
 unfolding unbiased signed
 biased-below w at a r old mid new h g k =
-    let e : suc (32768 - suc w) ≡ 32768 - w = omega arith in
-    rw (lt-leb 32768 w h, unbiased, e) (grew-then (45 ∷ []) (decimal (32768 - w)) at a r old mid new g k)
+    let e : suc (bias - suc w) ≡ bias - w = omega arith in
+    rw (lt-leb bias w h, unbiased, e) (grew-then (45 ∷ []) (decimal (bias - w)) at a r old mid new g k)
 
-pub biased-above : (w : ℕ) (at r : Written) (old new : Bytes) → 32768 ≤ w → Grew (decimal (w - 32768)) at old new r → Grew (signed (unbiased w)) at old new r
+pub biased-above : (w : ℕ) (at r : Written) (old new : Bytes) → bias ≤ w → Grew (decimal (w - bias)) at old new r → Grew (signed (unbiased w)) at old new r
 unfolding unbiased signed
-biased-above w at r old new h g = rw (le-leb 32768 w h, unbiased) g
+biased-above w at r old new h g = rw (le-leb bias w h, unbiased) g
 
 pub ruleset biased-laws = (biased-below, biased-above)
 

@@ -10,6 +10,7 @@ use borrow.Author.Tests.{le-leb, lt-leb, leb-true, leb-false, lt-ltb, le-ltb}
 use lib.ListN.{length, getD, take, drop}
 use lib.Seq.{length-take-le}
 use lib.Dec.{leb}
+use Rattle.model.specs.Bounds.{tableWords}
 use Rattle.format.specs.Bytes.{Bytes}
 use Rattle.format.specs.Writer.{row35, WriteAnswer as Answer, unwritten, written, withText, bufferAfter}
 use Rattle.model.proofs.Parsing.{none-some, got}
@@ -41,7 +42,7 @@ unfolding linesFrom
 lines-on n d ws e = ap (λ (b : Bool). elim b [ true ↦ [] | false ↦ entryOf d ws ++ linesFrom n (dueAfter d (getD ws 0 0)) (drop (sizeOf (d .key) ws) ws) ]) e
 
 module _ (t old : List ℕ) where
-  pub lines-first : (d : Due) → d ≡ dueFirst → Going (linesFrom 8193 d (drop 0 t)) start old (sheetText t) old
+  pub lines-first : (d : Due) → d ≡ dueFirst → Going (linesFrom (suc tableWords) d (drop 0 t)) start old (sheetText t) old
   unfolding sheetText
   lines-first d e = rw e (record { text = refl; long = refl })
 

@@ -1,4 +1,5 @@
 // Writing on from a place; where there is no room, that is passed on.
+use model::Model;
 use text_bytes::Written;
 ghost use Rattle.format.specs.Number as N;
 ghost use Rattle.model.specs.Table.{unbiased};
@@ -36,11 +37,11 @@ pub(crate) fn apart(mark: &[u8], first: bool, out: &mut [u8], at: Written) -> Wr
 pub(crate) fn biased(word: u32, out: &mut [u8], at: Written) -> Written
     ensures { λ r. ⌜ Grew (N.signed (unbiased word)) at (now (out .entry)) (now (out .exit)) r ⌝ }
 {
-    if word < 32768 {
+    if word < Model::BIAS {
         let a = put(b"-", out, at);
-        return number(32768 - word, out, a);
+        return number(Model::BIAS - word, out, a);
     }
-    number(word - 32768, out, at)
+    number(word - Model::BIAS, out, at)
 }
 
 // A part of a row of bytes.

@@ -9,7 +9,7 @@ use lib.Dec.{leb}
 use borrow.Author.Tests.{ltb-false}
 use lib.ListN.{length, getD, drop}
 use Rattle.model.specs.Basic.{lacks, between, every}
-use Rattle.model.specs.Bounds.{maxTreeNodes, leastNumber, greatestNumber, writesFormat}
+use Rattle.model.specs.Bounds.{maxTreeNodes, leastNumber, greatestNumber, writesFormat, tableWords}
 use Rattle.model.specs.Predicate.{Pred, words, nodeCount, written}
 use Rattle.model.specs.Composition.{Tree, treeSize}
 use Rattle.model.specs.Model.{Edge, Model}
@@ -237,8 +237,8 @@ module _ (m : Model) (h : Lawful m) (t rest : List ℕ) (stands : t ≡ sheetWor
   unfolding sheetText sheetWords limits
   sheet-text =
       let few = lines-few m h in
-      ap (linesFrom 8193 dueFirst) stands ∙
-      lines-text (lines m) atFirst dueAtFirst m dueFirst format-first due-first (follow-lines m) (lawful-is m .1 h) 8193 (omega arith) rest ∙
+      ap (linesFrom (suc tableWords) dueFirst) stands ∙
+      lines-text (lines m) atFirst dueAtFirst m dueFirst format-first due-first (follow-lines m) (lawful-is m .1 h) (suc tableWords) (omega arith) rest ∙
       text-along m
 
   -- and it fits

@@ -26,7 +26,7 @@ pub use judge::{environment, run, step, Answer, Proposals, Room, Run, State, ENV
 pub use refusal::{sentence, Refusal, RunRefusal};
 
 /// The words that a table has at least.
-pub const TABLE_WORDS: usize = 8_192;
+pub const TABLE_WORDS: usize = 16_384;
 /// The bytes that a text has at most, also a written or merged one.
 pub const TEXT_BYTES: usize = 65_536;
 /// The most actions, variables and automata that a sheet has.

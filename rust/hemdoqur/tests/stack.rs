@@ -12,7 +12,7 @@ fn stack(function: &str) -> usize {
 }
 
 /// How far down the stack is looked at.
-const DEPTH: usize = 512 * 1024;
+const DEPTH: usize = 1024 * 1024;
 const PAINT: u8 = 0xa5;
 
 /// The place of a local of this function, which its caller's next call has too.
@@ -47,6 +47,7 @@ fn within(function: &str, calls: impl FnOnce() + Send + 'static) {
     };
     let thread = Builder::new().stack_size(2 * DEPTH).spawn(measured).expect("a thread");
     let bytes = thread.join().expect("no call fails");
+    println!("{function}: {bytes} bytes");
     assert!(bytes > 2048, "nothing was measured");
     assert!(bytes <= stack(function), "{function}: {bytes} bytes, and the header gives {}", stack(function));
 }
@@ -76,6 +77,8 @@ fn deep_predicates() -> Vec<String> {
         format!("{}all 0", "all 1 ".repeat(23)),
         format!("{}any 0", "any 1 ".repeat(23)),
         format!("eq {}v0 0", "add v0 ".repeat(22)),
+        format!("eq {}v0 0", "sub 1000000000 ".repeat(22)),
+        format!("eq {}mul 1000000000 -1000000000 0", "mul v0 ".repeat(21)),
         format!("eq {}v0 0", "if any 0 v0 ".repeat(22)),
         format!("{}eq v0 0{}", "eq if ".repeat(11), " 0 v0 0".repeat(11)),
     ]

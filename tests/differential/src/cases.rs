@@ -1,6 +1,7 @@
 //! Sheet texts made by hand, each with the answer that the paper gives it: every row of the reader and the merger, and
 //! both sides of every limit. Names say what a text is about; where two differ in a number, a limit lies between them.
 mod lists;
+mod spans;
 
 use crate::rounds::OVEN;
 
@@ -65,9 +66,15 @@ const CHANGES: &[Change] = &[
     ("actions_64", 2, "actions=64", 3),
     ("actions_minus_1", 2, "actions=-1", 3),
     ("variables_49", 3, "variables=49", 3),
-    ("range_32767", 4, "variable=-32768,32767", 0),
-    ("range_32768", 4, "variable=0,32768", 3),
-    ("range_minus_32769", 4, "variable=-32769,1", 3),
+    ("range_1000000000", 4, "variable=-1000000000,1000000000", 0),
+    ("range_1000000001", 4, "variable=0,1000000001", 3),
+    ("range_minus_1000000001", 4, "variable=-1000000001,1", 3),
+    ("range_32768", 4, "variable=-32769,32768", 0),
+    ("range_10_digits", 4, "variable=0,9999999999", 3),
+    ("range_11_digits", 4, "variable=-10000000000,0", 3),
+    ("range_2_to_32_and_1", 4, "variable=0,4294967297", 3),
+    ("range_2_to_64_and_1", 4, "variable=0,18446744073709551617", 3),
+    ("range_leading_zero", 4, "variable=0,0999999999", 3),
     ("automata_0", 5, "automata=0", 3),
     ("automata_17", 5, "automata=17", 3),
     ("locations_0", 7, "locations=0", 3),
@@ -82,9 +89,22 @@ const CHANGES: &[Change] = &[
     ("list_comma_last", 6, "sync=1,", 3),
     ("count_513", 8, "init=all 513", 3),
     ("count_minus_1", 8, "init=any -1", 3),
-    ("expression_32767", 8, "init=le -32768 32767", 0),
-    ("expression_32768", 8, "init=le 32768 1", 3),
-    ("expression_minus_32769", 8, "init=le -32769 1", 3),
+    ("expression_1000000000", 8, "init=le -1000000000 1000000000", 0),
+    ("expression_1000000001", 8, "init=le 1000000001 1", 3),
+    ("expression_minus_1000000001", 8, "init=le -1000000001 1", 3),
+    ("expression_32768", 8, "init=le -32769 32768", 0),
+    ("expression_10_digits", 8, "init=le -9999999999 1", 3),
+    ("expression_11_digits", 8, "init=le 1 10000000000", 3),
+    ("expression_2_to_32_and_1", 8, "init=eq 4294967297 1", 3),
+    ("expression_2_to_64_and_1", 8, "init=eq 18446744073709551617 1", 3),
+    ("expression_leading_zero", 8, "init=le 0999999999 1", 3),
+    // What is no number of an expression keeps its range.
+    ("actions_1000000000", 2, "actions=1000000000", 3),
+    ("list_1000000000", 6, "sync=1000000000", 3),
+    ("count_1000000000", 8, "init=all 1000000000", 3),
+    ("variable_1000000000", 8, "init=eq v1000000000 0", 3),
+    ("edge_location_1000000000", 11, "edge=0,1,1000000000,all 0", 3),
+    ("leaf_1000000000", 12, "compose=a1000000000", 3),
     ("variable_47", 8, "init=eq v47 0", 7),
     ("variable_48", 8, "init=eq v48 0", 3),
     ("new_47", 11, "edge=0,1,0,eq n47 0", 7),
@@ -95,6 +115,9 @@ const CHANGES: &[Change] = &[
     // Row 4: a range.
     ("range_of_one", 4, "variable=1,1", 0),
     ("range_falls", 4, "variable=1,0", 4),
+    ("range_of_one_at_the_end", 4, "variable=1000000000,1000000000", 0),
+    ("range_of_one_at_the_beginning", 4, "variable=-1000000000,-1000000000", 0),
+    ("range_falls_far", 4, "variable=1000000000,-1000000000", 4),
     // Row 5: a list of actions; A is 2.
     ("list_2", 6, "sync=1,2", 0),
     ("list_3", 6, "sync=3", 5),
@@ -119,16 +142,6 @@ const CHANGES: &[Change] = &[
     ("new_1", 11, "edge=0,1,0,eq n1 0", 7),
     ("new_in_init", 8, "init=eq n0 0", 8),
     ("new_in_inv", 9, "inv=le n0 1", 8),
-    // Row 10: an interval at both ends of 32 bits; v0 counts with its range, an if with both its cases and its guard.
-    ("interval_max", 8, "init=le add mul 32767 add 32767 32767 add add 32767 32767 add 32767 add 32767 1 0", 0),
-    ("interval_past_max", 8, "init=le add mul 32767 add 32767 32767 add add 32767 32767 add 32767 add 32767 2 0", 10),
-    ("interval_min", 8, "init=le mul -32768 add 32767 add 32767 2 0", 0),
-    ("interval_past_min", 8, "init=le sub mul -32768 add 32767 add 32767 2 1 0", 10),
-    ("interval_range", 8, "init=le mul mul 32767 32767 add v0 2 0", 10),
-    ("interval_new", 11, "edge=0,1,0,le mul mul 32767 32767 add n0 2 0", 10),
-    ("interval_if", 8, "init=le if eq v0 0 0 mul mul 32767 32767 3 0", 10),
-    ("interval_guard", 8, "init=le if le mul mul 32767 32767 3 0 0 1 0", 10),
-    ("interval_times_0", 8, "init=le mul 0 mul mul 32767 32767 3 0", 10),
     // Row 12: an edge's places.
     ("edge_to_0", 11, "edge=0,0,0,all 0", 0),
     ("edge_from_1", 11, "edge=1,1,0,all 0", 12),
@@ -144,8 +157,8 @@ const CHANGES: &[Change] = &[
     ("compose_leaf_1", 12, "compose=a1", 14),
     ("compose_leaf_twice", 12, "compose=par a0 a0", 14),
     // Several faults in a line: the smallest row.
-    ("faults_3_and_4", 4, "variable=40000,9", 3),
-    ("faults_3_and_6", 8, "init=foo 99999", 3),
+    ("faults_3_and_4", 4, "variable=1000000001,9", 3),
+    ("faults_3_and_6", 8, "init=foo 1000000001", 3),
     ("faults_5_and_14", 12, "compose=par a1 syn 2,1 a0", 5),
     ("faults_6_and_7", 8, "init=eq v9", 6),
     ("faults_6_and_12", 11, "edge=0,3,0,eq v0", 6),
@@ -162,8 +175,9 @@ const CHANGES: &[Change] = &[
     // Row 3 in a start condition, and in the tree behind one.
     ("ini_count_513", 12, "compose=ini any 513 a0", 3),
     ("ini_count_v600", 12, "compose=ini any v600 a0", 3),
-    ("ini_number_32767", 12, "compose=ini le -32768 32767 a0", 0),
-    ("ini_number_32768", 12, "compose=ini le v0 32768 a0", 3),
+    ("ini_number_1000000000", 12, "compose=ini le -1000000000 1000000000 a0", 0),
+    ("ini_number_1000000001", 12, "compose=ini le v0 1000000001 a0", 3),
+    ("ini_number_minus_1000000001", 12, "compose=ini le -1000000001 v0 a0", 3),
     ("ini_number_leading_zero", 12, "compose=ini eq v0 01 a0", 3),
     ("ini_number_with_comma", 12, "compose=ini le 1,2 0 a0", 3),
     ("ini_variable_48", 12, "compose=ini eq v48 0 a0", 3),
@@ -197,10 +211,11 @@ const CHANGES: &[Change] = &[
     ("ini_new_0_in_guard", 12, "compose=ini le if eq n0 0 0 1 2 a0", 8),
     ("ini_new_0_second", 12, "compose=ini all 0 ini eq n0 0 a0", 8),
     ("ini_new_0_behind_tree", 12, "compose=a0 ini eq n0 0", 8),
-    ("ini_interval_max", 12, "compose=ini le mul mul 32767 32767 2 v0 a0", 0),
-    ("ini_interval_past_max", 12, "compose=ini le mul mul 32767 32767 add v0 2 v0 a0", 10),
-    ("ini_interval_guard", 12, "compose=ini eq v0 if le mul mul 32767 32767 -3 0 0 1 a0", 10),
-    ("ini_interval_no_leaf", 12, "compose=par ini le mul mul 32767 32767 3 0", 10),
+    ("ini_interval_top", 12, "compose=ini le mul mul 536870912 536870912 16 v0 a0", 0),
+    ("ini_interval_past_top", 12, "compose=ini le add mul mul 536870912 536870912 16 v0 v0 a0", 10),
+    ("ini_interval_past_bottom", 12, "compose=ini le v0 sub mul mul 536870912 -536870912 16 v0 a0", 10),
+    ("ini_interval_guard", 12, "compose=ini eq v0 if le mul mul 1000000000 1000000000 -5 0 0 1 a0", 10),
+    ("ini_interval_no_leaf", 12, "compose=par ini le mul mul 1000000000 1000000000 5 0", 10),
     // Row 13: a sound predicate, and no tree.
     ("ini_no_tree", 12, "compose=ini all 0", 13),
     ("ini_no_list", 12, "compose=syn ini all 0 a0", 13),
@@ -217,7 +232,7 @@ const CHANGES: &[Change] = &[
     ("ini_faults_5_and_6", 12, "compose=ini syn 1,1 a0", 5),
     ("ini_faults_6_and_7", 12, "compose=ini eq v1 0 ini eq v0", 6),
     ("ini_faults_7_and_8", 12, "compose=par ini eq n0 0 a0 ini eq v1 0 a1", 7),
-    ("ini_faults_8_and_10", 12, "compose=ini le mul mul 32767 32767 3 0 ini eq n0 0 a0", 8),
+    ("ini_faults_8_and_10", 12, "compose=ini le mul mul 1000000000 1000000000 5 0 ini eq n0 0 a0", 8),
     ("ini_faults_13_and_14", 12, "compose=ini all 0 a1 ini all 0", 13),
 ];
 
@@ -231,12 +246,13 @@ pub fn all() -> Vec<Case> {
     cases.extend(starts());
     cases.extend(starts_in_trees());
     cases.extend(lists::all());
+    cases.extend(spans::all());
     cases
 }
 
 /// Proposals made by hand, after the text that they are put to.
 pub fn judged() -> Vec<Judged> {
-    [JUDGED, lists::JUDGED].concat()
+    [JUDGED, lists::JUDGED, spans::JUDGED].concat()
 }
 
 fn case(name: &str, text: String, refusal: Option<(u32, u32)>) -> Case {
@@ -461,7 +477,7 @@ fn starts() -> Vec<Case> {
         case("ini_syn_tree_64", mixed(63), None),
         case("ini_syn_tree_65", mixed(64), Some((16, 12))),
         case("ini_faults_8_and_9", two(depth(25), "eq n0 0".to_string()), Some((8, 12))),
-        case("ini_faults_9_and_10", two("le mul mul 32767 32767 3 0".to_string(), depth(25)), Some((9, 12))),
+        case("ini_faults_9_and_10", two("le mul mul 1000000000 1000000000 5 0".to_string(), depth(25)), Some((9, 12))),
     ]
 }
 

@@ -2,7 +2,7 @@
 use crate::calls;
 use crate::compare::Comparison;
 use crate::generate::*;
-use crate::reference::model::{Model, TABLE_WORDS, TEXT_BYTES};
+use crate::reference::model::*;
 use crate::reference::{self, reader};
 use crate::runs;
 
@@ -78,7 +78,7 @@ pub fn fixed(comparison: &mut Comparison) {
     let model = reader::read(OVEN.as_bytes(), TABLE_WORDS).expect("the oven is accepted");
     each_word(comparison, &mut random, &model, &table, 0..60);
     each_word(comparison, &mut random, &model, &table, TABLE_WORDS - 2..TABLE_WORDS);
-    for length in [0, 1, 2, 100, 8_190, 8_191, 8_192, 8_193, 9_000] {
+    for length in [0, 1, 2, 100, 8_191, 8_192, 16_382, 16_383, 16_384, 16_385, 17_000] {
         let mut lent = table.clone();
         lent.resize(length, 5);
         on_any_table(comparison, &mut random, &model, &lent);
@@ -95,12 +95,15 @@ pub fn fixed(comparison: &mut Comparison) {
     lines_with_many_faults(comparison, &empty);
     starts_with_many_faults(comparison, &empty);
     lists_with_many_faults(comparison, &empty);
+    large_values(comparison, &empty);
+    longest_texts(comparison, &mut random, &empty);
 }
 
 /// Tables with one of these words changed.
 fn each_word(comparison: &mut Comparison, random: &mut Random, model: &Model, table: &[u32], places: std::ops::Range<usize>) {
     for at in places {
-        for word in [0, table[at].wrapping_add(1), table[at].wrapping_sub(1), random.draw() as u32] {
+        let near = [0, table[at].wrapping_add(1), table[at].wrapping_sub(1), random.draw() as u32];
+        for word in near.into_iter().chain(WORDS.iter().copied()) {
             let mut damaged = table.to_vec();
             damaged[at] = word;
             on_any_table(comparison, random, model, &damaged);
@@ -205,10 +208,10 @@ fn pairs_of_words(comparison: &mut Comparison, table: &[u32]) {
 
 /// Lines that break two rows or more: the smallest counts.
 fn lines_with_many_faults(comparison: &mut Comparison, table: &[u32]) {
-    let huge = "le mul mul 32767 32767 3 0";
+    let huge = "le sub -1 mul mul 536870912 536870912 16 0";
     let deep = format!("{}all 0", "not ".repeat(24));
     let large = format!("all 512 {}", "all 7 all 0 all 0 all 0 all 0 all 0 all 0 all 0 ".repeat(512)).trim_end().to_string();
-    let faults = ["foo", "eq v0", "eq 99999 0", "eq v1 0", "eq n0 0", "eq n1 0", huge, &deep, &large, "all 0"];
+    let faults = ["foo", "eq v0", "eq 1000000001 0", "eq v1 0", "eq n0 0", "eq n1 0", huge, &deep, &large, "all 0"];
     for first in faults {
         for second in faults {
             let both = format!("all 2 {first} {second}");
@@ -274,6 +277,74 @@ fn lists_with_many_faults(comparison: &mut Comparison, table: &[u32]) {
         comparison.read(&telling_sheet(2, "eq n0 1", &long), table);
         comparison.read(&telling_sheet(2, "eq n0 1", long.trim_end_matches(',')), table);
     }
+}
+
+/// A sheet with one edge by action 1; v0 is -10^9 to 10^9, v1 is 0 to 1.
+fn large_sheet(update: &str) -> Vec<u8> {
+    let head = "format=1\nactions=1\nvariables=2\nvariable=-1000000000,1000000000\nvariable=0,1\nautomata=1\nsync=";
+    format!("{head}\nlocations=1\ninit=all 0\ninv=all 0\nedges=1\nedge=0,1,0,{update}\ncompose=a0\n").into_bytes()
+}
+
+/// Large expressions, each two of them under each word that takes two: which of them row 10 refuses, and what the judge
+/// says to those that are compared.
+fn large_values(comparison: &mut Comparison, table: &[u32]) {
+    for first in LARGE {
+        for second in LARGE {
+            for word in ["add", "sub", "mul", "if le v0 n0"] {
+                comparison.read(&large_sheet(&format!("le {word} {first} {second} 0")), table);
+            }
+            for word in ["eq", "le"] {
+                let (_, table) = comparison.read(&large_sheet(&format!("{word} {first} {second}")), table);
+                large_steps(comparison, &table);
+            }
+        }
+    }
+}
+
+fn large_steps(comparison: &mut Comparison, table: &[u32]) {
+    for (k, value) in [1_000_000_000, -1_000_000_000, 65_536, 1, 0].into_iter().enumerate() {
+        let v1 = k as i32 % 2;
+        let from = State { phase: 1, locations: vec![0], values: vec![value, v1] };
+        for new in [value, -value] {
+            let proposed = Proposed { action: Some(1), locations: vec![0], values: vec![new, v1] };
+            comparison.judge(table, &from, &proposed);
+        }
+    }
+}
+
+/// Sheets whose texts are about as long as there are: with the longest numbers and lists, and as many as there can be.
+fn longest_texts(comparison: &mut Comparison, random: &mut Random, empty: &[u32]) {
+    for format in 1..=HIGHEST_FORMAT as u32 {
+        let model = long_sheet(format);
+        let text = text_of(&model);
+        let (answer, table) = comparison.read(&text, empty);
+        comparison.law("a text can be so long", answer == 0, || format!("format {format}, {} bytes", text.len()));
+        on_any_table(comparison, random, &model, &table);
+        for length in [text.len(), TEXT_BYTES, TEXT_BYTES + 1] {
+            let mut longer = text.clone();
+            longer.resize(length, b' ');
+            comparison.read(&longer, empty);
+        }
+    }
+}
+
+/// 48 variables, 13 automata, 512 edges, 4,096 nodes, and 64 in the tree.
+fn long_sheet(format: u32) -> Model {
+    let number = || Expression::Number(LEAST_NUMBER as i32);
+    let asked = || Predicate::Eq(number(), number());
+    let sync: ActionSet = (1..=HIGHEST_ACTION as u32).collect();
+    let automaton = |k: usize| Automaton {
+        sync: sync.clone(),
+        locations: (0..32).map(|_| Location { init: asked(), invariant: asked() }).collect(),
+        edges: (0..39 + (k < 5) as usize).map(|_| Edge { from: 31, action: 63, to: 31, update: asked() }).collect(),
+    };
+    let mut automata: Vec<Automaton> = (0..13).map(automaton).collect();
+    automata[0].locations[0].init = Predicate::All((0..22).map(|_| asked()).collect());
+    let beside = |tree, k| Composition::Par(Box::new(tree), Box::new(Composition::Leaf(k)));
+    let leaves = (1..13).fold(Composition::Leaf(0), beside);
+    let composition = (0..39).fold(leaves, |tree, _| Composition::Syn(sync.clone(), Box::new(tree)));
+    let least = (LEAST_NUMBER as i32, LEAST_NUMBER as i32);
+    Model { format, actions: HIGHEST_ACTION as u32, ranges: vec![least; VARIABLES as usize], automata, composition }
 }
 
 /// The sheet with the lists behind its edges, or without: its table has another first word, and all that comes of it is alike.

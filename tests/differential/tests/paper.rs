@@ -4,7 +4,7 @@ use differential::compare::Comparison;
 use differential::generate::{self, Random};
 use differential::reference::judge::{step_of, Proposal, REFUSED};
 use differential::reference::merge::{count_all, definition_4, distinct, moves, once, Takers};
-use differential::reference::model::{Model, Predicate, EDGES, TABLE_WORDS, TEXT_BYTES};
+use differential::reference::model::{Expression, Model, Predicate, EDGES, SPAN, TABLE_WORDS, TEXT_BYTES};
 use differential::reference::run::{List, ENVIRONMENT};
 use differential::reference::{self, table};
 use differential::rounds::{self, OVEN};
@@ -76,7 +76,7 @@ fn the_merged_init_has_the_start_conditions_behind_its_implications() {
 #[test]
 fn start_conditions_stand_behind_the_tree_in_the_table() {
     let table = table_of(&composed("ini eq v0 0 par a0 ini all 0 a1"));
-    let end = [5, 1, 0, 0, 0, 2, 1, 0, 0, 3, 2, 3, 4, 7, 524_294, 1, 0];
+    let end = [5, 1, 0, 0, 0, 2, 1, 0, 0, 3, 2, 3, 4, 7, 3_147_483_648, 1, 0];
     // The oven's composition begins at word 47.
     assert_eq!(table[47..47 + end.len()], end);
     assert!(table[47 + end.len()..].iter().all(|word| *word == 0));
@@ -233,9 +233,54 @@ fn only_a_yes_moves_a_run() {
 #[test]
 fn the_table_has_the_stated_words() {
     let table = table_of(OVEN);
-    let start = [1, 2, 1, 32_768, 32_769, 2, 2, 0, 2, 1, 0, 1, 0, 1, 1, 3, 4, 7, 524_294, 1, 0, 1, 1, 1, 0, 2, 0, 1];
-    assert_eq!(table[..start.len()], start);
-    assert_eq!(table.iter().rposition(|word| *word != 0), Some(TABLE_WORDS - 8_141 - 1));
+    assert_eq!(table[..6], [1, 2, 1, 1_000_000_000, 1_000_000_001, 2]);
+    assert_eq!(table[6..28], [2, 0, 2, 1, 0, 1, 0, 1, 1, 3, 4, 7, 3_147_483_648, 1, 0, 1, 1, 1, 0, 2, 0, 1]);
+    assert_eq!((table.len(), table.iter().rposition(|word| *word != 0)), (16_384, Some(16_384 - 16_333 - 1)));
+}
+
+#[test]
+fn bounds_and_numbers_have_their_words() {
+    let text = OVEN.replace("variable=0,1", "variable=-1000000000,1000000000");
+    let table = table_of(&text.replace("inv=eq v0 0", "inv=le -1000000000 1000000000"));
+    assert_eq!(table[3..5], [0, 2_000_000_000]);
+    assert_eq!(table[15..19], [3, 5, 2_147_483_648, 4_147_483_648]);
+    let refused = |at: usize, word: u32| {
+        let mut damaged = table.clone();
+        damaged[at] = word;
+        reference::open(&damaged) == Err(19)
+    };
+    assert!(refused(4, 2_000_000_001) && refused(3, 2_000_000_001) && refused(3, u32::MAX));
+    assert!(refused(17, 2_147_483_647) && refused(18, 4_147_483_649) && refused(18, u32::MAX));
+    // Of kind 6, which numbers had before, and where a number is no predicate.
+    assert!(refused(18, 6) && refused(18, 524_294) && refused(18, 2_147_483_638) && refused(16, 2_147_483_648));
+    assert!(!refused(17, 3_147_483_648) && !refused(4, 0));
+    assert_eq!(reference::open(&table[1..]), Err(18));
+}
+
+/// Each end is inside, and so is all between; one more is outside.
+#[test]
+fn the_span_has_both_its_ends() {
+    use Expression::*;
+    let two = |word: fn(Box<Expression>, Box<Expression>) -> Expression, x: &Expression, y: &Expression| {
+        word(Box::new(x.clone()), Box::new(y.clone()))
+    };
+    let numbers = [-1, 1, 1 << 29, 16].map(Number);
+    let [minus, one, large, sixteen] = &numbers;
+    let top = two(Mul, &two(Mul, large, large), sixteen);
+    let bottom = two(Mul, minus, &top);
+    assert_eq!(top.interval(&[]), Some((SPAN, SPAN)));
+    assert_eq!(bottom.interval(&[]), Some((-SPAN, -SPAN)));
+    assert_eq!(two(Sub, &top, &top).interval(&[]), Some((0, 0)));
+    let past = [two(Add, &top, one), two(Sub, &bottom, one), two(Add, &top, &top), two(Sub, &bottom, &top)];
+    for past in past.into_iter().chain([two(Mul, &top, &top), two(Mul, &top, &bottom)]) {
+        assert_eq!(past.interval(&[]), None, "{past:?}");
+        assert_eq!(two(Mul, &Number(0), &past).interval(&[]), None, "{past:?}");
+    }
+    // The paper's example, and a range that is just narrow enough.
+    let cube = two(Mul, &two(Mul, &Old(0), &Old(0)), &Old(0));
+    assert_eq!(cube.interval(&[(0, 2_000_000)]), None);
+    assert_eq!(cube.interval(&[(0, 1_664_510)]), Some((0, 4_611_680_653_431_851_000)));
+    assert_eq!(cube.interval(&[(0, 1_664_511)]), None);
 }
 
 #[test]
@@ -246,15 +291,16 @@ fn a_middle_row_beats_a_later_one() {
         let answer = Reference.read((lines.join("\n") + "\n").as_bytes(), &mut vec![0; TABLE_WORDS]);
         (calls::row(answer), calls::line(answer))
     };
-    assert_eq!(refusal(4, "variable=40000,9"), (3, 4));
-    assert_eq!(refusal(8, "init=foo 99999"), (3, 8));
+    assert_eq!(refusal(4, "variable=1000000001,9"), (3, 4));
+    assert_eq!(refusal(8, "init=foo 1000000001"), (3, 8));
     assert_eq!(refusal(8, "init=eq v9"), (6, 8));
     assert_eq!(refusal(8, "init=eq n9 0"), (7, 8));
     assert_eq!(refusal(13, "edge=0,3,0,eq v0"), (6, 13));
     assert_eq!(refusal(21, "compose=par a1 syn 2,1 a0"), (5, 21));
     let deep = "not ".repeat(24) + "all 0";
     let large = format!("all 9{}", format!(" all 500{}", " all 0".repeat(500)).repeat(9));
-    let faults = ["eq v0 99999", "syn 2,1", "eq v0", "eq v1 0", "eq n0 0", &deep, "le mul mul 32767 32767 3 0", &large];
+    let huge = "le mul mul 1000000000 1000000000 5 0";
+    let faults = ["eq v0 1000000001", "syn 2,1", "eq v0", "eq v1 0", "eq n0 0", &deep, huge, &large];
     let rows = [3, 5, 6, 7, 8, 9, 10, 11];
     for (i, first) in faults.iter().enumerate() {
         for (j, second) in faults.iter().enumerate() {
@@ -268,8 +314,11 @@ fn a_middle_row_beats_a_later_one() {
     assert_eq!(refusal(21, "compose=par a1 ini all 0 a0"), (14, 21));
 }
 
+/// Whether a predicate is true of old and new values.
+type Holds = fn(&Predicate, &[i32], &[i32]) -> bool;
+
 /// Whether these takers allow the step: each takes its edge, all others are still, and who changes a variable mentions it.
-fn allows(model: &Model, proposal: &Proposal, takers: &Takers) -> bool {
+fn allows(model: &Model, proposal: &Proposal, takers: &Takers, holds: Holds) -> bool {
     let (old, new) = (proposal.values, proposal.new_values);
     let mentioned = takers.iter().fold(0, |all, (_, edge)| all | edge.update.mentions_new());
     let framed = (0..old.len()).all(|k| old[k] == new[k] || mentioned >> k & 1 == 1);
@@ -277,20 +326,23 @@ fn allows(model: &Model, proposal: &Proposal, takers: &Takers) -> bool {
         let locations = &model.automata[i].locations;
         let (from, to) = (proposal.locations[i] as usize, proposal.new_locations[i] as usize);
         let moves = match takers.iter().find(|(k, _)| *k == i) {
-            Some((_, edge)) => edge.from == from && edge.to == to && edge.update.holds(old, new),
+            Some((_, edge)) => edge.from == from && edge.to == to && holds(&edge.update, old, new),
             None => from == to,
         };
-        let started = proposal.phase == 1 || locations[from].init.holds(old, old);
-        moves && started && locations[from].invariant.holds(old, old) && locations[to].invariant.holds(new, new)
+        let started = proposal.phase == 1 || holds(&locations[from].init, old, old);
+        moves && started && holds(&locations[from].invariant, old, old) && holds(&locations[to].invariant, new, new)
     };
-    let started = proposal.phase == 1 || model.composition.starts().iter().all(|p| p.holds(old, old));
+    let started = proposal.phase == 1 || model.composition.starts().iter().all(|p| holds(p, old, old));
     framed && started && (0..model.automata.len()).all(automaton_allows)
 }
 
-/// The search of the reference's judge against a trial of every merged edge.
-#[test]
-fn the_search_finds_what_there_is() {
-    let mut tried = 0;
+/// Whether some takers do.
+fn some_allow(model: &Model, proposal: &Proposal, action: u32, holds: Holds) -> bool {
+    moves(model, &model.composition, action).iter().any(|takers| allows(model, proposal, takers, holds))
+}
+
+/// Drawn steps on drawn sheets, those without too many merged edges.
+fn each_step(mut visit: impl FnMut(&Model, &Proposal, u32)) {
     for seed in 0..400 {
         let random = &mut Random::new(seed);
         let model = generate::sheet(random);
@@ -301,14 +353,67 @@ fn the_search_finds_what_there_is() {
             let state = generate::state(random, &model);
             let proposed = generate::proposal(random, &model, &state);
             let Some(action) = proposed.action else { continue };
-            let proposal = proposed.from(&state);
-            let answer = step_of(&model, &proposal, action);
-            let expected = moves(&model, &model.composition, action).iter().any(|takers| allows(&model, &proposal, takers));
-            assert!(answer < REFUSED && (answer > 0) == expected, "seed {seed}: {state:?} {proposed:?}");
-            tried += 1;
+            visit(&model, &proposed.from(&state), action);
         }
     }
+}
+
+/// The search of the reference's judge against a trial of every merged edge.
+#[test]
+fn the_search_finds_what_there_is() {
+    let mut tried = 0;
+    each_step(|model, proposal, action| {
+        let answer = step_of(model, proposal, action);
+        let expected = some_allow(model, proposal, action, Predicate::holds);
+        assert!(answer < REFUSED && (answer > 0) == expected, "{model:?} {proposal:?} {action}");
+        tried += 1;
+    });
     assert!(tried > 2_000, "{tried}");
+}
+
+/// The truth of a predicate where each part of an expression is made narrower.
+fn narrow(p: &Predicate, old: &[i32], new: &[i32], cut: fn(i128) -> i128) -> bool {
+    use Predicate::*;
+    let holds = |p: &Predicate| narrow(p, old, new, cut);
+    let value = |x: &Expression| narrow_value(x, old, new, cut);
+    match p {
+        All(operands) => operands.iter().all(holds),
+        Any(operands) => operands.iter().any(holds),
+        Not(p) => !holds(p),
+        Imp(p, q) => !holds(p) || holds(q),
+        Eq(x, y) => value(x) == value(y),
+        Le(x, y) => value(x) <= value(y),
+    }
+}
+
+fn narrow_value(x: &Expression, old: &[i32], new: &[i32], cut: fn(i128) -> i128) -> i128 {
+    use Expression::*;
+    let value = |x: &Expression| narrow_value(x, old, new, cut);
+    match x {
+        Add(x, y) => cut(value(x) + value(y)),
+        Sub(x, y) => cut(value(x) - value(y)),
+        Mul(x, y) => cut(value(x) * value(y)),
+        If(p, x, y) => value(if narrow(p, old, new, cut) { x } else { y }),
+        leaf => leaf.value(old, new),
+    }
+}
+
+/// Values that wrap at 32 bits, stop at their ends, or are rounded: drawn steps tell each of them from the right ones.
+#[test]
+fn drawn_steps_need_wide_values() {
+    let narrower: [Holds; 3] = [
+        |p, old, new| narrow(p, old, new, |n| n as i32 as i128),
+        |p, old, new| narrow(p, old, new, |n| n.clamp(i32::MIN as i128, i32::MAX as i128)),
+        |p, old, new| narrow(p, old, new, |n| n as f64 as i128),
+    ];
+    let mut told = [0; 3];
+    each_step(|model, proposal, action| {
+        let right = some_allow(model, proposal, action, Predicate::holds);
+        for (told, holds) in told.iter_mut().zip(narrower) {
+            *told += (some_allow(model, proposal, action, holds) != right) as usize;
+        }
+    });
+    assert!(told.iter().all(|told| *told > 10), "{told:?}");
 }
 
 /// To drop an automaton's equal edges before merging is to drop the equal merged edges from the list of all.

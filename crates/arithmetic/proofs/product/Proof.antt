@@ -1,28 +1,33 @@
--- `arithmetic::product` meets its contract: what two i32 give fits an i64, and the machine reads each back as the same number.
-use borrow.Author.Needs.{needs}
-use mathlib.Core.Path.{ap, _∙_}
-use mir.Syntax.{w32}
+-- `arithmetic::product` meets its contract: by signs and magnitudes.
+use mir.Syntax.{w64}
 use mir.ValLaws.{toZ-ofZ}
-use Rattle.arithmetic.specs.Cut.{cut}
-use Rattle.arithmetic.proofs.Signed.{widens, wide-mul, read-mul}
+use borrow.Author.Needs.{needs}
+use Rattle.arithmetic.proofs.CutLaws.{product-by}
 use Rattle.arithmetic.proofs.product.Statement.{statement}
 use Rattle.arithmetic.proofs.product.Tie as tie
 
-cast-cut-to : tie.Need-cast-cut-to
-cast-cut-to c = search (needs, widens)
+magnitude-requires : tie.Need-magnitude-requires
+magnitude-requires c κs = search needs
 
-cast-cut-to-2 : tie.Need-cast-cut-to-2
-cast-cut-to-2 c = search (needs, widens)
+magnitude-requires-2 : tie.Need-magnitude-requires-2
+magnitude-requires-2 c κs = search needs
 
-mul-cut-to : tie.Need-mul-cut-to
-mul-cut-to c = search (needs, wide-mul)
+extent-requires : tie.Need-extent-requires
+extent-requires c κs = search needs
 
-cut-to-requires : tie.Need-cut-to-requires
-cut-to-requires c κs = search needs
+signed-requires : tie.Need-signed-requires
+signed-requires c κs = search needs
 
 returns : tie.Need-returns
 returns c =
-    toZ-ofZ w32 _ (record { sfits = c .cut-to .ok }) ∙ (c .cut-to .ensures ∙ ap cut (read-mul (c .before .fits .a) (c .before .fits .b)))
+    let e = c .before in
+    let n = e .before in
+    let m = n .before in
+    let f = m .before .fits in
+    rw (toZ-ofZ w64 _ (record { sfits = c .signed .ok }), c .signed .ensures, toZ-ofZ w64 _ (f .a), toZ-ofZ w64 _ (f .b))
+    (product-by (m .before .args .a) (m .before .args .b) (e .extent .result) (rw (e .extent .ensures, n .magnitude2 .ensures, m .magnitude .ensures, toZ-ofZ w64 _ (f .a), toZ-ofZ w64 _ (f .b))))
 
 pub product-spec : {M : Type 1} → statement M
-product-spec = tie.close (tie.spec cast-cut-to cast-cut-to-2 mul-cut-to cut-to-requires returns)
+product-spec =
+    tie.close
+    (tie.spec magnitude-requires magnitude-requires-2 extent-requires signed-requires returns)

@@ -1,28 +1,31 @@
--- `arithmetic::sum` meets its contract: what two i32 give fits an i64, and the machine reads each back as the same number.
-use borrow.Author.Needs.{needs}
-use mathlib.Core.Path.{ap, _∙_}
-use mir.Syntax.{w32}
-use mir.ValLaws.{toZ-ofZ}
-use Rattle.arithmetic.specs.Cut.{cut}
-use Rattle.arithmetic.proofs.Signed.{widens, wide-add, read-add}
+-- `arithmetic::sum` meets its contract: it stops at the end that it passes.
+use Rattle.arithmetic.proofs.CutLaws.{sum-below, sum-above, edge-read, stops-read, result-read, goes-on-read}
 use Rattle.arithmetic.proofs.sum.Statement.{statement}
 use Rattle.arithmetic.proofs.sum.Tie as tie
 
-cast-cut-to : tie.Need-cast-cut-to
-cast-cut-to c = search (needs, widens)
+sub-if2 : tie.Need-sub-if2
+sub-if2 c = let f = c .before .fits in edge-read sum-below (f .a) (f .b) (c .if1 .taken)
 
-cast-cut-to-2 : tie.Need-cast-cut-to-2
-cast-cut-to-2 c = search (needs, widens)
+add-result : tie.Need-add-result
+add-result c = let f = c .before .before .fits in result-read sum-below (f .a) (f .b) (c .before .if1 .taken) (c .if2 .left)
 
-add-cut-to : tie.Need-add-cut-to
-add-cut-to c = search (needs, wide-add)
+sub-if3 : tie.Need-sub-if3
+sub-if3 c = let f = c .before .fits in edge-read sum-above (f .a) (f .b) (c .if1 .left)
 
-cut-to-requires : tie.Need-cut-to-requires
-cut-to-requires c κs = search needs
+add-result-2 : tie.Need-add-result-2
+add-result-2 c = let f = c .before .before .fits in result-read sum-above (f .a) (f .b) (c .before .if1 .left) (c .if3 .left)
 
 returns : tie.Need-returns
-returns c =
-    toZ-ofZ w32 _ (record { sfits = c .cut-to .ok }) ∙ (c .cut-to .ensures ∙ ap cut (read-add (c .before .fits .a) (c .before .fits .b)))
+returns c = let f = c .before .before .fits in stops-read sum-below (f .a) (f .b) (c .before .if1 .taken) (c .if2 .taken)
+
+returns-2 : tie.Need-returns-2
+returns-2 c = let f = c .before .before .fits in goes-on-read sum-below (f .a) (f .b) (c .before .if1 .taken) (c .if2 .left)
+
+returns-3 : tie.Need-returns-3
+returns-3 c = let f = c .before .before .fits in stops-read sum-above (f .a) (f .b) (c .before .if1 .left) (c .if3 .taken)
+
+returns-4 : tie.Need-returns-4
+returns-4 c = let f = c .before .before .fits in goes-on-read sum-above (f .a) (f .b) (c .before .if1 .left) (c .if3 .left)
 
 pub sum-spec : {M : Type 1} → statement M
-sum-spec = tie.close (tie.spec cast-cut-to cast-cut-to-2 add-cut-to cut-to-requires returns)
+sum-spec = tie.close (tie.spec sub-if2 add-result sub-if3 add-result-2 returns returns-2 returns-3 returns-4)

@@ -8,6 +8,9 @@ use Rattle.arithmetic.proofs.unbias.Tie as tie
 cast-result : tie.Need-cast-result
 cast-result c = search needs
 
+cast-result-2 : tie.Need-cast-result-2
+cast-result-2 c = search needs
+
 sub-result : tie.Need-sub-result
 sub-result c = argument-fits (c .fits .word) (omega arith)
 
@@ -15,4 +18,4 @@ returns : tie.Need-returns
 returns c = read-argument (c .fits .word)
 
 pub unbias-spec : {M : Type 1} → statement M
-unbias-spec = tie.close (tie.spec cast-result sub-result returns)
+unbias-spec = tie.close (tie.spec cast-result cast-result-2 sub-result returns)

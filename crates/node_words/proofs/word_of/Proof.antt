@@ -31,20 +31,20 @@ enum-told-4 c = search needs
 enum-known-node-3 : tie.Need-enum-known-node-3
 enum-known-node-3 c = search needs
 
-packed-requires-3 : tie.Need-packed-requires-3
-packed-requires-3 c κs = search needs
+numbered-requires : tie.Need-numbered-requires
+numbered-requires c κs = search needs
 
 enum-known-node-4 : tie.Need-enum-known-node-4
 enum-known-node-4 c = search needs
 
-packed-requires-4 : tie.Need-packed-requires-4
-packed-requires-4 c κs = search needs
+packed-requires-3 : tie.Need-packed-requires-3
+packed-requires-3 c κs = search needs
 
 enum-known-node-5 : tie.Need-enum-known-node-5
 enum-known-node-5 c = search needs
 
-packed-requires-5 : tie.Need-packed-requires-5
-packed-requires-5 c κs = search needs
+packed-requires-4 : tie.Need-packed-requires-4
+packed-requires-4 c κs = search needs
 
 enum-told-5 : tie.Need-enum-told-5
 enum-told-5 c = search needs
@@ -116,11 +116,11 @@ word-of-spec =
     enum-told-3
     enum-told-4
     enum-known-node-3
-    packed-requires-3
+    numbered-requires
     enum-known-node-4
-    packed-requires-4
+    packed-requires-3
     enum-known-node-5
-    packed-requires-5
+    packed-requires-4
     enum-told-5
     enum-told-6
     enum-told-7

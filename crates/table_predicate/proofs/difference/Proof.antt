@@ -1,17 +1,19 @@
 -- `table_predicate::difference` meets its contract.
-use mir.Syntax.{w32, w64}
+use lib.IntN.{_-ℤ_}
+use mir.Syntax.{w64}
 use mir.ValLaws.{toZ-ofZ}
 use Rattle.table_predicate.specs.Walk.{minus}
 use Rattle.model.specs.Predicate.{range}
+use Rattle.table_predicate.proofs.ReachLaws.{reached-cut}
 use borrow.Author.Needs.{needs}
 use Rattle.table_predicate.proofs.difference.Statement.{statement}
 use Rattle.table_predicate.proofs.difference.Tie as tie
 
-wide-difference-requires : tie.Need-wide-difference-requires
-wide-difference-requires c κs = search needs
+difference-requires : tie.Need-difference-requires
+difference-requires c κs = search needs
 
-wide-difference-requires-2 : tie.Need-wide-difference-requires-2
-wide-difference-requires-2 c κs = search needs
+difference-requires-2 : tie.Need-difference-requires-2
+difference-requires-2 c κs = search needs
 
 reached-requires : tie.Need-reached-requires
 reached-requires c κs = search needs
@@ -24,14 +26,14 @@ returns c =
     let s = a .before .before .before in
     let tx = a .before .before .struct-told .given .1 in
     let ty = a .before .struct-told2 .given .1 in
-    let xl = toZ-ofZ w32 (s .args .x .low) (record { sfits = tx .0 .1 }) in
-    let xh = toZ-ofZ w32 (s .args .x .high) (record { sfits = tx .1 .0 .1 }) in
-    let yl = toZ-ofZ w32 (s .args .y .low) (record { sfits = ty .0 .1 }) in
-    let yh = toZ-ofZ w32 (s .args .y .high) (record { sfits = ty .1 .0 .1 }) in
-    rw (c .reached .ensures, toZ-ofZ w64 (a .wide-difference .result) (record { sfits = a .wide-difference .ok }), toZ-ofZ w64 (b .wide-difference2 .result) (record { sfits = b .wide-difference2 .ok }), a .wide-difference .ensures, b .wide-difference2 .ensures)
-    (simp (xl, xh, yl, yh))
+    let xl = toZ-ofZ w64 (s .args .x .low) (record { sfits = tx .0 .1 }) in
+    let xh = toZ-ofZ w64 (s .args .x .high) (record { sfits = tx .1 .0 .1 }) in
+    let yl = toZ-ofZ w64 (s .args .y .low) (record { sfits = ty .0 .1 }) in
+    let yh = toZ-ofZ w64 (s .args .y .high) (record { sfits = ty .1 .0 .1 }) in
+    rw (c .reached .ensures, toZ-ofZ w64 (a .difference .result) (record { sfits = a .difference .ok }), toZ-ofZ w64 (b .difference2 .result) (record { sfits = b .difference2 .ok }), a .difference .ensures, b .difference2 .ensures)
+    (simp (xl, xh, yl, yh) (reached-cut _ (s .args .x .low -ℤ s .args .y .high) (s .args .x .high -ℤ s .args .y .low)))
 
 pub difference-spec : {M : Type 1} → statement M
 difference-spec =
     tie.close
-    (tie.spec wide-difference-requires wide-difference-requires-2 reached-requires returns)
+    (tie.spec difference-requires difference-requires-2 reached-requires returns)

@@ -1,22 +1,24 @@
 -- `table_predicate::product` meets its contract.
-use mir.Syntax.{w32, w64}
+use mir.Syntax.{w64}
 use mir.ValLaws.{toZ-ofZ}
 use Rattle.model.specs.Predicate.{range, hull, times}
+use Rattle.table_predicate.specs.Walk.{ends}
+use Rattle.table_predicate.proofs.ReachLaws.{reached-times}
 use borrow.Author.Needs.{needs}
 use Rattle.table_predicate.proofs.product.Statement.{statement}
 use Rattle.table_predicate.proofs.product.Tie as tie
 
-wide-product-requires : tie.Need-wide-product-requires
-wide-product-requires c κs = search needs
+product-requires : tie.Need-product-requires
+product-requires c κs = search needs
 
-wide-product-requires-2 : tie.Need-wide-product-requires-2
-wide-product-requires-2 c κs = search needs
+product-requires-2 : tie.Need-product-requires-2
+product-requires-2 c κs = search needs
 
-wide-product-requires-3 : tie.Need-wide-product-requires-3
-wide-product-requires-3 c κs = search needs
+product-requires-3 : tie.Need-product-requires-3
+product-requires-3 c κs = search needs
 
-wide-product-requires-4 : tie.Need-wide-product-requires-4
-wide-product-requires-4 c κs = search needs
+product-requires-4 : tie.Need-product-requires-4
+product-requires-4 c κs = search needs
 
 lesser-requires : tie.Need-lesser-requires
 lesser-requires c κs = search needs
@@ -55,10 +57,10 @@ returns c =
     let s = p1 .before .before .before in
     let tx = p1 .before .before .struct-told .given .1 in
     let ty = p1 .before .struct-told2 .given .1 in
-    let xl = toZ-ofZ w32 (s .args .x .low) (record { sfits = tx .0 .1 }) in
-    let xh = toZ-ofZ w32 (s .args .x .high) (record { sfits = tx .1 .0 .1 }) in
-    let yl = toZ-ofZ w32 (s .args .y .low) (record { sfits = ty .0 .1 }) in
-    let yh = toZ-ofZ w32 (s .args .y .high) (record { sfits = ty .1 .0 .1 }) in
+    let xl = toZ-ofZ w64 (s .args .x .low) (record { sfits = tx .0 .1 }) in
+    let xh = toZ-ofZ w64 (s .args .x .high) (record { sfits = tx .1 .0 .1 }) in
+    let yl = toZ-ofZ w64 (s .args .y .low) (record { sfits = ty .0 .1 }) in
+    let yh = toZ-ofZ w64 (s .args .y .high) (record { sfits = ty .1 .0 .1 }) in
     rw (
       c .reached .ensures,
       toZ-ofZ w64 (l .lesser3 .result) (record { sfits = l .lesser3 .ok }),
@@ -73,25 +75,25 @@ returns c =
       l2 .lesser2 .ensures,
       g1 .greater .ensures,
       g2 .greater2 .ensures,
-      toZ-ofZ w64 (p1 .wide-product .result) (record { sfits = p1 .wide-product .ok }),
-      toZ-ofZ w64 (p2 .wide-product2 .result) (record { sfits = p2 .wide-product2 .ok }),
-      toZ-ofZ w64 (p3 .wide-product3 .result) (record { sfits = p3 .wide-product3 .ok }),
-      toZ-ofZ w64 (p4 .wide-product4 .result) (record { sfits = p4 .wide-product4 .ok }),
-      p1 .wide-product .ensures,
-      p2 .wide-product2 .ensures,
-      p3 .wide-product3 .ensures,
-      p4 .wide-product4 .ensures,
+      toZ-ofZ w64 (p1 .product .result) (record { sfits = p1 .product .ok }),
+      toZ-ofZ w64 (p2 .product2 .result) (record { sfits = p2 .product2 .ok }),
+      toZ-ofZ w64 (p3 .product3 .result) (record { sfits = p3 .product3 .ok }),
+      toZ-ofZ w64 (p4 .product4 .result) (record { sfits = p4 .product4 .ok }),
+      p1 .product .ensures,
+      p2 .product2 .ensures,
+      p3 .product3 .ensures,
+      p4 .product4 .ensures,
     )
-    (simp (xl, xh, yl, yh))
+    (simp (xl, xh, yl, yh) (reached-times _ (ends (s .args .x)) (ends (s .args .y))))
 
 pub product-spec : {M : Type 1} → statement M
 product-spec =
     tie.close
     (tie.spec
-    wide-product-requires
-    wide-product-requires-2
-    wide-product-requires-3
-    wide-product-requires-4
+    product-requires
+    product-requires-2
+    product-requires-3
+    product-requires-4
     lesser-requires
     lesser-requires-2
     lesser-requires-3

@@ -1,5 +1,6 @@
-//! `vectors FOLDER`: each `NAME.in` as the program would read it, against `NAME.out`; then the proposals of judge.txt.
-use differential::calls::{Library, Sheets};
+//! `vectors [--reference] FOLDER`: each `NAME.in` as the program would read it, against `NAME.out`; then the proposals
+//! of judge.txt. They are put to the library, or to the reference.
+use differential::calls::{Library, Reference, Sheets};
 use differential::reference::model::TABLE_WORDS;
 use differential::vectors::{answer_of, fail, files_in, judged, program};
 use differential::watch::Watch;
@@ -36,19 +37,29 @@ fn shown(bytes: &[u8]) -> String {
 }
 
 fn main() {
-    let folder = std::env::args().nth(1).unwrap_or_else(|| "vectors".to_string());
-    println!("vectors of {folder} through the library");
-    let folder = Path::new(&folder);
+    let arguments: Vec<String> = std::env::args().skip(1).collect();
+    let words: Vec<&str> = arguments.iter().map(String::as_str).collect();
+    let (sheets, tried, folder): (&dyn Sheets, &str, &str) = match words[..] {
+        ["--reference", folder] => (&Reference, "reference", folder),
+        [folder] => (&Library, "library", folder),
+        _ => panic!("usage: vectors [--reference] FOLDER"),
+    };
+    println!("vectors of {folder} through the {tried}");
+    let tally = put_to(sheets, Path::new(folder));
+    println!("{} passed, {} failed", tally.passed, tally.failed);
+    std::process::exit((tally.failed > 0) as i32);
+}
+
+fn put_to(sheets: &dyn Sheets, folder: &Path) -> Tally {
     let (mut tally, watch) = (Tally::default(), Watch::ending());
     for name in names(folder) {
         let text = fs::read(folder.join(format!("{name}.in"))).expect("a text can be read");
         let expected = fs::read(folder.join(format!("{name}.out"))).expect("an answer can be read");
-        let got = watch.during(name.clone(), || program(&Library, &text));
+        let got = watch.during(name.clone(), || program(sheets, &text));
         tally.note(&name, &expected, &got);
     }
-    judge_file(&Library, folder, &mut tally, &watch);
-    println!("{} passed, {} failed", tally.passed, tally.failed);
-    std::process::exit((tally.failed > 0) as i32);
+    judge_file(sheets, folder, &mut tally, &watch);
+    tally
 }
 
 /// The names of the texts. There are some, and each has its answer and no other has.

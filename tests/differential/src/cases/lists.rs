@@ -77,7 +77,7 @@ const EDGES_FIRST: &[Writing] = &[
     ("edge_first_3", "eq n48 0", "48", 3),
     ("edge_first_6", "eq n0", "0,0", 6),
     ("edge_first_7", "eq n4 0", "4", 7),
-    ("edge_first_10", "le mul mul 32767 32767 n3 0", "3,2,99", 10),
+    ("edge_first_10", "le mul mul 1000000000 1000000000 add n3 2 0", "3,2,99", 10),
 ];
 
 /// Lines in the place of the second list, where row 2 refuses each of them.

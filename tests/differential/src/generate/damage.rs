@@ -1,6 +1,6 @@
 //! Damaged texts and tables.
 use super::Random;
-use crate::reference::model::TABLE_WORDS;
+use crate::reference::model::{GREATEST_NUMBER, TABLE_WORDS};
 
 /// Words, numbers and what is neither, for predicates and compositions.
 pub const TOKENS: &[&str] = &[
@@ -43,11 +43,13 @@ pub const TOKENS: &[&str] = &[
     "64",
     "512",
     "513",
-    "32767",
-    "32768",
-    "-32768",
-    "-32769",
-    "99999999999999999999",
+    "1000000000",
+    "1000000001",
+    "-1000000000",
+    "-1000000001",
+    // 1 more than 2^32 and than 2^64.
+    "4294967297",
+    "18446744073709551617",
     "x",
     "",
     "-",
@@ -62,9 +64,23 @@ pub const TOKENS: &[&str] = &[
     "+1",
     "1x",
 ];
-const NUMBERS: &[i64] = &[
-    0, 1, 2, 3, 15, 16, 17, 31, 32, 33, 47, 48, 49, 63, 64, 65, 511, 512, 513, 4_096, 32_767, 32_768, -1, -32_768, -32_769, 65_536,
-    99_999_999,
+const MOST: i64 = GREATEST_NUMBER;
+const PAST: i64 = GREATEST_NUMBER + 1;
+const NUMBERS: &[i64] =
+    &[0, 1, 2, 3, 15, 16, 17, 31, 32, 33, 47, 48, 49, 63, 64, 65, 511, 512, 513, 4_096, -1, MOST, PAST, -MOST, -PAST];
+/// Words at the limits of what a bound and a number have; and of kind 6, which no node has.
+pub const WORDS: &[u32] = &[
+    6,
+    524_294,
+    1_000_000_000,
+    2_000_000_000,
+    2_000_000_001,
+    2_147_483_647,
+    2_147_483_648,
+    3_147_483_648,
+    4_147_483_648,
+    4_147_483_649,
+    u32::MAX,
 ];
 /// What can stand behind `ini`: good, ill-formed, with a fault, or nothing.
 pub const STARTS: &[&str] = &[
@@ -92,9 +108,28 @@ pub const STARTS: &[&str] = &[
     "eq n0 0",
     "eq n47 0",
     "eq 0 if eq n0 0 1 2",
-    "le mul mul 32767 32767 2 0",
-    "le mul mul 32767 32767 3 0",
-    "le if le mul mul 32767 32767 3 0 0 1 0",
+    "le mul mul 536870912 536870912 16 0",
+    "le sub -1 mul mul 536870912 536870912 16 0",
+    "le if le mul mul 1000000000 1000000000 5 0 0 1 0",
+];
+/// Expressions with large values, or with values that a product makes large, for a sheet with two variables.
+pub const LARGE: &[&str] = &[
+    "0",
+    "1",
+    "-1",
+    "1000000000",
+    "-1000000000",
+    "v0",
+    "v1",
+    "n0",
+    "mul v0 n0",
+    "mul 65536 65536",
+    "mul 65536 v0",
+    "mul mul v0 v0 4",
+    "mul mul 536870912 536870912 8",
+    "mul mul 536870912 536870912 16",
+    "mul mul 536870912 -536870912 16",
+    "mul v1 mul mul 536870912 536870912 16",
 ];
 /// What can stand behind `writes=`, or between two commas of it.
 pub const LISTS: &[&str] = &[
@@ -380,7 +415,7 @@ pub fn damaged_table(random: &mut Random, table: &[u32]) -> Vec<u32> {
             3..=27 => used - 1 - random.below(used.min(16)),
             _ => random.below(used),
         };
-        match random.below(12) {
+        match random.below(13) {
             0 | 1 => damaged[at] = 0,
             2 | 3 => damaged[at] = damaged[at].wrapping_add(1),
             4 | 5 => damaged[at] = damaged[at].wrapping_sub(1),
@@ -388,7 +423,8 @@ pub fn damaged_table(random: &mut Random, table: &[u32]) -> Vec<u32> {
             7 => damaged[at] ^= 1 << random.below(32),
             8 => damaged[at] = damaged[random.below(used)],
             9 => damaged[at] = random.below(700) as u32,
-            10 => {
+            10 => damaged[at] = random.pick(WORDS),
+            11 => {
                 damaged.remove(at);
                 damaged.push(0);
             }
@@ -406,7 +442,7 @@ pub fn damaged_table(random: &mut Random, table: &[u32]) -> Vec<u32> {
 /// A length for a lent table, mostly enough.
 pub fn table_length(random: &mut Random) -> usize {
     match random.below(12) {
-        0 => random.pick(&[0, 1, 2, 100, 8_190, 8_191]),
+        0 => random.pick(&[0, 1, 2, 100, 8_192, 16_382, 16_383]),
         1 => random.below(TABLE_WORDS),
         2 => TABLE_WORDS + 1,
         3 => TABLE_WORDS + random.below(300),

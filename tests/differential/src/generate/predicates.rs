@@ -12,11 +12,23 @@ pub(super) fn always() -> Predicate {
     Predicate::All(Vec::new())
 }
 
+pub(super) fn add(x: Expression, y: Expression) -> Expression {
+    Expression::Add(Box::new(x), Box::new(y))
+}
+
+pub(super) fn sub(x: Expression, y: Expression) -> Expression {
+    Expression::Sub(Box::new(x), Box::new(y))
+}
+
+pub(super) fn mul(x: Expression, y: Expression) -> Expression {
+    Expression::Mul(Box::new(x), Box::new(y))
+}
+
 /// A predicate of at most this depth; row 10 holds of few.
 pub(super) fn predicate(random: &mut Random, scope: &Scope, depth: usize) -> Predicate {
     for _ in 0..20 {
         let drawn = any_predicate(random, scope, depth);
-        if drawn.keeps_to_32_bits(scope.ranges) || random.percent(1) {
+        if drawn.keeps_to_span(scope.ranges) || random.percent(1) {
             return drawn;
         }
     }
@@ -49,8 +61,11 @@ fn comparison_or_constant(random: &mut Random, scope: &Scope, depth: usize) -> P
         // An assignment: what updates are mostly made of, and what a proposal can be found for.
         3 | 4 if scope.new && !scope.ranges.is_empty() => {
             let target = Expression::New(random.below(scope.ranges.len()));
-            Predicate::Eq(target, expression(random, scope, depth - 1))
+            let by_far = depth > 4 && random.percent(10);
+            let drawn = if by_far { detour } else { expression };
+            Predicate::Eq(target, drawn(random, scope, depth - 1))
         }
+        5..=9 if depth > 3 && random.percent(15) => far_comparison(random, scope, depth),
         5 | 6 => Predicate::Eq(expression(random, scope, depth - 1), expression(random, scope, depth - 1)),
         _ => Predicate::Le(expression(random, scope, depth - 1), expression(random, scope, depth - 1)),
     }
@@ -71,10 +86,58 @@ fn expression(random: &mut Random, scope: &Scope, depth: usize) -> Expression {
     }
 }
 
+/// A comparison of two numbers that are far from 0: far from each other, or near.
+fn far_comparison(random: &mut Random, scope: &Scope, depth: usize) -> Predicate {
+    let (x, y) = (expression(random, scope, depth - 2), expression(random, scope, depth - 2));
+    let far = far(random);
+    match random.below(6) {
+        0 => Predicate::Eq(x.clone(), add(x, far)),
+        1 => Predicate::Le(add(x.clone(), far), x),
+        2 => Predicate::Le(x.clone(), add(x, far)),
+        3 | 4 => Predicate::Eq(add(x, far.clone()), add(y, far)),
+        _ => Predicate::Le(add(x, far.clone()), add(y, far)),
+    }
+}
+
+/// A comparison of two products, or of one with its neighbour.
+pub(super) fn products(random: &mut Random, scope: &Scope) -> Predicate {
+    let product = |random: &mut Random| mul(operand(random, scope), operand(random, scope));
+    let (x, y) = (product(random), product(random));
+    match random.below(5) {
+        0 => Predicate::Eq(x, y),
+        1 => Predicate::Not(Box::new(Predicate::Le(x, y))),
+        2 => Predicate::Not(Box::new(Predicate::Eq(x.clone(), add(x, Expression::Number(1))))),
+        _ => Predicate::Le(x, y),
+    }
+}
+
+/// An expression by a way that leads far from 0 and back.
+fn detour(random: &mut Random, scope: &Scope, depth: usize) -> Expression {
+    let (x, far) = (expression(random, scope, depth - 2), far(random));
+    sub(add(x, far.clone()), far)
+}
+
+/// A product that 32 bits do not hold; some have nothing but zeros in their lowest 32.
+fn far(random: &mut Random) -> Expression {
+    let factors = [(65_536, 65_536), (-65_536, 65_536), (65_536, 32_768), (86_400, 250_000), (1 << 29, -1 << 29)];
+    let (x, y) = random.pick(&factors);
+    mul(Expression::Number(x), Expression::Number(y))
+}
+
+/// A number or a bound of a variable, perhaps at a limit and mostly far from 0.
+pub(super) fn far_number(random: &mut Random) -> i32 {
+    let some = [-1_000_000_000, -999_999_999, -65_536, -32_769, -1, 32_768, 46_341, 65_536, 999_999_999, 1_000_000_000];
+    if random.percent(70) {
+        random.pick(&some)
+    } else {
+        random.between(LEAST_NUMBER, GREATEST_NUMBER) as i32
+    }
+}
+
 fn operand(random: &mut Random, scope: &Scope) -> Expression {
     let k = random.below(scope.ranges.len());
     match random.below(4) {
-        0 if random.percent(8) => Expression::Number(random.pick(&[-32_768, -32_767, -1, 32_766, 32_767])),
+        0 if random.percent(12) => Expression::Number(far_number(random)),
         0 => Expression::Number(random.between(-3, 5) as i32),
         _ if scope.ranges.is_empty() => Expression::Number(random.between(-1, 1) as i32),
         1 if scope.new => Expression::New(k),

@@ -67,9 +67,10 @@ impl Listed {
 }
 
 fn value_in(random: &mut Random, (low, high): Range) -> i32 {
-    match random.below(6) {
+    match random.below(8) {
         0 => low,
         1 => high,
+        2 => random.between(low as i64, high as i64) as i32,
         _ => {
             let near = random.between(-4, 6) as i32;
             if low <= near && near <= high {
@@ -227,7 +228,7 @@ fn follow(random: &mut Random, model: &Model, update: &Predicate, old: &[i32], n
         Predicate::Eq(Expression::New(k), x) | Predicate::Eq(x, Expression::New(k)) => {
             let (low, high) = model.ranges[*k];
             let wanted = if x.interval(&model.ranges).is_some() { x.value(old, new) } else { 0 };
-            new[*k] = wanted.clamp(low as i64, high as i64) as i32;
+            new[*k] = wanted.clamp(low as i128, high as i128) as i32;
         }
         other => {
             let mentioned = other.mentions_new();

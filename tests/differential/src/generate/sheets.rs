@@ -24,7 +24,8 @@ struct Shape {
 /// A sheet, mostly one that is accepted; half of them say behind each edge what it writes.
 pub fn sheet(random: &mut Random) -> Model {
     let mut drawn = match random.below(20) {
-        0..=7 => small(random),
+        0..=6 => small(random),
+        7 => large(random),
         8..=10 => middle(random),
         11..=13 => covering(random),
         14..=16 => merging_limit(random),
@@ -144,6 +145,31 @@ fn wide(random: &mut Random) -> Model {
     drawn
 }
 
+/// Few wide variables, and edges that ask for products of them.
+fn large(random: &mut Random) -> Model {
+    let ranges: Vec<Range> = (0..2 + random.below(2)).map(|_| wide_range(random)).collect();
+    let edge = |random: &mut Random| {
+        let asked = products(random, &Scope { ranges: &ranges, new: true });
+        Edge { from: 0, action: 1, to: 0, update: Predicate::All(vec![asked, free(random, &ranges)]) }
+    };
+    let automaton = |random: &mut Random| Automaton {
+        sync: set(random, 1, 50),
+        locations: vec![Location { init: always(), invariant: always() }],
+        edges: (0..1 + random.below(3)).map(|_| edge(random)).collect(),
+    };
+    let automata: Vec<Automaton> = (0..1 + random.below(2)).map(|_| automaton(random)).collect();
+    let start = products(random, &Scope { ranges: &ranges, new: false });
+    let tree = tree(random, 0, automata.len());
+    let composition = if random.percent(50) { tree } else { with_ini(random, tree, start) };
+    Model { format: 1, actions: 1, ranges, automata, composition }
+}
+
+/// A range with an end that is far from 0, perhaps on both sides of it.
+fn wide_range(random: &mut Random) -> Range {
+    let ends = [far_number(random), far_number(random)];
+    (ends[0].min(ends[1]), ends[0].max(ends[1]))
+}
+
 /// An update that lets some variables change and asks nothing.
 fn free(random: &mut Random, ranges: &[Range]) -> Predicate {
     let mention = |k: usize| Predicate::Le(Expression::New(k), Expression::Number(ranges[k].1));
@@ -193,14 +219,16 @@ fn model(random: &mut Random, shape: &Shape) -> Model {
 }
 
 fn range(random: &mut Random) -> Range {
-    match random.below(12) {
-        0 => (-32_768, 32_767),
+    match random.below(14) {
+        0 => (LEAST_NUMBER as i32, GREATEST_NUMBER as i32),
         1 => {
             let only = random.between(-2, 2) as i32;
             (only, only)
         }
         2 => (random.between(-1_000, 0) as i32, random.between(0, 1_000) as i32),
         3 => (0, 1),
+        4 => wide_range(random),
+        5 => (0, far_number(random).abs()),
         _ => (random.between(-2, 0) as i32, random.between(0, 3) as i32),
     }
 }
@@ -441,7 +469,11 @@ fn break_row(random: &mut Random, model: &mut Model) {
     let variables = model.ranges.len();
     let past = random.below(2);
     match random.below(25) / 2 {
-        0 if variables > 0 => model.ranges[random.below(variables)] = (random.pick(&[1, 32_767]), random.pick(&[1, 0, -32_768])),
+        0 if variables > 0 => {
+            let low = random.pick(&[1, 1_000_000_000, -1_000_000_001]);
+            let high = random.pick(&[1, 0, -1_000_000_000, 1_000_000_001]);
+            model.ranges[random.below(variables)] = (low, high);
+        }
         1 | 2 => {
             let p = faulty_predicate(random, model);
             put_somewhere(random, &mut model.automata[k], p);
@@ -475,11 +507,11 @@ fn break_row(random: &mut Random, model: &mut Model) {
     }
 }
 
-/// A predicate that breaks one of the rows 7 to 11 in most places, or nearly does.
+/// A predicate that breaks row 3 or one of the rows 7 to 11 in most places, or nearly does.
 fn faulty_predicate(random: &mut Random, model: &Model) -> Predicate {
     let variables = model.ranges.len();
     let past = random.below(2);
-    match random.below(7) {
+    match random.below(9) {
         0 | 1 => {
             let outside = Expression::Old(variables + random.below(48 - variables.min(47)));
             Predicate::Eq(outside, Expression::Number(0))
@@ -487,16 +519,33 @@ fn faulty_predicate(random: &mut Random, model: &Model) -> Predicate {
         2 | 3 => Predicate::Le(Expression::New(random.below(variables.max(1))), Expression::Number(1)),
         4 => deepened(random, always(), DEPTH + past),
         5 => padding((NODES + past).saturating_sub(model.nodes()).max(1)),
-        _ => around_32_bits(random, past == 1),
+        6 => {
+            let past = 1_000_000_000 + past as i32;
+            let some = [past, -past, i32::MAX, i32::MIN];
+            Predicate::Le(Expression::Number(random.pick(&some)), Expression::Number(0))
+        }
+        _ => around_the_span(random, past == 1),
     }
 }
 
-/// A product around the limits of 32 bits, perhaps as the guard of an `if`.
-fn around_32_bits(random: &mut Random, as_guard: bool) -> Predicate {
-    let huge = (0..random.below(2)).fold(Expression::Number(32_767), |x, _| Expression::Add(Box::new(x.clone()), Box::new(x)));
-    let square = Expression::Mul(Box::new(huge.clone()), Box::new(huge));
-    let cube = Expression::Mul(Box::new(square), Box::new(Expression::Number(random.pick(&[1, 2, 3, -2, -3]))));
-    let guard = Predicate::Le(cube, Expression::Number(0));
+/// An expression around an end of the span, perhaps in the guard of an `if`.
+fn around_the_span(random: &mut Random, as_guard: bool) -> Predicate {
+    let sign = random.pick(&[1, -1]);
+    let (number, one) = (Expression::Number, Expression::Number(sign));
+    let end = mul(mul(number(sign << 29), number(1 << 29)), number(16));
+    let around = match random.below(10) {
+        0 => end,
+        1 => add(end, one),
+        2 => sub(end, one),
+        3 => sub(add(end, one.clone()), one),
+        4 => add(end.clone(), end),
+        5 => sub(end.clone(), end),
+        6 => mul(end.clone(), end),
+        7 => mul(number(0), add(end, one)),
+        8 => mul(end, number(random.pick(&[-1, 2, 4, 16]))),
+        _ => sub(number(0), end),
+    };
+    let guard = Predicate::Le(around, Expression::Number(0));
     if !as_guard {
         return guard;
     }

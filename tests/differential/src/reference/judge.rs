@@ -10,7 +10,7 @@ pub const YES_MARKED: u32 = 2;
 pub const REFUSED: u32 = 100;
 
 /// A proposed step: from a state to new locations and values. An environment step has no new locations.
-#[derive(Clone, Copy)]
+#[derive(Clone, Copy, Debug)]
 pub struct Proposal<'a> {
     pub phase: u32,
     pub locations: &'a [u32],

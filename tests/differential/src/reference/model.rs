@@ -2,7 +2,7 @@
 use std::collections::BTreeSet;
 
 pub const TEXT_BYTES: usize = 65_536;
-pub const TABLE_WORDS: usize = 8_192;
+pub const TABLE_WORDS: usize = 16_384;
 pub const NODES: usize = 4_096;
 pub const DEPTH: usize = 24;
 pub const EDGES: usize = 512;
@@ -13,8 +13,10 @@ pub const VARIABLES: i64 = 48;
 pub const AUTOMATA: i64 = 16;
 pub const LOCATIONS: i64 = 32;
 pub const HIGHEST_COUNT: i64 = 512;
-pub const LEAST_NUMBER: i64 = -32_768;
-pub const GREATEST_NUMBER: i64 = 32_767;
+pub const LEAST_NUMBER: i64 = -1_000_000_000;
+pub const GREATEST_NUMBER: i64 = 1_000_000_000;
+/// How far from 0 an expression's interval may reach, on both sides: 2^62.
+pub const SPAN: i128 = 4_611_686_018_427_387_904;
 
 pub type ActionSet = BTreeSet<u32>;
 /// The least and the greatest value of a variable.
@@ -116,13 +118,13 @@ impl Predicate {
         }
     }
 
-    /// Whether each expression in it keeps to 32 bits (not row 10).
-    pub fn keeps_to_32_bits(&self, ranges: &[Range]) -> bool {
+    /// Whether each expression in it keeps to the span (not row 10).
+    pub fn keeps_to_span(&self, ranges: &[Range]) -> bool {
         use Predicate::*;
         match self {
-            All(operands) | Any(operands) => operands.iter().all(|p| p.keeps_to_32_bits(ranges)),
-            Not(p) => p.keeps_to_32_bits(ranges),
-            Imp(p, q) => p.keeps_to_32_bits(ranges) && q.keeps_to_32_bits(ranges),
+            All(operands) | Any(operands) => operands.iter().all(|p| p.keeps_to_span(ranges)),
+            Not(p) => p.keeps_to_span(ranges),
+            Imp(p, q) => p.keeps_to_span(ranges) && q.keeps_to_span(ranges),
             Eq(x, y) | Le(x, y) => x.interval(ranges).is_some() && y.interval(ranges).is_some(),
         }
     }
@@ -175,13 +177,13 @@ impl Expression {
         }
     }
 
-    /// Its value. Row 10 keeps every part within 32 bits, so 64 are enough.
-    pub fn value(&self, old: &[i32], new: &[i32]) -> i64 {
+    /// Its value. Row 10 keeps every part within the span, so 128 bits are more than enough.
+    pub fn value(&self, old: &[i32], new: &[i32]) -> i128 {
         use Expression::*;
         match self {
-            Number(number) => *number as i64,
-            Old(k) => old[*k] as i64,
-            New(k) => new[*k] as i64,
+            Number(number) => *number as i128,
+            Old(k) => old[*k] as i128,
+            New(k) => new[*k] as i128,
             Add(x, y) => x.value(old, new) + y.value(old, new),
             Sub(x, y) => x.value(old, new) - y.value(old, new),
             Mul(x, y) => x.value(old, new) * y.value(old, new),
@@ -195,12 +197,13 @@ impl Expression {
         }
     }
 
-    /// Between which two numbers it can lie; none where it or a part of it leaves 32 bits (row 10).
-    pub fn interval(&self, ranges: &[Range]) -> Option<(i64, i64)> {
+    /// Between which two numbers it can lie; none where it or a part of it leaves the span (row 10). Its operands keep
+    /// to the span, so the largest number met here is a product of two ends, at most 2^124.
+    pub fn interval(&self, ranges: &[Range]) -> Option<(i128, i128)> {
         use Expression::*;
         let (least, greatest) = match self {
-            Number(number) => (*number as i64, *number as i64),
-            Old(k) | New(k) => (ranges[*k].0 as i64, ranges[*k].1 as i64),
+            Number(number) => (*number as i128, *number as i128),
+            Old(k) | New(k) => (ranges[*k].0 as i128, ranges[*k].1 as i128),
             Add(x, y) => {
                 let (x, y) = (x.interval(ranges)?, y.interval(ranges)?);
                 (x.0 + y.0, x.1 + y.1)
@@ -216,13 +219,13 @@ impl Expression {
             }
             If(p, x, y) => {
                 let (x, y) = (x.interval(ranges)?, y.interval(ranges)?);
-                if !p.keeps_to_32_bits(ranges) {
+                if !p.keeps_to_span(ranges) {
                     return None;
                 }
                 (x.0.min(y.0), x.1.max(y.1))
             }
         };
-        (i32::MIN as i64 <= least && greatest <= i32::MAX as i64).then_some((least, greatest))
+        (-SPAN <= least && greatest <= SPAN).then_some((least, greatest))
     }
 
     fn visit(&self, visit: &mut dyn FnMut(&Expression)) {

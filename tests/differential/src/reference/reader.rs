@@ -184,7 +184,7 @@ impl<'a> Sheet<'a> {
         self.require(new_allowed || !all.iter().flatten().any(|word| matches!(word, Word::New(_))), 8)?;
         self.require(depths.iter().all(|depth| *depth <= DEPTH), 9)?;
         let predicates: Vec<Predicate> = all.iter().map(|words| predicate_of(&mut words.iter())).collect();
-        self.require(predicates.iter().all(|predicate| predicate.keeps_to_32_bits(&self.ranges)), 10)?;
+        self.require(predicates.iter().all(|predicate| predicate.keeps_to_span(&self.ranges)), 10)?;
         self.nodes += all.iter().map(Vec::len).sum::<usize>();
         self.require(self.nodes <= NODES, 11)?;
         Ok(predicates)
@@ -224,7 +224,7 @@ pub fn number(digits: &[u8], least: i64, greatest: i64) -> Option<i64> {
         return None;
     }
     // No range has numbers of more digits.
-    if magnitude.len() > 6 {
+    if magnitude.len() > 10 {
         return None;
     }
     let size = magnitude.iter().fold(0, |sum, digit| sum * 10 + (digit - b'0') as i64);

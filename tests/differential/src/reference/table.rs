@@ -1,15 +1,16 @@
 //! The table of a model (docs/TABLE.md), and back: rows 18 and 19.
 use super::model::*;
 
-/// What a number has added to it, so that it is never below 0.
-const BIAS: i32 = 32_768;
+/// A node's word is its kind and this many times its argument.
 const KINDS: u32 = 16;
+/// From here up it is a number's instead: this and the number above the least one.
+const NUMBERS: u32 = 1 << 31;
 
-/// The table of a model: 8,192 words. What an edge writes has none; its update says it.
+/// The table of a model: 16,384 words. What an edge writes has none; its update says it.
 pub fn table(model: &Model) -> Vec<u32> {
     let mut out = vec![model.format, model.actions, model.ranges.len() as u32];
     for (low, high) in &model.ranges {
-        out.extend([(low + BIAS) as u32, (high + BIAS) as u32]);
+        out.extend([biased(*low), biased(*high)]);
     }
     out.push(model.automata.len() as u32);
     for automaton in &model.automata {
@@ -22,6 +23,17 @@ pub fn table(model: &Model) -> Vec<u32> {
     starts.iter().for_each(|p| put_counted(&mut out, p));
     out.resize(TABLE_WORDS, 0);
     out
+}
+
+/// A number above the least one, so that it is never below 0.
+fn biased(number: i32) -> u32 {
+    (number as i64 - LEAST_NUMBER) as u32
+}
+
+/// The number that the word is; none where it would be above the greatest.
+fn unbiased(word: u32) -> Option<i32> {
+    let number = word as i64 + LEAST_NUMBER;
+    (number <= GREATEST_NUMBER).then_some(number as i32)
 }
 
 fn put_automaton(out: &mut Vec<u32>, automaton: &Automaton) {
@@ -77,7 +89,8 @@ fn put_two(out: &mut Vec<u32>, kind: u32, x: &Expression, y: &Expression) {
 
 fn put_expression(out: &mut Vec<u32>, expression: &Expression) {
     match expression {
-        Expression::Number(number) => out.push(6 + KINDS * (number + BIAS) as u32),
+        // It wraps for numbers that no sheet has; the tests make tables of such, too.
+        Expression::Number(number) => out.push(NUMBERS.wrapping_add(biased(*number))),
         Expression::Old(k) => out.push(7 + KINDS * *k as u32),
         Expression::New(k) => out.push(8 + KINDS * *k as u32),
         Expression::Add(x, y) => put_two(out, 9, x, y),
@@ -145,7 +158,7 @@ impl Words<'_> {
         let format = self.up_to(HIGHEST_FORMAT)?;
         let actions = self.up_to(HIGHEST_ACTION)?;
         let variables = self.up_to(VARIABLES)?;
-        let ranges = (0..variables).map(|_| Some((self.biased()?, self.biased()?))).collect::<Option<_>>()?;
+        let ranges = (0..variables).map(|_| Some((self.bound()?, self.bound()?))).collect::<Option<_>>()?;
         let count = self.up_to(AUTOMATA)?;
         let automata = (0..count).map(|_| self.automaton()).collect::<Option<_>>()?;
         let _nodes = self.next()?;
@@ -156,8 +169,8 @@ impl Words<'_> {
         Some(Model { format, actions, ranges, automata, composition })
     }
 
-    fn biased(&mut self) -> Option<i32> {
-        Some(self.up_to(GREATEST_NUMBER - LEAST_NUMBER)? as i32 - BIAS)
+    fn bound(&mut self) -> Option<i32> {
+        unbiased(self.next()?)
     }
 
     fn automaton(&mut self) -> Option<Automaton> {
@@ -212,10 +225,12 @@ impl Words<'_> {
     fn expression(&mut self, depth: usize) -> Option<Expression> {
         let depth = depth.checked_sub(1)?;
         let word = self.next()?;
+        if word >= NUMBERS {
+            return unbiased(word - NUMBERS).map(Expression::Number);
+        }
         let argument = word / KINDS;
         let mut operand = || self.expression(depth).map(Box::new);
         Some(match word % KINDS {
-            6 if argument as i64 <= GREATEST_NUMBER - LEAST_NUMBER => Expression::Number(argument as i32 - BIAS),
             7 => Expression::Old(argument as usize),
             8 => Expression::New(argument as usize),
             9 => Expression::Add(operand()?, operand()?),
@@ -287,7 +302,7 @@ fn predicate_within(predicate: &Predicate, model: &Model) -> bool {
             declared &= *k < model.ranges.len();
         }
     });
-    declared && predicate.depth() <= DEPTH && predicate.keeps_to_32_bits(&model.ranges)
+    declared && predicate.depth() <= DEPTH && predicate.keeps_to_span(&model.ranges)
 }
 
 fn composition_within(composition: &Composition, model: &Model) -> bool {

@@ -1,6 +1,6 @@
 -- `evaluator::nodes::ordered` meets its contract: the machine reads each number back as the same.
 use borrow.Author.Needs.{needs}
-use mir.Syntax.{w32}
+use mir.Syntax.{w64}
 use mir.ValLaws.{toZ-ofZ}
 use Rattle.evaluator.proofs.nodes.ordered.Statement.{statement}
 use Rattle.evaluator.proofs.nodes.ordered.Tie as tie
@@ -11,7 +11,7 @@ at-most-requires c κs = search needs
 returns : tie.Need-returns
 returns c =
     let n = c .before .before .before .args .n in
-    rw (c .at-most .ensures, toZ-ofZ w32 (n .first) (search needs), toZ-ofZ w32 (n .second) (search needs))
+    rw (c .at-most .ensures, toZ-ofZ w64 (n .first) (search needs), toZ-ofZ w64 (n .second) (search needs))
 
 pub ordered-spec : {M : Type 1} → statement M
 ordered-spec = tie.close (tie.spec at-most-requires returns)

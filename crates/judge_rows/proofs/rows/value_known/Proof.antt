@@ -1,6 +1,6 @@
 -- `judge_rows::rows::value_known` meets its contract: the definition, step by step.
 use Rattle.judge_rows.specs.RowTests.{rangeHas}
-use mir.Syntax.{w32, w64}
+use mir.Syntax.{w64}
 use mir.ValLaws.{toZ-ofZ}
 use borrow.Author.Needs.{needs}
 use Rattle.judge_rows.proofs.rows.value_known.Statement.{statement}
@@ -21,11 +21,8 @@ high-requires c κs = search needs
 unbias-requires-2 : tie.Need-unbias-requires-2
 unbias-requires-2 c κs = search needs
 
-variable-requires : tie.Need-variable-requires
-variable-requires c κs = search needs
-
-wide-requires : tie.Need-wide-requires
-wide-requires c κs = search needs
+value-requires : tie.Need-value-requires
+value-requires c κs = search needs
 
 within-requires : tie.Need-within-requires
 within-requires c κs = search needs
@@ -33,7 +30,7 @@ within-requires c κs = search needs
 returns : tie.Need-returns
 unfolding rangeHas
 returns c =
-    let v = c .before .before in
+    let v = c .before in
     let high = v .before in
     let low = high .before .before in
     let at = low .before .before in
@@ -46,10 +43,8 @@ returns c =
       high .unbias2 .ensures,
       high .before .high .ensures,
       at .range-at .ensures,
-      toZ-ofZ w64 _ (record { sfits = c .before .wide .ok }),
-      c .before .wide .ensures,
-      toZ-ofZ w32 _ (record { sfits = v .variable .ok }),
-      v .variable .ensures,
+      toZ-ofZ w64 _ (record { sfits = v .value .ok }),
+      v .value .ensures,
     )
 
 pub value-known-spec : {M : Type 1} → statement M
@@ -61,7 +56,6 @@ value-known-spec =
     unbias-requires
     high-requires
     unbias-requires-2
-    variable-requires
-    wide-requires
+    value-requires
     within-requires
     returns)

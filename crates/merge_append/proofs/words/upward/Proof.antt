@@ -4,6 +4,9 @@ use borrow.Author.Needs.{needs}
 use Rattle.merge_append.proofs.words.upward.Statement.{statement}
 use Rattle.merge_append.proofs.words.upward.Tie as tie
 
+cast-result : tie.Need-cast-result
+cast-result c = search needs
+
 add-result : tie.Need-add-result
 add-result c = search needs
 
@@ -11,4 +14,4 @@ returns : tie.Need-returns
 returns c = search (needs, node-laws)
 
 pub upward-spec : {M : Type 1} → statement M
-upward-spec = tie.close (tie.spec add-result returns)
+upward-spec = tie.close (tie.spec cast-result add-result returns)

@@ -1,0 +1,24 @@
+-- `arithmetic::magnitudes::extent` meets its contract: each way out is a law of CutLaws.
+use native.Mathlib.Omega.{arith}
+use borrow.Author.Needs.{needs}
+use Rattle.arithmetic.proofs.CutLaws.{extent-none, extent-past, extent-upto, extent-is}
+use Rattle.arithmetic.proofs.magnitudes.extent.Statement.{statement}
+use Rattle.arithmetic.proofs.magnitudes.extent.Tie as tie
+
+returns : tie.Need-returns
+returns c = extent-none _ _ (c .if1 .taken)
+
+div-if2 : tie.Need-div-if2
+div-if2 c = search needs
+
+returns-2 : tie.Need-returns-2
+returns-2 c = extent-past _ _ (div-if2 (c .before)) (c .if2 .taken)
+
+mul-result : tie.Need-mul-result
+mul-result c = record { fits = omega (arith, extent-upto _ _ (div-if2 (c .before)) (c .if2 .left)) }
+
+returns-3 : tie.Need-returns-3
+returns-3 c = extent-is _ _ (extent-upto _ _ (div-if2 (c .before)) (c .if2 .left))
+
+pub extent-spec : {M : Type 1} → statement M
+extent-spec = tie.close (tie.spec returns div-if2 returns-2 mul-result returns-3)
