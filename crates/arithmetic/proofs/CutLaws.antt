@@ -171,20 +171,20 @@ abbrev past : ℕ
 past = 9223372036854775808
 
 module _ (m n : ℕ) where
-  pub extent-none : m ≡ 0 → 0 ≡ min (m * n) past
-  extent-none h = rw (h, zero-mul n) (omega arith)
+  pub capped-none : m ≡ 0 → 0 ≡ min (m * n) past
+  capped-none h = rw (h, zero-mul n) (omega arith)
 
-  pub extent-past : 0 < m → 9223372036854775807 / m < n → past ≡ min (m * n) past
-  extent-past h q =
+  pub capped-past : 0 < m → 9223372036854775807 / m < n → past ≡ min (m * n) past
+  capped-past h q =
       let l = div-lt-iff-lt-mul {k = m} {x = 9223372036854775807} {y = n} h .0 q in
       let e = mul-comm m n in
       omega arith
 
-  pub extent-upto : 0 < m → n ≤ 9223372036854775807 / m → m * n ≤ 9223372036854775807
-  extent-upto h q = rw (mul-comm m n) (le-div-iff-mul-le {k = m} {x = n} {y = 9223372036854775807} h .0 q)
+  pub capped-upto : 0 < m → n ≤ 9223372036854775807 / m → m * n ≤ 9223372036854775807
+  capped-upto h q = rw (mul-comm m n) (le-div-iff-mul-le {k = m} {x = n} {y = 9223372036854775807} h .0 q)
 
-  pub extent-is : m * n ≤ 9223372036854775807 → m * n ≡ min (m * n) past
-  extent-is h = omega arith
+  pub capped-within : m * n ≤ 9223372036854775807 → m * n ≡ min (m * n) past
+  capped-within h = omega arith
 
 -- a sign, and a magnitude
 module _ (n : ℕ) where

@@ -111,7 +111,7 @@ pub fn difference(a: i64, b: i64) -> i64
 pub fn product(a: i64, b: i64) -> i64
     ensures { λ r. ⌜ r ≡ cut (a *ℤ b) ⌝ }
 {
-    let n = magnitudes::extent(magnitudes::magnitude(a), magnitudes::magnitude(b));
+    let n = magnitudes::capped_product(magnitudes::magnitude(a), magnitudes::magnitude(b));
     magnitudes::signed((a < 0) != (b < 0), n)
 }
 

@@ -13,7 +13,7 @@ pub(crate) fn magnitude(a: i64) -> u64
 }
 
 // The product of two magnitudes, or 2^63, which is past the greatest number.
-pub(crate) fn extent(m: u64, n: u64) -> u64
+pub(crate) fn capped_product(m: u64, n: u64) -> u64
     ensures { λ r. ⌜ r ≡ min (m * n) 9223372036854775808 ⌝ }
 {
     if m == 0 {

@@ -74,7 +74,7 @@ maxBytes = 65536
 abbrev pub tableWords : ℕ
 tableWords = 16384
 
--- a variable's bound is the bound plus this in the table, so that the least number is 0
+-- a bound has this added in the table, so that the least number becomes 0
 abbrev pub bias : ℕ
 bias = 1000000000
 

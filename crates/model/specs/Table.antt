@@ -113,7 +113,7 @@ bit word k = eqb (word / 2 ^ k % 2) 1
 unfoldable pub setOf : (low high : ℕ) → List ℕ
 setOf low high = keep (bit low) (countUp 0 32) ++ keep (λ k. bit high (k - 32)) (countUp 32 32)
 
--- the words by their kinds, all with one argument; no word has the kind 6
+-- the words by their kinds, all with one argument; the kind 6 is no word's
 unfoldable pub kinds : ℕ → List Word
 kinds k =
     allOf k ∷ anyOf k ∷ notWord ∷ impWord ∷ eqWord ∷ leWord ∷ stray ∷ oldWord k ∷ newWord k ∷ addWord ∷ subWord ∷

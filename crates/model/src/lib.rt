@@ -38,10 +38,10 @@ impl Model {
 
     pub const GREATEST_NUMBER: i32 = 1000000000;
 
-    // A bound is written in a table as itself plus the bias; the largest number that this gives.
+    // A bound is written in a table as itself plus the bias; the greatest number, with the bias.
     pub const BIAS: u32 = 1000000000;
 
-    pub const LAST_NUMBER: u32 = 2000000000;
+    pub const LAST_BIASED: u32 = 2000000000;
 
     // The node words from here on are numbers, each with the bias.
     pub const FIRST_NUMBER_WORD: u32 = 2147483648;

@@ -37,7 +37,7 @@ fn variable(t: &[u32], at: usize) -> Line
     }
     let low = t[at];
     let high = t[at + 1];
-    if Model::LAST_NUMBER < high {
+    if Model::LAST_BIASED < high {
         return Line::Bad;
     }
     if high < low {

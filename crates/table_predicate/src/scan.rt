@@ -48,7 +48,7 @@ fn in_range(node: Node) -> bool
     match node {
         Node::All(k) => k <= Model::OPERANDS,
         Node::Any(k) => k <= Model::OPERANDS,
-        Node::Number(n) => n <= Model::LAST_NUMBER,
+        Node::Number(n) => n <= Model::LAST_BIASED,
         Node::Old(k) => k <= Model::LAST_VARIABLE,
         Node::New(k) => k <= Model::LAST_VARIABLE,
         Node::Stray => false,
