@@ -15,7 +15,7 @@
  *
  * Time. Reading, writing and merging take time that the limits of a sheet bound. Each call of a judge checks the
  * whole table first, which is most of a short call's time; sheet_run checks it once for a list. The environment judge
- * then looks once at each automaton and at each start condition. The step judge searches for edges that can be taken
+ * then looks once at each variable, automaton and start condition. The step judge searches for edges that can be taken
  * together, and the search is exact. On a sheet that somebody wrote for an oven it takes microseconds; on the hard
  * sheets of docs/BENCHMARKS.md, up to 16 automata with 512 edges over 48 variables, under a second. No bound is known
  * that would be of use: the question is NP-hard, and a sheet can be made on purpose on which a call takes longer than
@@ -28,11 +28,12 @@
 #include <stdint.h>
 
 /* The version of these declarations. The first number changes when a call that was right is right no more. */
-#define SHEET_VERSION_MAJOR 3
+#define SHEET_VERSION_MAJOR 4
 #define SHEET_VERSION_MINOR 0
 #define SHEET_VERSION_PATCH 0
 
-/* The words that a table has at least. A longer one keeps its rest. docs/TABLE.md has its layout. */
+/* The words that a table has at least. A longer one keeps its rest. docs/TABLE.md has its layout. A table belongs to
+ * the version that read it: from version 4 on a variable has three words, so texts are read again. */
 #define SHEET_TABLE_WORDS 16384
 /* The bytes that a text has at most, also one that is written or merged. */
 #define SHEET_TEXT_BYTES 65536
@@ -100,6 +101,8 @@ enum sheet_row {
     SHEET_ROW_MERGED_NODES = 34,
     SHEET_ROW_BUFFER_SHORT = 35,
     SHEET_ROW_WRITES = 44,
+    SHEET_ROW_OWNER = 50,
+    SHEET_ROW_FOREIGN = 51,
     SHEET_LISTS_UNEVEN = 101,
     SHEET_ANSWERS_SHORT = 102,
     SHEET_END_SHORT = 103
@@ -138,6 +141,8 @@ static inline const char *sheet_sentence(uint32_t number)
     case 34: return "merged, the predicates have more than 4,096 nodes";
     case 35: return "the buffer is shorter than the text";
     case 44: return "the list is not that of the variables whose new value the edge mentions";
+    case 50: return "a variable belongs to an automaton that is not there";
+    case 51: return "the edge writes a variable that does not belong to its automaton";
     case 101: return "the list does not have a location for each automaton and a value for each variable at each action";
     case 102: return "there are fewer places for answers than actions";
     case 103: return "there are too few places for the locations or values at the end";
@@ -149,8 +154,8 @@ static inline const char *sheet_sentence(uint32_t number)
 extern "C" {
 #endif
 
-/* Reads a text, of format 1 or 2, into the first 16,384 words of a table. 0: accepted. Else row * 2^32 + line: rows 1
- * to 16 and 44, or 18 for a table that is too short. Lines count from 1; rows 1 and 18 have line 0. */
+/* Reads a text, of format 1, 2 or 3, into the first 16,384 words of a table. 0: accepted. Else row * 2^32 + line: rows
+ * 1 to 16, 44, 50 and 51, or 18 for a table that is too short. Lines count from 1; rows 1 and 18 have line 0. */
 uint64_t sheet_read(const uint8_t *text, size_t text_length, uint32_t *table, size_t table_length);
 
 /* The numbers of the table's sheet, by which a caller makes its lists: SHEET_ACTIONS (the highest action),
@@ -174,7 +179,8 @@ uint32_t sheet_step(const uint32_t *table, size_t table_length, uint32_t phase, 
                     const uint32_t *new_locations, size_t new_locations_length, const int32_t *new_values,
                     size_t new_values_length);
 
-/* May the variables change so while every automaton is still? SHEET_NO; SHEET_YES; or 100 + row: 18 to 23. */
+/* May the variables change so while every automaton is still? SHEET_NO; SHEET_YES; or 100 + row: 18 to 23. In a sheet
+ * of format 3 a change of a variable that has an owner is a SHEET_NO; in formats 1 and 2 any variable may change. */
 uint32_t sheet_environment(const uint32_t *table, size_t table_length, uint32_t phase, const uint32_t *locations,
                            size_t locations_length, const int32_t *values, size_t values_length,
                            const int32_t *new_values, size_t new_values_length);

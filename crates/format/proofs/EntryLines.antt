@@ -10,24 +10,25 @@ use lib.Dec.{eqb}
 use lib.ListN.{length, getD, drop}
 use Rattle.model.specs.Basic.{orElse}
 use Rattle.model.specs.Composition.{Tree, leaf}
-use Rattle.model.specs.Limits.{listsFilled, treeInRange}
-use Rattle.model.specs.Lines.{Entry, Key, atFirst, lines, actions, actionsLine, automata, automataLine, compose, composeLine, edge, edgeLine, edges, edgesLine, format, formatLine, init, initLine, inv, invLine, keyOf, locations, locationsLine, sync, syncLine, variable, variableLine, variables, variablesLine}
+use Rattle.model.specs.Limits.{faultOf, numbersInRange}
+use Rattle.model.specs.Lines.{Entry, Key, Reading, atFirst, lines, actions, actionsLine, automata, automataLine, compose, composeLine, edge, edgeLine, edges, edgesLine, format, formatLine, init, initLine, inv, invLine, keyOf, locations, locationsLine, sync, syncLine, variable, variableLine, variables, variablesLine}
 use Rattle.model.specs.Model.{Model}
 use Rattle.model.specs.Parse.{readPred, readTree}
 use Rattle.model.specs.Predicate as P
 use Rattle.model.specs.Predicate.{Pred, all, range}
+use Rattle.model.proofs.Decode.{in-range, lists-filled}
 use Rattle.model.proofs.LinesLaws.{along, along-lines}
 use Rattle.format.specs.Bytes.{Bytes, LF, comma, joined, ledBy, parts}
 use Rattle.format.specs.Number.{naturalOf, decimal, integerOf, signed}
 use Rattle.format.specs.Reader.{linesOf, ontoLine}
 use Rattle.format.specs.Rows.{Line, entry, field, fields, is, listItems, place, predOf, predTokens, wordsIn, syncList, thePred, theRange, theTree, treeTokens, startsOf, theStarts, nodesIn, treeOf, valueOf}
-use Rattle.format.specs.Spelling.{entryText, lineText, listBehind, listText, spelling, writesKey, textOfList, textOfPred, textOfTree, valueText}
+use Rattle.format.specs.Spelling.{Behind, nothing, owner, list, behind, behindText, entryText, lineText, ownerKey, ownerSaid, spelling, writesKey, textOfList, textOfOwner, textOfPred, textOfTree, valueText}
 use Rattle.format.specs.Tokens.{readWords, tokens}
 use Rattle.format.proofs.BytesLaws.{Each, Free, parts-free, parts-joined}
-use Rattle.format.proofs.LineLaws.{lineOf, writesLine}
+use Rattle.format.proofs.LineLaws.{lineOf, ownerLine, writesLine}
 use Rattle.format.proofs.NumberLaws.{leading}
 use Rattle.format.proofs.PredText.{text-read}
-use Rattle.format.proofs.Spans.{Span, decimal-free, line-span, pred-free, signed-free, writes-span}
+use Rattle.format.proofs.Spans.{Span, decimal-free, line-span, owner-span, pred-free, signed-free, writes-span}
 use Rattle.format.proofs.TokenLaws.{count-decimal, integer-signed}
 use Rattle.format.proofs.TreeRead.{counts-back, list-parts, tree-read}
 use Rattle.format.proofs.TreeText.{readComposed}
@@ -52,32 +53,34 @@ line-first k v t h =
     ap linesOf (append-assoc k (v ++ LF ∷ []) t ∙ ap (λ l. k ++ l) (append-assoc v (LF ∷ []) t) ∙ sym (append-assoc k v (LF ∷ t))) ∙
     lines-seam (k ++ v) t h
 
--- an entry's line, and that of the list behind it
-abbrev pub listLines : Option (List ℕ) → List Line
-listLines none = []
-listLines (some list) = writesLine list ∷ []
+-- an entry's line, and the one behind it
+abbrev pub behindLines : Behind → (said : Option ℕ) → List Line
+behindLines nothing o = []
+behindLines owner o = ownerLine o ∷ []
+behindLines (list l) o = writesLine l ∷ []
 
 abbrev pub linesFor : (format : ℕ) → Entry → List Line
-linesFor f e = lineOf e ∷ listLines (listBehind f e)
+linesFor f e = lineOf e ∷ behindLines (behind f e) (ownerSaid e)
 
-list-first-line : (o : Option (List ℕ)) (t : Bytes) → linesOf (listText o ++ t) ≡ listLines o ++ linesOf t
-unfolding listText
-list-first-line none t = refl
-list-first-line (some list) t = line-first writesKey (textOfList list) t (writes-span list)
+behind-first-line : (b : Behind) (e : Entry) (t : Bytes) → linesOf (behindText b e ++ t) ≡ behindLines b (ownerSaid e) ++ linesOf t
+unfolding behindText
+behind-first-line nothing e t = refl
+behind-first-line owner e t = line-first ownerKey (textOfOwner (ownerSaid e)) t (owner-span (ownerSaid e))
+behind-first-line (list l) e t = line-first writesKey (textOfList l) t (writes-span l)
 
 pub lines-all : (f : ℕ) (es : List Entry) → linesOf (flatMap (entryText f) es) ≡ flatMap (linesFor f) es
 unfolding flatMap entryText lineText
 lines-all f [] = unfold linesOf in refl
 lines-all f (e ∷ es) =
-    let list = listText (listBehind f e) in
+    let b = behind f e in
     let later = flatMap (entryText f) es in
-    ap linesOf (append-assoc (lineText e) list later) ∙
-    line-first (spelling (keyOf e)) (valueText e) (list ++ later) (line-span e) ∙
-    ap (λ l. lineOf e ∷ l) (list-first-line (listBehind f e) later ∙ ap (λ l. listLines (listBehind f e) ++ l) (lines-all f es))
+    ap linesOf (append-assoc (lineText e) (behindText b e) later) ∙
+    line-first (spelling (keyOf e)) (valueText e) (behindText b e ++ later) (line-span e) ∙
+    ap (λ l. lineOf e ∷ l) (behind-first-line b e later ∙ ap (λ l. behindLines b (ownerSaid e) ++ l) (lines-all f es))
 
 -- the lines of a model's text, by the format that has been read
 pub lines-along : (m : Model) → along linesFor atFirst (lines m) ≡ flatMap (linesFor (m .format)) (lines m)
-unfolding listBehind
+unfolding behind
 lines-along m = along-lines linesFor (λ f h n. refl) m
 
 -- and the lines of a text make it up again
@@ -151,38 +154,23 @@ the-tree : (c : Tree) → composeLine (orElse (leaf 0) (some c)) ≡ composeLine
 unfolding orElse
 the-tree c = refl
 
--- no list in the entry's tree is empty, and its numbers are in range
-abbrev pub ListedEntry : Entry → Type 0
-ListedEntry (formatLine n) = Unit
-ListedEntry (actionsLine n) = Unit
-ListedEntry (variablesLine n) = Unit
-ListedEntry (variableLine r) = Unit
-ListedEntry (automataLine n) = Unit
-ListedEntry (syncLine l) = Unit
-ListedEntry (locationsLine n) = Unit
-ListedEntry (initLine p) = Unit
-ListedEntry (invLine p) = Unit
-ListedEntry (edgesLine n) = Unit
-ListedEntry (edgeLine e) = Unit
-ListedEntry (composeLine c) = (listsFilled c ≡ true) × (treeInRange c ≡ true)
-
--- what an entry's line says is the entry
-pub entry-line : (e : Entry) → ListedEntry e → entry (keyOf e) (lineOf e) ≡ e
-unfolding entry keyOf valueText fields field is place valueOf thePred predOf wordsIn predTokens theTree treeOf treeTokens nodesIn startsOf theStarts syncList theRange range
-entry-line (formatLine n) h = ap (λ s. formatLine (naturalOf s)) (sole-field format (decimal n) (decimal-free n)) ∙ ap formatLine (count-decimal n)
-entry-line (actionsLine n) h = ap (λ s. actionsLine (naturalOf s)) (sole-field actions (decimal n) (decimal-free n)) ∙ ap actionsLine (count-decimal n)
-entry-line (variablesLine n) h = ap (λ s. variablesLine (naturalOf s)) (sole-field variables (decimal n) (decimal-free n)) ∙ ap variablesLine (count-decimal n)
-entry-line (variableLine r) h =
-    ap (λ l. variableLine (range (integerOf (getD l 0 [])) (integerOf (getD l 1 [])))) (more-fields variable (signed (r .low)) (signed (r .high) ∷ []) (signed-free (r .low)) (signed-free (r .high), tt)) ∙
-    rw (integer-signed (r .low), integer-signed (r .high))
-entry-line (automataLine n) h = ap (λ s. automataLine (naturalOf s)) (sole-field automata (decimal n) (decimal-free n)) ∙ ap automataLine (count-decimal n)
-entry-line (syncLine l) h = ap (λ s. syncLine (map naturalOf (listItems s))) (dropped (spelling sync) (textOfList l)) ∙ ap syncLine (list-back l)
-entry-line (locationsLine n) h = ap (λ s. locationsLine (naturalOf s)) (sole-field locations (decimal n) (decimal-free n)) ∙ ap locationsLine (count-decimal n)
-entry-line (initLine p) h = ap initLine (pred-back _ p (sole-field init (textOfPred p) (pred-free p)))
-entry-line (invLine p) h = ap invLine (pred-back _ p (sole-field inv (textOfPred p) (pred-free p)))
-entry-line (edgesLine n) h = ap (λ s. edgesLine (naturalOf s)) (sole-field edges (decimal n) (decimal-free n)) ∙ ap edgesLine (count-decimal n)
-entry-line (edgeLine e) h =
+-- what the line of an entry that breaks no row says is the entry, if that has no owner
+pub entry-line : (r : Reading) (e : Entry) → faultOf r e ≡ none → ownerSaid e ≡ none → entry (keyOf e) (lineOf e) ≡ e
+unfolding entry keyOf ownerSaid numbersInRange valueText fields field is place valueOf thePred predOf wordsIn predTokens theTree treeOf treeTokens nodesIn startsOf theStarts syncList theRange range
+entry-line r (formatLine n) h u = ap (λ s. formatLine (naturalOf s)) (sole-field format (decimal n) (decimal-free n)) ∙ ap formatLine (count-decimal n)
+entry-line r (actionsLine n) h u = ap (λ s. actionsLine (naturalOf s)) (sole-field actions (decimal n) (decimal-free n)) ∙ ap actionsLine (count-decimal n)
+entry-line r (variablesLine n) h u = ap (λ s. variablesLine (naturalOf s)) (sole-field variables (decimal n) (decimal-free n)) ∙ ap variablesLine (count-decimal n)
+entry-line r (variableLine x o) h u =
+    ap (λ l. variableLine (range (integerOf (getD l 0 [])) (integerOf (getD l 1 []))) none) (more-fields variable (signed (x .low)) (signed (x .high) ∷ []) (signed-free (x .low)) (signed-free (x .high), tt)) ∙
+    rw (integer-signed (x .low), integer-signed (x .high)) (ap (variableLine x) (sym u))
+entry-line r (automataLine n) h u = ap (λ s. automataLine (naturalOf s)) (sole-field automata (decimal n) (decimal-free n)) ∙ ap automataLine (count-decimal n)
+entry-line r (syncLine l) h u = ap (λ s. syncLine (map naturalOf (listItems s))) (dropped (spelling sync) (textOfList l)) ∙ ap syncLine (list-back l)
+entry-line r (locationsLine n) h u = ap (λ s. locationsLine (naturalOf s)) (sole-field locations (decimal n) (decimal-free n)) ∙ ap locationsLine (count-decimal n)
+entry-line r (initLine p) h u = ap initLine (pred-back _ p (sole-field init (textOfPred p) (pred-free p)))
+entry-line r (invLine p) h u = ap invLine (pred-back _ p (sole-field inv (textOfPred p) (pred-free p)))
+entry-line r (edgesLine n) h u = ap (λ s. edgesLine (naturalOf s)) (sole-field edges (decimal n) (decimal-free n)) ∙ ap edgesLine (count-decimal n)
+entry-line r (edgeLine e) h u =
     ap (λ l. edgeLine (record { from = naturalOf (getD l 0 []); action = naturalOf (getD l 1 []); to = naturalOf (getD l 2 []); update = orElse (all P.none) (readPred (readWords (tokens (getD l 3 [])))) }))
     (more-fields edge (decimal (e .from)) (decimal (e .action) ∷ decimal (e .to) ∷ textOfPred (e .update) ∷ []) (decimal-free (e .from)) (decimal-free (e .action), (decimal-free (e .to), (pred-free (e .update), tt)))) ∙
     rw (count-decimal (e .from), count-decimal (e .action), count-decimal (e .to), pred-back (textOfPred (e .update)) (e .update) refl)
-entry-line (composeLine c) h = ap (λ s. composeLine (orElse (leaf 0) (readTree (readComposed [] (tokens s))))) (dropped (spelling compose) (textOfTree c)) ∙ ap (λ o. composeLine (orElse (leaf 0) o)) (tree-read c (h .1) (h .0)) ∙ the-tree c
+entry-line r (composeLine c) h u = ap (λ s. composeLine (orElse (leaf 0) (readTree (readComposed [] (tokens s))))) (dropped (spelling compose) (textOfTree c)) ∙ ap (λ o. composeLine (orElse (leaf 0) o)) (tree-read c (in-range r (composeLine c) h) (lists-filled r c h)) ∙ the-tree c

@@ -3,7 +3,7 @@ use Prim.Native.Nat.{ℕ, zero, suc, _+_, _-_, _*_, _/_, _%_, _^_, _≤_, _<_}
 use mathlib.Core.Path.{_≡_, refl, sym, ap, subst, _∙_}
 use mathlib.Core.Bool.{Bool, true, false, _&&_, _||_, true≢false, and-eq-true-iff}
 use mathlib.Core.List.{List, [], _∷_, _++_, map, flatMap, List·Memᴰ, List·Memᴰ·head, List·Memᴰ·tail}
-use mathlib.Core.Option.{none, some}
+use mathlib.Core.Option.{Option, none, some}
 use mathlib.Core.Logic.{⊎-elim}
 use native.Mathlib.Omega.{arith}
 use borrow.Author.Tests.{lt-ltb, ltb-true, leb-true, eqb-true, eqb-false}
@@ -11,20 +11,21 @@ use lib.ListN.{length, length-append}
 use lib.IntN.{ℤ, pos, negsuc}
 use lib.Dec.{leb, ltb, eqb}
 use Rattle.model.specs.Basic.{between, every, exists, keep, sum, countUp}
-use Rattle.model.specs.Bounds.{maxActions, maxAutomata, maxLocations, maxEdges, maxOperands, maxVariables, maxBytes, writesFormat, leastNumber, greatestNumber}
+use Rattle.model.specs.Bounds.{maxActions, maxAutomata, maxLocations, maxEdges, maxOperands, maxVariables, maxBytes, writesFormat, ownersFormat, leastNumber, greatestNumber}
 use Rattle.model.specs.Predicate as P
 use Rattle.model.specs.Predicate.{Pred, all, any, negate, imp, eq, le, Preds, more, operands, Expr, num, old, new, add, sub, mul, choose, Range, Word, words, wordsAll, wordsOf, nodeCount, Named, nothing, theOld, theNew, named, isNew, isNewOf, mentions, written}
 use Rattle.model.specs.Composition.{Tree, par, syn, ini, leaf, leaves, starts, startNodes, nodes, treeSize}
 use Rattle.model.specs.Model.{Location, Edge, Automaton, Model, edgeTotal}
-use Rattle.model.specs.Lines.{Entry, formatLine, actionsLine, variablesLine, variableLine, automataLine, syncLine, locationsLine, initLine, invLine, edgesLine, edgeLine, composeLine, keyOf, locationLines, automatonLines, lines}
+use Rattle.model.specs.Lines.{Entry, formatLine, actionsLine, variablesLine, variableLine, automataLine, syncLine, locationsLine, initLine, invLine, edgesLine, edgeLine, composeLine, keyOf, locationLines, automatonLines, variableLines, lines}
 use Rattle.model.specs.Limits.{inRange, rises, treeRises, treeInRange}
-use Rattle.model.specs.Lawful.{locationNodes, automatonNodes, nodeTotal, LawfulRange, LawfulLocation, LawfulEdge, LawfulAutomaton, LawfulTree, Lawful}
+use Rattle.model.specs.Lawful.{locationNodes, automatonNodes, nodeTotal, LawfulRange, LawfulOwner, LawfulLocation, LawfulEdge, LawfulAutomaton, LawfulTree, Lawful}
 use Rattle.model.proofs.LimitLines.{tree-ranged}
 use Rattle.model.proofs.Tests.{every-append}
 use Rattle.model.proofs.Lists.{flat-append, keep-append, keep-first, keep-skip, keep-empty, keep-length}
 use Rattle.format.specs.Bytes.{LF, Bytes, bytes, ledBy, joined, space, comma, '0}
 use Rattle.format.specs.Number.{decimalIn, decimal, signed}
-use Rattle.format.specs.Spelling.{spelling, valueText, lineText, writesKey, listBehind, listText, entryText, textOf, spelled, textOfPred, textOfList, spelledNode, textOfTree}
+use Rattle.format.specs.Spelling as S
+use Rattle.format.specs.Spelling.{spelling, valueText, lineText, writesKey, ownerKey, noneWord, behind, ownerSaid, behindText, entryText, textOf, spelled, textOfPred, textOfList, textOfOwner, spelledNode, textOfTree}
 use Rattle.format.proofs.NumberLaws.{split}
 
 -- a number below 10 ^ (d + 1) takes at most d + 1 digits
@@ -193,11 +194,11 @@ short-numbers f n (suc count) h = go (f n) (short-numbers f (suc n) count (omega
     go true i = let d = decimal-width 1 n (omega arith) in omega arith
     go false i = i
 
-writes-size : (f : ℕ) (e : Edge) → length (listText (listBehind f (edgeLine e))) ≤ 8 + 3 * news (words (e .update))
-unfolding listBehind listText writesKey textOfList written mentions
+writes-size : (f : ℕ) (e : Edge) → length (behindText (behind f (edgeLine e)) (edgeLine e)) ≤ 8 + 3 * news (words (e .update))
+unfolding behind behindText writesKey textOfList written mentions
 writes-size f e = go (leb writesFormat f)
   where
-    go : (b : Bool) → length (listText (elim b [ true ↦ some (written (e .update)) | false ↦ none ])) ≤ 8 + 3 * news (words (e .update))
+    go : (b : Bool) → length (behindText (elim b [ true ↦ S.list (written (e .update)) | false ↦ S.nothing ]) (edgeLine e)) ≤ 8 + 3 * news (words (e .update))
     go true =
         let list = written (e .update) in
         let j = size-joined comma (map decimal list) in
@@ -205,6 +206,23 @@ writes-size f e = go (leb writesFormat f)
         let k = few-written 0 maxVariables (words (e .update)) in
         let s = short-numbers (λ k. mentions k (e .update)) 0 maxVariables (omega arith) in
         omega arith
+    go false = omega arith
+
+-- The owner behind a variable: `none`, or the number of an automaton.
+abbrev longestOwner : ℕ
+longestOwner = 4
+
+owner-width : (f N : ℕ) (o : Option ℕ) → N ≤ maxAutomata → LawfulOwner f N o → length (textOfOwner o) ≤ longestOwner
+unfolding textOfOwner noneWord
+owner-width f N none n h = omega arith
+owner-width f N (some k) n h = let b = h .below k refl in let d = decimal-width 1 k (omega arith) in omega arith
+
+owner-size : (f : ℕ) (x : Range) (o : Option ℕ) → length (textOfOwner o) ≤ longestOwner → length (behindText (behind f (variableLine x o)) (variableLine x o)) ≤ 7 + longestOwner
+unfolding behind behindText ownerKey ownerSaid
+owner-size f x o h = go (leb ownersFormat f)
+  where
+    go : (b : Bool) → length (behindText (elim b [ true ↦ S.owner | false ↦ S.nothing ]) (variableLine x o)) ≤ 7 + longestOwner
+    go true = let l = length-append (textOfOwner o) (LF ∷ []) in omega arith
     go false = omega arith
 
 -- a list that rises to A takes at most 2 bytes for each number up to 9, and 3 for each from 10 on
@@ -271,14 +289,14 @@ tree-size A N c a n h s =
     let w = nodes-size A c a (h .lists) (tree-ranged A N c a n h s) in
     omega (arith, w, size-joined space (flatMap spelledNode (nodes c)), ap (length {A = ℕ}) (h .in-order), count-length 0 N)
 
--- an entry: its line, which is its key, its value and LF; and its list
+-- an entry: its line, which is its key, its value and LF; and the line behind it
 module _ (f : ℕ) where
-  entry-size : (e : Entry) → length (entryText f e) ≡ suc (length (spelling (keyOf e)) + length (valueText e)) + length (listText (listBehind f e))
+  entry-size : (e : Entry) → length (entryText f e) ≡ suc (length (spelling (keyOf e)) + length (valueText e)) + length (behindText (behind f e) e)
   unfolding entryText lineText
   entry-size e =
       let p = length-append (spelling (keyOf e)) (valueText e ++ LF ∷ []) in
       let q = length-append (valueText e) (LF ∷ []) in
-      let r = length-append (lineText e) (listText (listBehind f e)) in
+      let r = length-append (lineText e) (behindText (behind f e) e) in
       omega arith
 
   abbrev total : List Entry → ℕ
@@ -295,21 +313,26 @@ module _ (f : ℕ) where
   total-append (e ∷ a) b = let ih = total-append a b in omega arith
 
   -- the lines of some variables, locations and edges
-  variables-total : (xs : List Range) → ((x : Range) → List·Memᴰ x xs → LawfulRange x) → total (map variableLine xs) ≤ (11 + 2 * longestNumber) * length xs
-  unfolding valueText keyOf spelling listBehind listText
-  variables-total [] h = omega arith
-  variables-total (x ∷ xs) h =
-      let r = h x (List·Memᴰ·head refl) in
-      let e = entry-size (variableLine x) in
+  variable-size : (x : Range) (o : Option ℕ) → LawfulRange x → length (textOfOwner o) ≤ longestOwner → length (entryText f (variableLine x o)) ≤ 18 + 2 * longestNumber + longestOwner
+  unfolding valueText keyOf spelling
+  variable-size x o r h =
+      let e = entry-size (variableLine x o) in
       let j = size-joined comma (signed (x .low) ∷ signed (x .high) ∷ []) in
-      let p = signed-width (x .low) (r .low) in
-      let q = signed-width (x .high) (r .high) in
-      let ih = variables-total xs (λ y m. h y (List·Memᴰ·tail m)) in
-      omega arith
+      omega (arith, signed-width (x .low) (r .low), signed-width (x .high) (r .high), owner-size f x o h)
+
+  variables-total : (N : ℕ) → N ≤ maxAutomata → (xs : List Range) (os : List (Option ℕ)) → ((x : Range) → List·Memᴰ x xs → LawfulRange x) → ((o : Option ℕ) → List·Memᴰ o os → LawfulOwner f N o)
+      → total (variableLines xs os) ≤ (18 + 2 * longestNumber + longestOwner) * length xs
+  unfolding variableLines textOfOwner noneWord
+  variables-total N n [] os h k = omega arith
+  variables-total N n (x ∷ xs) [] h k =
+      omega (arith, variable-size x none (h x (List·Memᴰ·head refl)) (omega arith), variables-total N n xs [] (λ y m. h y (List·Memᴰ·tail m)) k)
+  variables-total N n (x ∷ xs) (o ∷ os) h k =
+      let w = owner-width f N o n (k o (List·Memᴰ·head refl)) in
+      omega (arith, variable-size x o (h x (List·Memᴰ·head refl)) w, variables-total N n xs os (λ y m. h y (List·Memᴰ·tail m)) (λ p m. k p (List·Memᴰ·tail m)))
 
   module _ (vs : List Range) where
     locations-total : (xs : List Location) → ((l : Location) → List·Memᴰ l xs → LawfulLocation vs l) → 4 * total (flatMap locationLines xs) ≤ 18 * length xs + 39 * sum (map locationNodes xs)
-    unfolding valueText keyOf spelling flatMap locationLines sum locationNodes listBehind listText
+    unfolding valueText keyOf spelling flatMap locationLines sum locationNodes behind behindText
     locations-total [] h = omega arith
     locations-total (x ∷ xs) h =
         let l = h x (List·Memᴰ·head refl) in
@@ -336,7 +359,7 @@ module _ (f : ℕ) where
         omega arith
 
     automaton-total : (A : ℕ) → A ≤ maxActions → (x : Automaton) → LawfulAutomaton vs A x → length (x .edges) ≤ maxEdges → 4 * total (automatonLines x) ≤ 1408 + 79 * length (x .edges) + 39 * automatonNodes x
-    unfolding valueText keyOf spelling automatonLines automatonNodes listBehind listText
+    unfolding valueText keyOf spelling automatonLines automatonNodes behind behindText
     automaton-total A a x h n =
         let e₁ = entry-size (syncLine (x .sync)) in
         let l = list-size A (x .sync) a (h .sync) in
@@ -358,8 +381,8 @@ module _ (f : ℕ) where
         let j = total-append (automatonLines x) (flatMap automatonLines xs) in
         omega arith
 
-text-size : (m : Model) → Lawful m → length (textOf m) ≤ 63634
-unfolding textOf lines valueText keyOf spelling listBehind listText
+text-size : (m : Model) → Lawful m → length (textOf m) ≤ 64162
+unfolding textOf lines valueText keyOf spelling behind behindText
 text-size m h =
     let f = m .format in
     let e₁ = entry-size f (formatLine (m .format)) in
@@ -372,9 +395,9 @@ text-size m h =
     let d₄ = decimal-width 1 (length (m .automata)) (omega arith) in
     let e₅ = entry-size f (composeLine (m .tree)) in
     let d₅ = tree-size (m .actions) (length (m .automata)) (m .tree) (h .few-actions) (h .few-automata) (h .tree) (λ p i. h .starts p i .pred .ranged) in
-    let p = variables-total f (m .variables) (h .ranges) in
+    let p = variables-total f (length (m .automata)) (h .few-automata) (m .variables) (m .owners) (h .ranges) (h .owners) in
     let q = automata-total f (m .variables) (m .actions) (h .few-actions) (m .automata) (h .automata) (h .few-edges) in
-    let j = total-append f (map variableLine (m .variables)) (automataLine (length (m .automata)) ∷ (flatMap automatonLines (m .automata) ++ (composeLine (m .tree) ∷ []))) in
+    let j = total-append f (variableLines (m .variables) (m .owners)) (automataLine (length (m .automata)) ∷ (flatMap automatonLines (m .automata) ++ (composeLine (m .tree) ∷ []))) in
     let k = total-append f (flatMap automatonLines (m .automata)) (composeLine (m .tree) ∷ []) in
     let i = total-is f (lines m) in
     omega arith

@@ -12,6 +12,8 @@ pub mod EntryLines
 pub mod FaultLaws
 pub mod TreeFaults
 pub mod WritesLaws
+pub mod OwnersLaws
+pub mod LineFaults
 pub mod Exact
 pub mod Smallest
 pub mod Refusals

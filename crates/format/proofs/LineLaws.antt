@@ -22,7 +22,7 @@ use Rattle.model.proofs.Decode.{unbroken}
 use Rattle.format.specs.Bytes.{Bytes, begins, comma, joined, ledBy, parts}
 use Rattle.format.specs.Number.{naturalOf, decimal, integerOf, signed, within}
 use Rattle.format.specs.Rows.{Line, entry, fault, field, fieldCount, fields, hasPred, is, listItems, numbersSound, place, predOf, predTokens, wordsIn, printable, row10, row11, row12, row13, row2, row3, row4, row5, row6, row7, row8, row9, syncList, thePred, theRange, theTree, treeTokens, startsOf, theStarts, nodesIn, treeOf, valueOf}
-use Rattle.format.specs.Spelling.{spelling, writesKey, textOfList, textOfPred, textOfTree, valueText}
+use Rattle.format.specs.Spelling.{spelling, writesKey, ownerKey, textOfList, textOfOwner, textOfPred, textOfTree, valueText, ownerSaid}
 use Rattle.format.specs.Tokens.{readWords, sounds, tokens}
 use Rattle.format.proofs.BytesLaws.{joined-parts}
 use Rattle.format.proofs.NumberLaws.{false-true}
@@ -183,9 +183,12 @@ value-written compose l c n s t = c-written (valueOf compose l) (readTree (readC
 abbrev pub lineOf : Entry → Line
 lineOf e = record { bytes = spelling (keyOf e) ++ valueText e; ended = true }
 
--- and that of a list behind an edge
+-- that of a list behind an edge, and that of an owner behind a variable
 abbrev pub writesLine : List ℕ → Line
 writesLine list = record { bytes = writesKey ++ textOfList list; ended = true }
+
+abbrev pub ownerLine : Option ℕ → Line
+ownerLine o = record { bytes = ownerKey ++ textOfOwner o; ended = true }
 
 pub entry-key : (k : Key) (l : Line) → keyOf (entry k l) ≡ k
 unfolding entry keyOf
@@ -201,6 +204,22 @@ entry-key inv l = refl
 entry-key edges l = refl
 entry-key edge l = refl
 entry-key compose l = refl
+
+-- an entry's line says no owner
+pub entry-unowned : (k : Key) (l : Line) → ownerSaid (entry k l) ≡ none
+unfolding entry ownerSaid
+entry-unowned format l = refl
+entry-unowned actions l = refl
+entry-unowned variables l = refl
+entry-unowned variable l = refl
+entry-unowned automata l = refl
+entry-unowned sync l = refl
+entry-unowned locations l = refl
+entry-unowned init l = refl
+entry-unowned inv l = refl
+entry-unowned edges l = refl
+entry-unowned edge l = refl
+entry-unowned compose l = refl
 
 -- a line that breaks no row is the line of what it says
 pub line-written : (r : Reading) (k : Key) (l : Line) → fault r k l ≡ none → l ≡ lineOf (entry k l)

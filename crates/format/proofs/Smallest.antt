@@ -12,8 +12,9 @@ use Rattle.model.specs.Lines.{Key, Reading}
 use Rattle.model.proofs.Tests.{and-left, and-right, lt-of}
 use Rattle.model.proofs.Parsing.{none-some, got}
 use Rattle.format.specs.Rows.{Line, fault}
-use Rattle.format.specs.Refused.{Conditions, Unbroken, Smallest, lineRows, writesRows}
+use Rattle.format.specs.Refused.{Conditions, Unbroken, Smallest, lineRows, ownerRows, writesRows}
 use Rattle.format.specs.Writes.{writesFault}
+use Rattle.format.specs.Owners.{ownerFault}
 
 -- the first row whose condition holds, in the order of the list
 unfoldable pub firstOf : Conditions → Option ℕ
@@ -132,3 +133,13 @@ module _ (r : Reading) (due : List ℕ) (l : Line) where
   pub writes-none : (writesFault r due l ≡ none) ↔ Unbroken (writesRows r due l)
   unfolding writesFault writesRows firstOf risesFrom
   writes-none = tried-none (writesFault r due l) (writesRows r due l) refl refl
+
+-- and those of an owner behind a variable
+module _ (l : Line) where
+  pub owner-smallest : (row : ℕ) → (ownerFault l ≡ some row) ↔ Smallest (ownerRows l) row
+  unfolding ownerFault ownerRows firstOf risesFrom
+  owner-smallest row = tried-smallest (ownerFault l) (ownerRows l) refl refl row
+
+  pub owner-none : (ownerFault l ≡ none) ↔ Unbroken (ownerRows l)
+  unfolding ownerFault ownerRows firstOf risesFrom
+  owner-none = tried-none (ownerFault l) (ownerRows l) refl refl

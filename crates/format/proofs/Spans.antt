@@ -3,6 +3,7 @@ use Prim.Native.Nat.{ℕ, zero, suc, _+_, _/_, _%_, _≤_, _<_}
 use mathlib.Core.Path.{_≡_}
 use mathlib.Core.List.{List, [], _∷_, _++_, map, flatMap}
 use mathlib.Core.Logic.{⊎-elim}
+use mathlib.Core.Option.{Option, none, some}
 use native.Mathlib.Omega.{arith}
 use lib.IntN.{ℤ, pos, negsuc}
 use Rattle.model.specs.Composition.{Node, Tree, iniNode, leafNode, nodes, parNode, strayNode, synNode}
@@ -10,7 +11,7 @@ use Rattle.model.specs.Lines.{Entry, Key, actions, actionsLine, automata, autom
 use Rattle.model.specs.Predicate.{Pred, Word, addWord, allOf, anyOf, eqWord, ifWord, impWord, leWord, mulWord, newWord, notWord, numWord, oldWord, stray, subWord, words}
 use Rattle.format.specs.Bytes.{Bytes}
 use Rattle.format.specs.Number.{decimal, signed}
-use Rattle.format.specs.Spelling.{spelled, spelledNode, spelling, textOfList, textOfPred, textOfTree, valueText, writesKey}
+use Rattle.format.specs.Spelling.{noneWord, ownerKey, spelled, spelledNode, spelling, textOfList, textOfOwner, textOfPred, textOfTree, valueText, writesKey}
 use Rattle.format.proofs.BytesLaws.{Each, Free, each-append, each-map, joined-each}
 use Rattle.format.proofs.NumberLaws.{decimal-small, decimal-step, split}
 
@@ -125,7 +126,7 @@ unfolding valueText
 value-span (formatLine n) = decimal-span 32 126 n (omega arith) (omega arith)
 value-span (actionsLine n) = decimal-span 32 126 n (omega arith) (omega arith)
 value-span (variablesLine n) = decimal-span 32 126 n (omega arith) (omega arith)
-value-span (variableLine x) =
+value-span (variableLine x o) =
     joined-each (λ b. (32 ≤ b) × (b ≤ 126)) 44 (signed (x .low) ∷ signed (x .high) ∷ []) (omega arith)
     (signed-span 32 126 (x .low) (omega arith) (omega arith), (signed-span 32 126 (x .high) (omega arith) (omega arith), tt))
 value-span (automataLine n) = decimal-span 32 126 n (omega arith) (omega arith)
@@ -166,3 +167,16 @@ line-span e = each-append (λ b. (32 ≤ b) × (b ≤ 126)) (spelling (keyOf e))
 pub writes-span : (list : List ℕ) → Span 32 126 (writesKey ++ textOfList list)
 unfolding writesKey
 writes-span list = each-append (λ b. (32 ≤ b) × (b ≤ 126)) writesKey (textOfList list) (omega arith) (list-span 32 126 list (omega arith) (omega arith))
+
+-- the line `owner=`
+owner-text-span : (a b : ℕ) (o : Option ℕ) → a ≤ 48 → 111 ≤ b → Span a b (textOfOwner o)
+unfolding textOfOwner noneWord
+owner-text-span a b none h k = omega arith
+owner-text-span a b (some n) h k = decimal-span a b n h (omega arith)
+
+pub owner-free : (o : Option ℕ) → Free 44 (textOfOwner o)
+owner-free o = span-free 45 126 44 (textOfOwner o) (omega arith) (owner-text-span 45 126 o (omega arith) (omega arith))
+
+pub owner-span : (o : Option ℕ) → Span 32 126 (ownerKey ++ textOfOwner o)
+unfolding ownerKey
+owner-span o = each-append (λ b. (32 ≤ b) × (b ≤ 126)) ownerKey (textOfOwner o) (omega arith) (owner-text-span 32 126 o (omega arith) (omega arith))

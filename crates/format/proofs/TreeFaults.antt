@@ -22,7 +22,7 @@ use Rattle.model.proofs.Decode.{not-broken}
 use Rattle.model.proofs.Lists.{flat-append}
 use Rattle.format.specs.Bytes.{'a, Bytes, bytes, comma, joined, ledBy}
 use Rattle.format.specs.Number.{decimal, digit, within}
-use Rattle.format.specs.Rows.{fault, field, fields, hasPred, is, numbersSound, place, row10, row11, row12, row13, row14, row15, row16, row2, row3, row4, row5, row6, row7, row8, row9, theTree, treeTokens, startsOf, theStarts, nodesIn, treeOf, valueOf}
+use Rattle.format.specs.Rows.{fault, field, fields, hasPred, is, numbersSound, place, row10, row11, row12, row13, row14, row15, row16, row50, row2, row3, row4, row5, row6, row7, row8, row9, theTree, treeTokens, startsOf, theStarts, nodesIn, treeOf, valueOf}
 use Rattle.format.specs.Spelling.{spelled, spelledNode, spelling, textOfList, textOfTree, valueText}
 use Rattle.format.specs.Tokens.{Numeral, bare, items, lettered, listsSound, lastAfter, listSound, node, numeral, readNodes, sound, sounds, synOf, tokens, unjudged}
 use Rattle.format.proofs.BytesLaws.{Each, Free, each-append}
@@ -353,7 +353,7 @@ module _ (r : Reading) where
   from-3 c false h = refl
 
   pub compose-fault : (c : Tree) → fault r compose (lineOf (composeLine c)) ≡ faultOf r (composeLine c)
-  unfolding fault faultOf numbersInRange row3 row4 row5 row6 row7 row8 row9 row10 row11 row12 row13 row14 row15 row16 is place hasPred broken keyOf numbersSound field fields valueOf valueText treeOf treeTokens nodesIn startsOf theStarts theTree
+  unfolding fault faultOf numbersInRange row3 row4 row5 row6 row7 row8 row9 row10 row11 row12 row13 row14 row15 row16 row50 is place hasPred broken keyOf numbersSound field fields valueOf valueText treeOf treeTokens nodesIn startsOf theStarts theTree
   compose-fault c =
       not-broken 2 (row2 compose (lineOf (composeLine c))) _ (row2-of (composeLine c)) ∙
       ap (λ (s : Bytes). broken 3 (not (sounds [] (tokens s))) (rowsFrom5 s)) (dropped (spelling compose) (textOfTree c)) ∙

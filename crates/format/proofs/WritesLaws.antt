@@ -10,7 +10,7 @@ use lib.IntN.{pos}
 use lib.ListN.{length, drop}
 use Rattle.model.specs.Basic.{every, exists, same}
 use Rattle.model.specs.Bounds.{lastVariable}
-use Rattle.model.specs.Limits.{ascends, broken, variableCount}
+use Rattle.model.specs.Limits.{ascends, broken, isForeign, variableCount}
 use Rattle.model.specs.Lines.{Reading}
 use Rattle.model.proofs.Decode.{unbroken}
 use Rattle.model.proofs.Lists.{same-of, same-self}
@@ -18,7 +18,7 @@ use Rattle.format.specs.Bytes.{Bytes, begins}
 use Rattle.format.specs.Number.{naturalOf, within}
 use Rattle.format.specs.Rows.{Line, listItems, printable}
 use Rattle.format.specs.Spelling.{textOfList, writesKey}
-use Rattle.format.specs.Writes.{row44, writesFault, writesItems, writesList, writesRow2, writesRow3, writesRow5, writesRow7}
+use Rattle.format.specs.Writes.{row44, row51, writesFault, writesItems, writesList, writesRow2, writesRow3, writesRow5, writesRow7}
 use Rattle.format.proofs.EntryLines.{dropped, items-back, list-back}
 use Rattle.format.proofs.FaultLaws.{begins-self, every-decimal, print-every}
 use Rattle.format.proofs.LineLaws.{begins-inv, list-text, neither, writesLine}
@@ -33,22 +33,32 @@ writes-formed l h =
     (not-false _ (a .0), not-false _ (b .1))
 
 -- a line that breaks no row is the line of the list that is due
-pub writes-written : (r : Reading) (due : List ℕ) (l : Line) → writesFault r due l ≡ none → l ≡ writesLine due
-unfolding writesFault writesRow3 row44 writesItems writesList
-writes-written r due l h =
-    let b2 = unbroken 2 (writesRow2 l) _ h in
-    let b3 = unbroken 3 (writesRow3 l) _ (b2 .1) in
-    let b5 = unbroken 5 (writesRow5 l) _ (b3 .1) in
-    let b7 = unbroken 7 (writesRow7 r l) _ (b5 .1) in
-    let b44 = unbroken 44 (row44 due l) none (b7 .1) in
-    let f = writes-formed l (b2 .0) in
-    let value = drop (length writesKey) (l .bytes) in
-    let list : map naturalOf (listItems value) ≡ due = same-of _ due (not-false _ (b44 .0)) in
-    let w : l .bytes ≡ writesKey ++ textOfList due =
-    begins-inv writesKey (l .bytes) (f .0) ∙ ap (λ v. writesKey ++ v) (list-text lastVariable value (not-false _ (b3 .0)) ∙ ap textOfList list) in
-    ap (λ (b : Bool). record { bytes = l .bytes; ended = b }) (f .1) ∙ ap (λ (s : Bytes). record { bytes = s; ended = true }) w
+module _ (r : Reading) (due : List ℕ) (l : Line) (h : writesFault r due l ≡ none) where
+  clear : (writesRow2 l ≡ false) × (writesRow3 l ≡ false) × (writesList l ≡ due) × (isForeign r (writesList l) ≡ false)
+  unfolding writesFault row44 row51
+  clear =
+      let b2 = unbroken 2 (writesRow2 l) _ h in
+      let b3 = unbroken 3 (writesRow3 l) _ (b2 .1) in
+      let b5 = unbroken 5 (writesRow5 l) _ (b3 .1) in
+      let b7 = unbroken 7 (writesRow7 r l) _ (b5 .1) in
+      let b44 = unbroken 44 (row44 due l) _ (b7 .1) in
+      let b51 = unbroken 51 (row51 r l) none (b44 .1) in
+      (b2 .0, b3 .0, same-of _ due (not-false _ (b44 .0)), b51 .0)
 
--- and the line of a rising list of the model's variables breaks none
+  pub writes-written : l ≡ writesLine due
+  unfolding writesRow3 writesItems writesList
+  writes-written =
+      let f = writes-formed l (clear .0) in
+      let value = drop (length writesKey) (l .bytes) in
+      let w : l .bytes ≡ writesKey ++ textOfList due =
+      begins-inv writesKey (l .bytes) (f .0) ∙ ap (λ v. writesKey ++ v) (list-text lastVariable value (not-false _ (clear .1)) ∙ ap textOfList (clear .2)) in
+      ap (λ (b : Bool). record { bytes = l .bytes; ended = b }) (f .1) ∙ ap (λ (s : Bytes). record { bytes = s; ended = true }) w
+
+  -- and the automaton owns what is in the list
+  pub writes-owned : isForeign r due ≡ false
+  writes-owned = ap (isForeign r) (sym (clear .2)) ∙ clear .3
+
+-- and the line of a rising list of the model's variables, which the automaton owns, breaks none
 module _ (r : Reading) (due : List ℕ) where
   formed : writesRow2 (writesLine due) ≡ false
   unfolding writesRow2
@@ -62,10 +72,10 @@ module _ (r : Reading) (due : List ℕ) where
   unfolding writesList
   list-is = ap (map naturalOf) items ∙ list-back due
 
-  pub writes-fault : ascends 0 due ≡ true → every (λ k. leb k lastVariable) due ≡ true → exists (λ k. leb (variableCount r) k) due ≡ false
+  pub writes-fault : ascends 0 due ≡ true → every (λ k. leb k lastVariable) due ≡ true → exists (λ k. leb (variableCount r) k) due ≡ false → isForeign r due ≡ false
       → writesFault r due (writesLine due) ≡ none
-  unfolding writesFault writesRow3 writesRow5 writesRow7 row44 broken
-  writes-fault up ranged inside =
+  unfolding writesFault writesRow3 writesRow5 writesRow7 row44 row51 broken
+  writes-fault up ranged inside own =
       let sound : every (within (pos 0) (pos lastVariable)) (writesItems (writesLine due)) ≡ true =
       ap (every (within (pos 0) (pos lastVariable))) (items ∙ items-back due) ∙ every-decimal lastVariable due ∙ ranged in
-      rw (formed, sound, list-is, up, inside, same-self due)
+      rw (formed, sound, list-is, up, inside, same-self due, own)

@@ -4,6 +4,7 @@ pub mod Tokens
 pub mod Spelling
 pub mod Rows
 pub mod Writes
+pub mod Owners
 pub mod Refused
 pub mod Reader
 pub mod Writer

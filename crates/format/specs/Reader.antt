@@ -8,12 +8,13 @@ use lib.ListN.{length, take, drop}
 use lib.Dec.{eqb, ltb}
 use Rattle.model.specs.Bounds.{maxBytes, tableWords}
 use Rattle.model.specs.Model.{Model}
-use Rattle.model.specs.Lines.{Key, dueAtFirst, thenDue, Reading, atFirst, noted}
+use Rattle.model.specs.Lines.{Key, dueAtFirst, thenDue, Reading, atFirst, withOwner, noted}
 use Rattle.model.specs.Table.{tableOf, row18}
 use Rattle.format.specs.Bytes.{Bytes, LF}
-use Rattle.format.specs.Spelling.{listBehind}
+use Rattle.format.specs.Spelling.{Behind, nothing, owner, list, behind}
 use Rattle.format.specs.Rows.{Line, fault, entry}
 use Rattle.format.specs.Writes.{writesFault}
+use Rattle.format.specs.Owners.{ownerFault, theOwner}
 
 -- the lines of a text; a last one without its LF is one too
 unfoldable pub ontoLine : ℕ → List Line → List Line
@@ -31,20 +32,23 @@ pub data ReadAnswer : Type 0 where
   refused : (row line : ℕ) → ReadAnswer
   accepted : Model → ReadAnswer
 
--- the lines from number n on against what is due: the list behind the entry before, if there is one, and then the keys;
--- too few lines, or too many, are row 2 at the place where it shows
-unfoldable pub read : (list : Option (List ℕ)) → Reading → List Key → ℕ → List Line → ReadAnswer
-read (some list) r ks n [] = refused 2 n
-read (some list) r ks n (l ∷ ls) =
-    elim (writesFault r list l) [ some row ↦ refused row n | none ↦ read none r ks (suc n) ls ]
-read none r [] n [] = accepted (r .model)
-read none r [] n (l ∷ ls) = refused 2 n
-read none r (k ∷ ks) n [] = refused 2 n
-read none r (k ∷ ks) n (l ∷ ls) =
+-- the lines from number n on against what is due: what stands behind the entry before, if something does, and then the
+-- keys; too few lines, or too many, are row 2 at the place where it shows
+unfoldable pub read : Behind → Reading → List Key → ℕ → List Line → ReadAnswer
+read (list vs) r ks n [] = refused 2 n
+read (list vs) r ks n (l ∷ ls) =
+    elim (writesFault r vs l) [ some row ↦ refused row n | none ↦ read nothing r ks (suc n) ls ]
+read owner r ks n [] = refused 2 n
+read owner r ks n (l ∷ ls) =
+    elim (ownerFault l) [ some row ↦ refused row n | none ↦ read nothing (withOwner r (theOwner l)) ks (suc n) ls ]
+read nothing r [] n [] = accepted (r .model)
+read nothing r [] n (l ∷ ls) = refused 2 n
+read nothing r (k ∷ ks) n [] = refused 2 n
+read nothing r (k ∷ ks) n (l ∷ ls) =
     elim (fault r k l) [
       | some row ↦ refused row n
       | none ↦
-          read (listBehind (r .model .format) (entry k l)) (noted r (entry k l))
+          read (behind (r .model .format) (entry k l)) (noted r (entry k l))
           (thenDue (r .model .format) (entry k l) ++ ks) (suc n) ls
     ]
 
@@ -57,7 +61,7 @@ unfoldable pub readAnswer : Bytes → (table : ℕ) → ReadAnswer
 readAnswer text table =
     elim (row18 table) [
       | true ↦ refused 18 0
-      | false ↦ elim (row1 text) [ true ↦ refused 1 0 | false ↦ read none atFirst dueAtFirst 1 (linesOf text) ]
+      | false ↦ elim (row1 text) [ true ↦ refused 1 0 | false ↦ read nothing atFirst dueAtFirst 1 (linesOf text) ]
     ]
 
 -- the lent table afterwards: the model's table and its old rest, or, after a refusal, as it was

@@ -1,5 +1,5 @@
--- "Refused", rows 2 to 16 as a line of the text breaks them: `true` is broken. A row decides only where no smaller row
--- is broken, so it may take for granted that none is: what it says of other lines plays no part.
+-- "Refused", rows 2 to 16 and 50 as a line of the text breaks them: `true` is broken. A row decides only where no
+-- smaller row is broken, so it may take for granted that none is: what it says of other lines plays no part.
 use Prim.Native.Nat.{ℕ, _+_}
 use mathlib.Core.Bool.{Bool, true, false, not, _&&_, _||_}
 use mathlib.Core.List.{List, [], _∷_, map, flatMap}
@@ -18,7 +18,7 @@ use Rattle.model.specs.Lines.{Key, Entry, format, actions, variables, variable,
 use Rattle.model.specs.Lines.{edges, edge, compose, formatLine, actionsLine, variablesLine, variableLine, automataLine}
 use Rattle.model.specs.Lines.{syncLine, locationsLine, initLine, invLine, edgesLine, edgeLine, composeLine, Reading}
 use Rattle.model.specs.Limits.{rises, isCrossed, isTooDeep, exceedsSpan, passesNodes, isAstray, isDisordered}
-use Rattle.model.specs.Limits.{isTooLarge, passesEdges, variableCount, broken}
+use Rattle.model.specs.Limits.{isTooLarge, passesEdges, isBeyond, variableCount, broken}
 use Rattle.format.specs.Bytes.{Bytes, begins, parts, comma}
 use Rattle.format.specs.Number.{within, naturalOf, integerOf}
 use Rattle.format.specs.Tokens.{tokens, sounds, listsSound, readWords, readNodes, startsIn, outside}
@@ -205,6 +205,10 @@ row15 r k l = is k edges && passesEdges r (naturalOf (field 0 k l))
 unfoldable pub row16 : Key → Line → Bool
 row16 k l = is k compose && isTooLarge (length (nodesIn l))
 
+-- Row 50: is a variable's owner none of the automata?
+unfoldable pub row50 : Reading → Key → Line → Bool
+row50 r k l = is k automata && exists (isBeyond (naturalOf (field 0 k l))) (r .model .owners)
+
 -- the smallest row that a line breaks
 unfoldable pub fault : Reading → Key → Line → Option ℕ
 fault r k l =
@@ -223,14 +227,15 @@ fault r k l =
     (broken 14 (row14 r k l)
     (broken 15 (row15 r k l)
     (broken 16 (row16 k l)
-    none))))))))))))))
+    (broken 50 (row50 r k l)
+    none)))))))))))))))
 
--- what a line that breaks none says
+-- what a line that breaks none says; who owns a variable is said behind its line, if it is
 unfoldable pub entry : Key → Line → Entry
 entry format l = formatLine (naturalOf (field 0 format l))
 entry actions l = actionsLine (naturalOf (field 0 actions l))
 entry variables l = variablesLine (naturalOf (field 0 variables l))
-entry variable l = variableLine (theRange l)
+entry variable l = variableLine (theRange l) none
 entry automata l = automataLine (naturalOf (field 0 automata l))
 entry sync l = syncLine (syncList l)
 entry locations l = locationsLine (naturalOf (field 0 locations l))

@@ -4,7 +4,7 @@ use mathlib.Core.Bool.{true, false}
 use mathlib.Core.List.{List, [], _∷_, _++_, map, flatMap}
 use mathlib.Core.Option.{Option, none, some}
 use lib.Dec.{leb}
-use Rattle.model.specs.Bounds.{writesFormat}
+use Rattle.model.specs.Bounds.{writesFormat, ownersFormat}
 use Rattle.model.specs.Predicate.{Pred, Range, Word, words, allOf, anyOf, notWord, impWord, eqWord, leWord, numWord}
 use Rattle.model.specs.Predicate.{oldWord, newWord, addWord, subWord, mulWord, ifWord, stray, written}
 use Rattle.model.specs.Composition.{Tree, Node, nodes, parNode, synNode, iniNode, leafNode, strayNode}
@@ -31,9 +31,17 @@ spelling edges = bytes "edges="
 spelling edge = bytes "edge="
 spelling compose = bytes "compose="
 
--- the key of the line that says what the edge before it writes (request (f))
+-- the keys of the lines behind another: what the edge before it writes (request (f)), and who owns the variable before
+-- it (request (k))
 unfoldable pub writesKey : Bytes
 writesKey = bytes "writes="
+
+unfoldable pub ownerKey : Bytes
+ownerKey = bytes "owner="
+
+-- nobody
+unfoldable pub noneWord : Bytes
+noneWord = bytes "none"
 
 -- the tokens of a word
 unfoldable pub spelled : Word → List Bytes
@@ -58,6 +66,10 @@ textOfPred p = joined space (flatMap spelled (words p))
 unfoldable pub textOfList : List ℕ → Bytes
 textOfList list = joined comma (map decimal list)
 
+unfoldable pub textOfOwner : Option ℕ → Bytes
+textOfOwner none = noneWord
+textOfOwner (some k) = decimal k
+
 unfoldable pub spelledNode : Node → List Bytes
 spelledNode parNode = bytes "par" ∷ []
 spelledNode (synNode list) = bytes "syn" ∷ textOfList list ∷ []
@@ -72,7 +84,7 @@ unfoldable pub valueText : Entry → Bytes
 valueText (formatLine n) = decimal n
 valueText (actionsLine n) = decimal n
 valueText (variablesLine n) = decimal n
-valueText (variableLine x) = joined comma (signed (x .low) ∷ signed (x .high) ∷ [])
+valueText (variableLine x o) = joined comma (signed (x .low) ∷ signed (x .high) ∷ [])
 valueText (automataLine n) = decimal n
 valueText (syncLine list) = textOfList list
 valueText (locationsLine n) = decimal n
@@ -87,28 +99,49 @@ valueText (composeLine c) = textOfTree c
 unfoldable pub lineText : Entry → Bytes
 lineText e = spelling (keyOf e) ++ (valueText e ++ LF ∷ [])
 
--- The list behind an entry: from format 2 on, an edge is followed by the variables whose new value it mentions.
-unfoldable pub listBehind : (format : ℕ) → Entry → Option (List ℕ)
-listBehind f (formatLine n) = none
-listBehind f (actionsLine n) = none
-listBehind f (variablesLine n) = none
-listBehind f (variableLine x) = none
-listBehind f (automataLine n) = none
-listBehind f (syncLine list) = none
-listBehind f (locationsLine n) = none
-listBehind f (initLine p) = none
-listBehind f (invLine p) = none
-listBehind f (edgesLine n) = none
-listBehind f (edgeLine e) = elim (leb writesFormat f) [ true ↦ some (written (e .update)) | false ↦ none ]
-listBehind f (composeLine c) = none
+-- What stands on a line of its own behind an entry's: from format 3 on the owner of a variable, and from format 2 on
+-- the list of the variables whose new value an edge mentions.
+pub data Behind : Type 0 where
+  nothing owner : Behind
+  list : List ℕ → Behind
 
-unfoldable pub listText : Option (List ℕ) → Bytes
-listText none = []
-listText (some list) = writesKey ++ (textOfList list ++ LF ∷ [])
+unfoldable pub behind : (format : ℕ) → Entry → Behind
+behind f (formatLine n) = nothing
+behind f (actionsLine n) = nothing
+behind f (variablesLine n) = nothing
+behind f (variableLine x o) = elim (leb ownersFormat f) [ true ↦ owner | false ↦ nothing ]
+behind f (automataLine n) = nothing
+behind f (syncLine l) = nothing
+behind f (locationsLine n) = nothing
+behind f (initLine p) = nothing
+behind f (invLine p) = nothing
+behind f (edgesLine n) = nothing
+behind f (edgeLine e) = elim (leb writesFormat f) [ true ↦ list (written (e .update)) | false ↦ nothing ]
+behind f (composeLine c) = nothing
 
--- an entry: its line, and its list, if it has one
+-- the owner that an entry says
+unfoldable pub ownerSaid : Entry → Option ℕ
+ownerSaid (formatLine n) = none
+ownerSaid (actionsLine n) = none
+ownerSaid (variablesLine n) = none
+ownerSaid (variableLine x o) = o
+ownerSaid (automataLine n) = none
+ownerSaid (syncLine l) = none
+ownerSaid (locationsLine n) = none
+ownerSaid (initLine p) = none
+ownerSaid (invLine p) = none
+ownerSaid (edgesLine n) = none
+ownerSaid (edgeLine e) = none
+ownerSaid (composeLine c) = none
+
+unfoldable pub behindText : Behind → Entry → Bytes
+behindText nothing e = []
+behindText owner e = ownerKey ++ (textOfOwner (ownerSaid e) ++ LF ∷ [])
+behindText (list l) e = writesKey ++ (textOfList l ++ LF ∷ [])
+
+-- an entry: its line, and the line behind it, if it has one
 unfoldable pub entryText : (format : ℕ) → Entry → Bytes
-entryText f e = lineText e ++ listText (listBehind f e)
+entryText f e = lineText e ++ behindText (behind f e) e
 
 unfoldable pub textOf : Model → Bytes
 textOf m = flatMap (entryText (m .format)) (lines m)

@@ -1,5 +1,5 @@
--- Rows 2, 3, 5, 7 and 44 as the line `writes=` after an edge breaks them (request (f)): `true` is broken. As in Rows, a
--- row may take for granted that no smaller one is.
+-- Rows 2, 3, 5, 7, 44 and 51 as the line `writes=` after an edge breaks them (request (f)): `true` is broken. As in
+-- Rows, a row may take for granted that no smaller one is.
 use Prim.Native.Nat.{ℕ}
 use mathlib.Core.Bool.{Bool, not, _||_}
 use mathlib.Core.List.{List, map}
@@ -10,7 +10,7 @@ use lib.Dec.{leb}
 use Rattle.model.specs.Basic.{every, exists, same}
 use Rattle.model.specs.Bounds.{lastVariable}
 use Rattle.model.specs.Lines.{Reading}
-use Rattle.model.specs.Limits.{ascends, variableCount, broken}
+use Rattle.model.specs.Limits.{ascends, variableCount, isForeign, broken}
 use Rattle.format.specs.Bytes.{Bytes, begins}
 use Rattle.format.specs.Number.{within, naturalOf}
 use Rattle.format.specs.Spelling.{writesKey}
@@ -43,6 +43,10 @@ writesRow7 r l = exists (λ k. leb (variableCount r) k) (writesList l)
 unfoldable pub row44 : (due : List ℕ) → Line → Bool
 row44 due l = not (same (writesList l) due)
 
+-- Row 51: from format 3 on, does the automaton own what the edge writes (request (k))?
+unfoldable pub row51 : Reading → Line → Bool
+row51 r l = isForeign r (writesList l)
+
 -- the smallest row that the line breaks
 unfoldable pub writesFault : Reading → (due : List ℕ) → Line → Option ℕ
 writesFault r due l =
@@ -51,4 +55,5 @@ writesFault r due l =
     (broken 5 (writesRow5 l)
     (broken 7 (writesRow7 r l)
     (broken 44 (row44 due l)
-    none))))
+    (broken 51 (row51 r l)
+    none)))))

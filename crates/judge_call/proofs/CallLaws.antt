@@ -1,6 +1,6 @@
 -- The judges' calls: the code's answer over any table is the definitions'.
 use mathlib.Core.Path.{_≡_, refl, sym, ap, _∙_}
-use mathlib.Core.Bool.{or-self, Bool, true, false, not, cond, _||_}
+use mathlib.Core.Bool.{or-self, Bool, true, false, not, cond, _&&_, _||_}
 use mathlib.Core.List.{List}
 use mathlib.Core.Option.{none, some}
 use Prim.Native.Nat.{ℕ}
@@ -26,11 +26,13 @@ use Rattle.judge_rows.specs.Phases.{phaseIs}
 use Rattle.judge_rows.specs.States.{stateOf}
 use Rattle.judge_rows.specs.RowTests.{lengthsFit, locationsKnown, valuesKnown}
 use Rattle.judge_settled.specs.Settled.{settledAt}
+use Rattle.judge_call.specs.Owners.{ownedKeepAt}
 use Rattle.judge_rows.specs.Checks.{listsChecked, thenLists, thenPhase, admittedOn}
 use Rattle.judge_call.specs.Calls.{thenRules, thenAnswer, environmentBy, environmentIn, environmentOn, environmentAt}
 use Rattle.judge_rows.proofs.RowLaws.{lengths-row, locations-row, values-row}
 use Rattle.judge_rows.proofs.StateLaws.{stands, phase-read, Pass, shows-old, shows-new}
 use Rattle.judge_settled.proofs.SettledLaws.{settled-is}
+use Rattle.judge_call.proofs.OwnerLaws.{owned-keep-is}
 
 -- what rows 21 to 23 say of two states of a model, before `last`
 unfoldable pub listRows : Model → (u u' : R.State) → J.Answer → J.Answer
@@ -93,26 +95,32 @@ module _ (t : List ℕ) (phase : ℕ) (l : List ℕ) (v v' : List ℤ) where
   pub environment-exact : answerOf (environmentAt t phase l v v') ≡ J.environmentAnswer t phase l v v'
   unfolding environmentAt environmentOn J.environmentAnswer
   environment-exact =
-      call-exact t phase l v l v' (environmentIn t (layoutOf t) l v v') (λ m s. J.judgeEnvironment m s v') (λ m q. cond (J.settled m (stands q l v) (stands Running l v')) J.yes J.no)
+      call-exact t phase l v l v' (environmentIn t (layoutOf t) l v v') (λ m s. J.judgeEnvironment m s v') (λ m q. cond (J.environmentHolds m (stands q l v) (stands Running l v')) J.yes J.no)
       rows passed
     where
-      rows : (m : Model) (q : Phase) → J.judgeEnvironment m (stands q l v) v' ≡ listRows m (stands q l v) (stands Running l v') (cond (J.settled m (stands q l v) (stands Running l v')) J.yes J.no)
+      rows : (m : Model) (q : Phase) → J.judgeEnvironment m (stands q l v) v' ≡ listRows m (stands q l v) (stands Running l v') (cond (J.environmentHolds m (stands q l v) (stands Running l v')) J.yes J.no)
       rows m q =
           unfold J.judgeEnvironment listRows phaseIs J.row22 in
           let u = stands q l v in
           let u' = stands Running l v' in
-          ap (λ (b : Bool). cond (J.row21 m u || J.row21 m u') (J.refused 21) (cond b (J.refused 22) (cond (J.row23 m u || J.row23 m u') (J.refused 23) (cond (J.settled m u u') J.yes J.no))))
+          ap (λ (b : Bool). cond (J.row21 m u || J.row21 m u') (J.refused 21) (cond b (J.refused 22) (cond (J.row23 m u || J.row23 m u') (J.refused 23) (cond (J.environmentHolds m u u') J.yes J.no))))
           (sym (or-self (J.row22 m u)))
 
-      ends : (b c : Bool) → b ≡ c → answerOf (elim b [ true ↦ Yes | false ↦ No ]) ≡ cond c J.yes J.no
-      ends true c e = unfold answerOf in rw (← e)
-      ends false c e = unfold answerOf in rw (← e)
+      ends : (a b : Bool) → answerOf (elim a [ false ↦ No | true ↦ elim b [ true ↦ Yes | false ↦ No ] ]) ≡ cond (a && b) J.yes J.no
+      ends true true = unfold answerOf in refl
+      ends true false = unfold answerOf in refl
+      ends false b = unfold answerOf in refl
 
-      passed : (m : Model) → Sheet t m → (q : Phase) → Pass m (stands q l v) (stands Running l v') → answerOf (environmentIn t (layoutOf t) l v v' q) ≡ cond (J.settled m (stands q l v) (stands Running l v')) J.yes J.no
+      passed : (m : Model) → Sheet t m → (q : Phase) → Pass m (stands q l v) (stands Running l v') → answerOf (environmentIn t (layoutOf t) l v v' q) ≡ cond (J.environmentHolds m (stands q l v) (stands Running l v')) J.yes J.no
       passed m sheet q p =
-          let e = settled-is m (sheet .lawful) t (sheet .rest) (sheet .stands) (stateOf q l v) (stateOf Running l v') (stands q l v) (stands Running l v')
-          (shows-old m (sheet .lawful) q Running l v l v' p) (shows-new m (sheet .lawful) q Running l v l v' p) in
-          unfold environmentBy in ends (settledAt t (layoutOf t) (stateOf q l v) (stateOf Running l v')) _ e
+          unfold environmentBy J.environmentHolds in
+          let s = stateOf q l v in
+          let s' = stateOf Running l v' in
+          let old = shows-old m (sheet .lawful) q Running l v l v' p in
+          let new = shows-new m (sheet .lawful) q Running l v l v' p in
+          let e = settled-is m (sheet .lawful) t (sheet .rest) (sheet .stands) s s' (stands q l v) (stands Running l v') old new in
+          let f = owned-keep-is m (sheet .lawful) t (sheet .rest) (sheet .stands) s s' (stands q l v) (stands Running l v') old new in
+          ends (settledAt t (layoutOf t) s s') (ownedKeepAt t (layoutOf t) s s') ∙ rw (e, f)
 
   -- and over any
   module _ (x : Checked) (e : x ≡ answered (openTable t)) where

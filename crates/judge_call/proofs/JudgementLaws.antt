@@ -19,20 +19,31 @@ use Rattle.judge_rows.specs.States.{stateOf}
 use Rattle.judge_rows.specs.RowTests.{phaseRead, actionKnown}
 use Rattle.judge_settled.specs.Settled.{settledAt}
 use Rattle.judge_call.specs.Taken.{takenAt, markAt}
+use Rattle.judge_call.specs.Owners.{ownedKeepAt}
 use Rattle.judge_rows.specs.Checks.{stateChecked, valuesChecked, thenLists, thenPhase, admittedOn}
 use Rattle.judge_call.specs.Calls.{thenRules, thenAnswer, environmentBy, environmentOn, environmentFrom, stepBy, stepOn, stepFrom}
 use Rattle.judge_rows.proofs.KnownLaws.{Known, lists-new, still-new}
 
 module _ (w : List ℕ) (x : Layout) where
   -- `environment_by`
-  module _ (s s' : State) (r : Bool) (e : r ≡ settledAt w x s s') where
-    pub environment-yes : r ≡ true → Yes ≡ environmentBy w x s s'
+  module _ (s s' : State) (b : Bool) (e : b ≡ settledAt w x s s') where
+    pub environment-unsettled : not b ≡ true → No ≡ environmentBy w x s s'
     unfolding environmentBy
-    environment-yes f = rw (sym e ∙ f, environmentBy)
+    environment-unsettled f =
+        let unsettled : settledAt w x s s' ≡ false = sym e ∙ not-true b f in
+        rw (unsettled, environmentBy)
 
-    pub environment-no : r ≡ false → No ≡ environmentBy w x s s'
-    unfolding environmentBy
-    environment-no f = rw (sym e ∙ f, environmentBy)
+    module _ (f : not b ≡ false) (r : Bool) (g : r ≡ ownedKeepAt w x s s') where
+      still-settled : settledAt w x s s' ≡ true
+      still-settled = sym e ∙ not-false b f
+
+      pub environment-yes : r ≡ true → Yes ≡ environmentBy w x s s'
+      unfolding environmentBy
+      environment-yes h = rw (still-settled, environmentBy, sym g ∙ h, environmentBy)
+
+      pub environment-no : r ≡ false → No ≡ environmentBy w x s s'
+      unfolding environmentBy
+      environment-no h = rw (still-settled, environmentBy, sym g ∙ h, environmentBy)
 
   -- `environment_on`
   module _ (phase : ℕ) (l : List ℕ) (v v' : List ℤ) (y : Admitted) (e : y ≡ admittedOn w x phase l v l v') where
@@ -111,7 +122,7 @@ module _ (w : List ℕ) (x : Layout) where
       unfolding stepFrom thenAnswer
       step-judged f r g = rw (sym e ∙ f) g
 
-pub ruleset environment-by-laws = (environment-yes, environment-no)
+pub ruleset environment-by-laws = (environment-unsettled, environment-yes, environment-no)
 
 pub ruleset environment-on-laws = (environment-out, environment-in)
 

@@ -91,7 +91,7 @@ module _ (t : List ℕ) (phase : ℕ) (l : List ℕ) (v : List ℤ) where
       fits-cond (J.row21 m s || J.row21 m (R.changed s v')) (record { below = lit< tt })
       (fits-cond (J.row22 m s) (record { below = lit< tt })
       (fits-cond (J.row23 m s || J.row23 m (R.changed s v')) (record { below = lit< tt })
-      (fits-cond (J.settled m s (R.changed s v')) (record { below = lit< tt }) (record { below = lit< tt })))))
+      (fits-cond (J.environmentHolds m s (R.changed s v')) (record { below = lit< tt }) (record { below = lit< tt })))))
 
   pub step-fits : (a : ℕ) (l' : List ℕ) (v' : List ℤ) → Fits (J.stepAnswer t phase l v a l' v')
   unfolding J.stepAnswer J.judgeTo answerNumber

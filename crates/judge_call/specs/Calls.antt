@@ -22,6 +22,7 @@ use Rattle.judge_rows.specs.RowTests.{actionKnown}
 use Rattle.judge_rows.specs.Checks.{stateChecked, valuesChecked, admittedOn}
 use Rattle.judge_settled.specs.Settled.{settledAt}
 use Rattle.judge_call.specs.Taken.{takenAt, markAt}
+use Rattle.judge_call.specs.Owners.{ownedKeepAt}
 
 -- the refusal, or what the rules answer in the phase
 unfoldable pub thenRules : Admitted → (Phase → Answer) → Answer
@@ -34,9 +35,13 @@ thenAnswer (C.Refused row) answer = Refused row
 thenAnswer C.Good answer = answer
 
 module _ (words : List ℕ) (x : Layout) where
-  -- the environment judge, from state s to state t: every automaton is still
+  -- the environment judge, from state s to state t: every automaton is still, and what one owns keeps its value
   unfoldable pub environmentBy : (s t : State) → Answer
-  environmentBy s t = elim (settledAt words x s t) [ true ↦ Yes | false ↦ No ]
+  environmentBy s t =
+      elim (settledAt words x s t) [
+        | false ↦ No
+        | true ↦ elim (ownedKeepAt words x s t) [ true ↦ Yes | false ↦ No ]
+      ]
 
   abbrev pub environmentIn : (locations : List ℕ) (values newValues : List ℤ) → Phase → Answer
   environmentIn locations values newValues phase =

@@ -1,3 +1,4 @@
 pub mod Answers
 pub mod Taken
+pub mod Owners
 pub mod Calls

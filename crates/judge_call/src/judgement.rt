@@ -1,6 +1,7 @@
 // The judgement over a table that is known to be good, by its layout and the automata's own sets, which a caller finds
 // once.
 use crate::Answer;
+use crate::owners::{self};
 use crate::taken::{self};
 use judge_rows::Admitted;
 use judge_rows::Phase;
@@ -15,7 +16,10 @@ ghost use Rattle.judge_call.specs.Calls.{stepBy, stepOn, stepFrom};
 fn environment_by(words: &[u32], x: Layout, s: State, t: State) -> Answer
     ensures { λ r. ⌜ r ≡ environmentBy (now (words .entry)) x s t ⌝ }
 {
-    if judge_settled::settled(words, x, s, t) {
+    if !judge_settled::settled(words, x, s, t) {
+        return Answer::No;
+    }
+    if owners::owned_keep(words, x, s, t) {
         Answer::Yes
     } else {
         Answer::No

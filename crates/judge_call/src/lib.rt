@@ -1,6 +1,7 @@
 // One call of a judge: is a proposed step of the composition allowed? The judges know a checked table, and nothing of
 // how a text spells it.
 mod judgement;
+mod owners;
 mod taken;
 
 pub use judgement::environment_from;

@@ -21,7 +21,8 @@ fn with_bit(set: u64, k: usize, test: bool) -> u64
     set
 }
 
-fn differs(before: &[i32], after: &[i32], k: usize) -> bool
+// Variable k has another value in the one list than in the other.
+pub fn differs(before: &[i32], after: &[i32], k: usize) -> bool
     ensures { λ r. ⌜ r ≡ differs (now (before .entry)) (now (after .entry)) k ⌝ }
 {
     !arithmetic::same(arithmetic::value(before, k), arithmetic::value(after, k))

@@ -4,5 +4,6 @@ mod bits;
 mod edges;
 
 pub use bits::changed;
+pub use bits::differs;
 pub use bits::still;
 pub use edges::gather;

@@ -9,7 +9,7 @@ use lib.Dec.{leb, ltb}
 use borrow.Author.Tests.{leb-true, leb-false, le-ltb, lt-ltb}
 use Rattle.model.specs.Basic.{between, each}
 use Rattle.model.specs.Predicate.{range}
-use Rattle.model.specs.Model.{Model, automaton}
+use Rattle.model.specs.Model.{Model, automaton, ownerOf}
 use Rattle.model.specs.Lawful.{LawfulRange, Lawful}
 use Rattle.model.specs.Table.{sheetWords}
 use Rattle.model.specs.Rules.{State, at}
@@ -60,7 +60,7 @@ module _ (m : Model) (lawful : Lawful m) (t rest : List ℕ) (e : t ≡ sheetWor
       let v = getD (m .variables) k d in
       let stands = range-stands t rest m k d h e in
       let r : LawfulRange v = all-at LawfulRange d zero-alone (m .variables) (lawful .ranges) k in
-      rw (range-low t _ v (rangeAt t k) stands, range-high t _ v (rangeAt t k) stands, number-back (v .low) (r .low), number-back (v .high) (r .high))
+      rw (range-low t _ v (ownerOf m k) (rangeAt t k) stands, range-high t _ v (ownerOf m k) (rangeAt t k) stands, number-back (v .low) (r .low), number-back (v .high) (r .high))
 
   -- row 23
   pub values-row : (s : State) → not (valuesKnown t (layoutOf t) (s .values)) ≡ row23 m s

@@ -3,6 +3,7 @@ use Prim.Native.Nat.{ℕ}
 use mathlib.Core.Path.{_≡_, refl}
 use mathlib.Core.Bool.{Bool, true, false}
 use mathlib.Core.List.{List, [], _∷_, map, flatMap}
+use mathlib.Core.Option.{none}
 use lib.IntN.{ℤ, pos}
 use Rattle.model.specs.Basic.{eqZ, each, every, exists, keep, member, countUp}
 use Rattle.model.specs.Predicate.{range, le, num, new, holds, value, words, wordsOf, named, isNewOf, mentions}
@@ -26,6 +27,7 @@ model automata = record {
   format = 1;
   actions = 1;
   variables = map (λ k. range (pos 0) (pos 1)) (countUp 0 5);
+  owners = map (λ k. none) (countUp 0 5);
   automata = automata;
   tree = par (par (leaf 0) (leaf 1)) (par (leaf 2) (leaf 3));
 }

@@ -3,6 +3,7 @@ use Prim.Native.Nat.{ℕ, zero, suc, _+_, _-_, _≤_, _<_}
 use mathlib.Core.Path.{_≡_, refl, sym, _∙_, ap}
 use mathlib.Core.Bool.{Bool, true, false, cond, true≢false}
 use mathlib.Core.List.{List, [], _∷_, _++_}
+use mathlib.Core.Option.{Option}
 use native.Mathlib.Omega.{arith}
 use borrow.Author.Tests.{le-leb, lt-leb, leb-false}
 use lib.ListN.{length, length-append}
@@ -10,8 +11,9 @@ use lib.Dec.{leb}
 use Rattle.model.specs.Model.{Automaton, Location, edgeTotal}
 use Rattle.model.specs.Predicate.{nodeCount}
 use Rattle.model.specs.Composition.{startNodes}
-use Rattle.model.specs.Lines.{Key as LineKey, Entry, formatLine, actionsLine, variablesLine, variableLine, automataLine, syncLine, locationsLine, initLine, invLine, edgesLine, edgeLine, composeLine, keyOf, Reading, atFirst, lastOf, onLast, addLocation, addEdge, withModel, withAutomata, withPred, withNodes, noted}
+use Rattle.model.specs.Lines.{Key as LineKey, Entry, formatLine, actionsLine, variablesLine, variableLine, automataLine, syncLine, locationsLine, initLine, invLine, edgesLine, edgeLine, composeLine, keyOf, Reading, atFirst, lastOf, onLast, addLocation, addEdge, withModel, withAutomata, withPred, withNodes, withOwner, noted}
 use Rattle.model.specs.Limits.{variableCount, locationCount}
+use Rattle.model.proofs.LinesLaws.{length-on-last}
 use Rattle.model.proofs.LimitsLaws.{last-is}
 use Rattle.line_order.specs.declared.Key.{Key}
 use Rattle.line_order.specs.declared.Key.the-variants.{Format, Actions, Variables, Variable, Automata, Sync, Locations, Init, Inv, Edges, Edge, Compose, End}
@@ -47,7 +49,7 @@ paced-more n m c l h = record { variables = omega arith; automata = omega arith;
 
 pub paced-after : (n : ℕ) (c : Counts) (k : Key) (m p : ℕ) → Paced n c → Paced (n + 1) (countsAfter c k m p)
 unfolding countsAfter
-paced-after n c Format m p h = paced-more n (n + 1) c (omega arith) h
+paced-after n c Format m p h = record { variables = omega arith; automata = omega arith; locations = omega arith; edges = omega arith }
 paced-after n c Actions m p h = record { variables = omega arith; automata = omega arith; locations = omega arith; edges = omega arith }
 paced-after n c Variables m p h = paced-more n (n + 1) c (omega arith) h
 paced-after n c Variable m p h = record { variables = omega (arith, add-most (c .variables) 1); automata = omega arith; locations = omega arith; edges = omega arith }
@@ -66,12 +68,6 @@ paced-room n c p l q h = record { variables = omega arith; automata = omega arit
 
 -- the automaton that is being read
 module _ (f : Automaton → Automaton) where
-  length-on-last : (xs : List Automaton) → length (onLast f xs) ≡ length xs
-  unfolding onLast
-  length-on-last [] = refl
-  length-on-last (x ∷ []) = refl
-  length-on-last (x ∷ y ∷ xs) = ap suc (length-on-last (y ∷ xs))
-
   last-on-last : (xs : List Automaton) → 1 ≤ length xs → lastOf (onLast f xs) ≡ f (lastOf xs)
   unfolding onLast lastOf
   last-on-last [] h = absurd (omega arith)
@@ -93,15 +89,16 @@ edges-begun (y ∷ xs) x h = omega (arith, edges-begun xs x h)
 
 pub counted-first : Counted atFirst countsNone
 unfolding atFirst variableCount locationCount lastOf edgeTotal
-counted-first = record { actions = refl; variables = refl; automata = refl; locations = refl; edges = refl; nodes = refl }
+counted-first = record { format = refl; actions = refl; variables = refl; automata = refl; locations = refl; edges = refl; nodes = refl }
 
 pub counted-after : (r : Reading) (c : Counts) (e : Entry) → Counted r c → Room c (nodesOf e) → (isInside (codeOf (keyOf e)) ≡ true → 1 ≤ length (r .model .automata)) → Counted (noted r e) (countsAfter c (codeOf (keyOf e)) (numberOf e) (nodesOf e))
 unfolding noted withModel withAutomata withPred withNodes variableCount locationCount keyOf codeOf numberOf nodesOf countsAfter isInside addLocation addEdge
-counted-after r c (formatLine n) h room begun = record { actions = h .actions; variables = h .variables; automata = h .automata; locations = h .locations; edges = h .edges; nodes = h .nodes }
-counted-after r c (actionsLine n) h room begun = record { actions = refl; variables = h .variables; automata = h .automata; locations = h .locations; edges = h .edges; nodes = h .nodes }
+counted-after r c (formatLine n) h room begun = record { format = refl; actions = h .actions; variables = h .variables; automata = h .automata; locations = h .locations; edges = h .edges; nodes = h .nodes }
+counted-after r c (actionsLine n) h room begun = record { format = h .format; actions = refl; variables = h .variables; automata = h .automata; locations = h .locations; edges = h .edges; nodes = h .nodes }
 counted-after r c (variablesLine n) h room begun = h
-counted-after r c (variableLine x) h room begun =
+counted-after r c (variableLine x o) h room begun =
     record {
+      format = h .format;
       actions = h .actions;
       variables = add-fits (c .variables) 1 (room .variables) ∙ omega (arith, h .variables, length-append (r .model .variables) (x ∷ []));
       automata = h .automata;
@@ -113,6 +110,7 @@ counted-after r c (automataLine n) h room begun = h
 counted-after r c (syncLine list) h room begun =
     let x : Automaton = record { sync = list; locations = []; edges = [] } in
     record {
+      format = h .format;
       actions = h .actions;
       variables = h .variables;
       automata = add-fits (c .automata) 1 (room .automata) ∙ omega (arith, h .automata, length-append (r .model .automata) (x ∷ []));
@@ -123,6 +121,7 @@ counted-after r c (syncLine list) h room begun =
 counted-after r c (locationsLine n) h room begun = h
 counted-after r c (initLine p) h room begun =
     record {
+      format = h .format;
       actions = h .actions;
       variables = h .variables;
       automata = h .automata;
@@ -133,6 +132,7 @@ counted-after r c (initLine p) h room begun =
 counted-after r c (invLine p) h room begun =
     let l : Location = record { init = r .latest; inv = p } in
     record {
+      format = h .format;
       actions = h .actions;
       variables = h .variables;
       automata = h .automata ∙ sym (length-on-last (addLocation l) (r .model .automata));
@@ -143,6 +143,7 @@ counted-after r c (invLine p) h room begun =
 counted-after r c (edgesLine n) h room begun = h
 counted-after r c (edgeLine e) h room begun =
     record {
+      format = h .format;
       actions = h .actions;
       variables = h .variables;
       automata = h .automata ∙ sym (length-on-last (addEdge e) (r .model .automata));
@@ -152,6 +153,7 @@ counted-after r c (edgeLine e) h room begun =
     }
 counted-after r c (composeLine t) h room begun =
     record {
+      format = h .format;
       actions = h .actions;
       variables = h .variables;
       automata = h .automata;
@@ -159,6 +161,11 @@ counted-after r c (composeLine t) h room begun =
       edges = h .edges;
       nodes = add-fits (c .nodes) (startNodes t) (room .nodes) ∙ ap (λ (n : ℕ). n + startNodes t) (h .nodes);
     }
+
+-- an owner that is said behind a variable changes no count
+pub counted-owner : (r : Reading) (c : Counts) (o : Option ℕ) → Counted r c → Counted (withOwner r o) c
+unfolding withOwner withModel variableCount locationCount
+counted-owner r c o h = record { format = h .format; actions = h .actions; variables = h .variables; automata = h .automata; locations = h .locations; edges = h .edges; nodes = h .nodes }
 
 -- Where a line inside an automaton is due, an automaton has been begun.
 pub begun-first : Begun dueFirst atFirst
@@ -181,7 +188,7 @@ unfolding dueAfterKey dueVariables dueAutomata codeOf keyOf numberOf isInside no
 begun-next d r (formatLine n) b i = neither refl i
 begun-next d r (actionsLine n) b i = neither refl i
 begun-next d r (variablesLine n) b i = neither (outside n _ _ refl refl) i
-begun-next d r (variableLine x) b i = neither (outside (d .variables - 1) _ _ refl refl) i
+begun-next d r (variableLine x o) b i = neither (outside (d .variables - 1) _ _ refl refl) i
 begun-next d r (automataLine n) b i = neither (outside n _ _ refl refl) i
 begun-next d r (syncLine list) b i = simp length-append (omega arith)
 begun-next d r (locationsLine n) b i = b refl

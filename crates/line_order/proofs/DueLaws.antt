@@ -136,7 +136,7 @@ unfolding keysDue keyNamed laterDue laterKeys dueAfterKey codeOf keyOf numberOf 
 after-entry (formatLine n) d = refl
 after-entry (actionsLine n) d = refl
 after-entry (variablesLine n) d = keys-variables (d .format) n
-after-entry (variableLine r) d = keys-variables (d .format) (d .variables - 1)
+after-entry (variableLine x o) d = keys-variables (d .format) (d .variables - 1)
 after-entry (automataLine n) d = keys-automata (d .format) n
 after-entry (syncLine list) d = refl
 after-entry (locationsLine n) d = keys-locations (d .format) (d .automata) n ∙ sym (append-assoc (repeat n (init ∷ inv ∷ [])) (edges ∷ []) (automataFrom (d .automata - 1)))
@@ -163,7 +163,7 @@ module _ (d : Due) (r : Reading) (same : d .format ≡ r .model .format) where
   format-next (formatLine n) = refl
   format-next (actionsLine n) = same
   format-next (variablesLine n) = either-format n _ _ same same
-  format-next (variableLine x) = either-format (d .variables - 1) _ _ same same
+  format-next (variableLine x o) = either-format (d .variables - 1) _ _ same same
   format-next (automataLine n) = either-format n _ _ same same
   format-next (syncLine list) = same
   format-next (locationsLine n) = either-format n _ _ same same

@@ -7,13 +7,13 @@ use Prim.Native.Nat.{ℕ}
 use lib.Dec.{leb}
 use denote.Enum.Declared.{tagOf}
 use types.Run.{OneOf, miss}
-use Rattle.model.specs.Bounds.{writesFormat}
+use Rattle.model.specs.Bounds.{writesFormat, ownersFormat}
 use Rattle.model.specs.Lines.{Key as LineKey, format, actions, variables, variable, automata, sync, locations, init, inv, edges, edge, compose}
 use Rattle.line_order.specs.declared.Key.{Key}
 use Rattle.line_order.specs.declared.Key.the-variants.{Format, Actions, Variables, Variable, Automata, Sync, Locations, Init, Inv, Edges, Edge, Compose, End}
 use Rattle.line_order.proofs.Key.{the-type}
 use Rattle.line_order.specs.declared.Due.{Due}
-use Rattle.line_order.specs.Due.{isEnd, isEdge, isListed, codeOf}
+use Rattle.line_order.specs.Due.{isEnd, isEdge, isVariable, isListed, isOwned, codeOf}
 
 -- a key is the end, or a line's
 pub named : (k : Key) → (k ≡ End) ⊎ ((l : LineKey) × (k ≡ codeOf l))
@@ -104,3 +104,35 @@ unfolding isListed
 listed-is d b e = rw e
 
 pub ruleset listed-laws = (listed-is)
+
+-- each way out of `variable`, and of `Due::owned`
+abbrev others-than-variable : List ℕ
+others-than-variable = 0 ∷ 1 ∷ 2 ∷ 4 ∷ 5 ∷ 6 ∷ 7 ∷ 8 ∷ 9 ∷ 10 ∷ 11 ∷ 12 ∷ []
+
+pub at-variable : (k : Key) → k ≡ Variable → true ≡ isVariable k
+unfolding isVariable
+at-variable k h = rw h
+
+pub no-variable : (k : Key) → OneOf others-than-variable (tagOf the-type k) → false ≡ isVariable k
+unfolding isVariable
+no-variable Format o = refl
+no-variable Actions o = refl
+no-variable Variables o = refl
+no-variable Variable o = absurd (miss others-than-variable 3 tt o)
+no-variable Automata o = refl
+no-variable Sync o = refl
+no-variable Locations o = refl
+no-variable Init o = refl
+no-variable Inv o = refl
+no-variable Edges o = refl
+no-variable Edge o = refl
+no-variable Compose o = refl
+no-variable End o = refl
+
+pub ruleset variable-laws = (at-variable, no-variable)
+
+pub owned-is : (d : Due) (b : Bool) → b ≡ isVariable (d .key) → (b && leb ownersFormat (d .format)) ≡ isOwned d
+unfolding isOwned
+owned-is d b e = rw e
+
+pub ruleset owned-laws = (owned-is)

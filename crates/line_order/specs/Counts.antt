@@ -1,4 +1,4 @@
--- What has been counted, as the code keeps it, and of which reading it is the count.
+-- What has been read and counted, as the code keeps it, and of which reading it is the count.
 use Prim.Native.Nat.{ℕ, _+_, _≤_}
 use mathlib.Core.Path.{_≡_}
 use mathlib.Core.Bool.{cond}
@@ -22,32 +22,39 @@ mostCount = 65536
 unfoldable pub addUpTo : ℕ → ℕ → ℕ
 addUpTo x y = cond (leb (x + y) mostCount) (x + y) mostCount
 
-abbrev pub counts : (a v n l e p : ℕ) → Counts
-counts a v n l e p = record { actions = a; variables = v; automata = n; locations = l; edges = e; nodes = p }
+abbrev pub counts : (f a v n l e p : ℕ) → Counts
+counts f a v n l e p =
+    record { format = f; actions = a; variables = v; automata = n; locations = l; edges = e; nodes = p }
 
 abbrev pub countsNone : Counts
-countsNone = counts 0 0 0 0 0 0
+countsNone = counts 0 0 0 0 0 0 0
 
 -- the nodes of one more predicate
 abbrev pub withNodes : Counts → ℕ → Counts
-withNodes c p = counts (c .actions) (c .variables) (c .automata) (c .locations) (c .edges) (addUpTo (c .nodes) p)
+withNodes c p =
+    counts (c .format) (c .actions) (c .variables) (c .automata) (c .locations) (c .edges) (addUpTo (c .nodes) p)
 
 -- after a line with this key and number, whose predicates have p nodes
 unfoldable pub countsAfter : Counts → Key → (n p : ℕ) → Counts
-countsAfter c Format n p = c
-countsAfter c Actions n p = counts n (c .variables) (c .automata) (c .locations) (c .edges) (c .nodes)
+countsAfter c Format n p =
+    counts n (c .actions) (c .variables) (c .automata) (c .locations) (c .edges) (c .nodes)
+countsAfter c Actions n p =
+    counts (c .format) n (c .variables) (c .automata) (c .locations) (c .edges) (c .nodes)
 countsAfter c Variables n p = c
 countsAfter c Variable n p =
-    counts (c .actions) (addUpTo (c .variables) 1) (c .automata) (c .locations) (c .edges) (c .nodes)
+    counts (c .format) (c .actions) (addUpTo (c .variables) 1) (c .automata) (c .locations) (c .edges) (c .nodes)
 countsAfter c Automata n p = c
-countsAfter c Sync n p = counts (c .actions) (c .variables) (addUpTo (c .automata) 1) 0 (c .edges) (c .nodes)
+countsAfter c Sync n p =
+    counts (c .format) (c .actions) (c .variables) (addUpTo (c .automata) 1) 0 (c .edges) (c .nodes)
 countsAfter c Locations n p = c
 countsAfter c Init n p = withNodes c p
 countsAfter c Inv n p =
-    withNodes (counts (c .actions) (c .variables) (c .automata) (addUpTo (c .locations) 1) (c .edges) (c .nodes)) p
+    withNodes
+    (counts (c .format) (c .actions) (c .variables) (c .automata) (addUpTo (c .locations) 1) (c .edges) (c .nodes)) p
 countsAfter c Edges n p = c
 countsAfter c Edge n p =
-    withNodes (counts (c .actions) (c .variables) (c .automata) (c .locations) (addUpTo (c .edges) 1) (c .nodes)) p
+    withNodes
+    (counts (c .format) (c .actions) (c .variables) (c .automata) (c .locations) (addUpTo (c .edges) 1) (c .nodes)) p
 countsAfter c Compose n p = withNodes c p
 countsAfter c End n p = c
 
@@ -56,7 +63,7 @@ unfoldable pub nodesOf : Entry → ℕ
 nodesOf (formatLine n) = 0
 nodesOf (actionsLine n) = 0
 nodesOf (variablesLine n) = 0
-nodesOf (variableLine r) = 0
+nodesOf (variableLine x o) = 0
 nodesOf (automataLine n) = 0
 nodesOf (syncLine list) = 0
 nodesOf (locationsLine n) = 0
@@ -68,6 +75,7 @@ nodesOf (composeLine c) = startNodes c
 
 -- the counts are those of what has been read
 pub record Counted (r : Reading) (c : Counts) : Type 0 where
+  pub format : c .format ≡ r .model .format
   pub actions : c .actions ≡ r .model .actions
   pub variables : c .variables ≡ variableCount r
   pub automata : c .automata ≡ length (r .model .automata)

@@ -5,7 +5,7 @@ use mathlib.Core.Bool.{Bool, true, false, _&&_}
 use mathlib.Core.List.{List, [], _∷_, _++_}
 use lib.ListN.{length}
 use lib.Dec.{leb}
-use Rattle.model.specs.Bounds.{writesFormat}
+use Rattle.model.specs.Bounds.{writesFormat, ownersFormat}
 use Rattle.model.specs.Lines.{Key as LineKey, format, actions, variables, variable, automata, sync, locations, init}
 use Rattle.model.specs.Lines.{inv, edges, edge, compose, repeat, Entry, formatLine, actionsLine, variablesLine}
 use Rattle.model.specs.Lines.{variableLine, automataLine, syncLine, locationsLine, initLine, invLine, edgesLine}
@@ -46,9 +46,28 @@ isEdge Edge = true
 isEdge Compose = false
 isEdge End = false
 
+unfoldable pub isVariable : Key → Bool
+isVariable Format = false
+isVariable Actions = false
+isVariable Variables = false
+isVariable Variable = true
+isVariable Automata = false
+isVariable Sync = false
+isVariable Locations = false
+isVariable Init = false
+isVariable Inv = false
+isVariable Edges = false
+isVariable Edge = false
+isVariable Compose = false
+isVariable End = false
+
 -- a list stands behind the line that is due (request (f))
 unfoldable pub isListed : Due → Bool
 isListed d = isEdge (d .key) && leb writesFormat (d .format)
+
+-- an owner does (request (k))
+unfoldable pub isOwned : Due → Bool
+isOwned d = isVariable (d .key) && leb ownersFormat (d .format)
 
 -- The code's own steps, for a format f. `a` automata are to come or under way, and then `l` locations or `e` edges of
 -- the one under way.
@@ -161,7 +180,7 @@ unfoldable pub numberOf : Entry → ℕ
 numberOf (formatLine n) = n
 numberOf (actionsLine n) = n
 numberOf (variablesLine n) = n
-numberOf (variableLine r) = 0
+numberOf (variableLine x o) = 0
 numberOf (automataLine n) = n
 numberOf (syncLine list) = 0
 numberOf (locationsLine n) = n

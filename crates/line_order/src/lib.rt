@@ -3,8 +3,8 @@
 use model::Model;
 ghost use mathlib.Core.Path.{_≡_};
 ghost use Prim.Native.Nat.{_-_};
-ghost use Rattle.line_order.specs.Due.{isEnd, isEdge, isListed, dueFirst, dueAfter, dueOnly, dueVariables};
-ghost use Rattle.line_order.specs.Due.{dueAutomata, dueLocations, dueEdges};
+ghost use Rattle.line_order.specs.Due.{isEnd, isEdge, isVariable, isListed, isOwned, dueFirst, dueAfter};
+ghost use Rattle.line_order.specs.Due.{dueOnly, dueVariables, dueAutomata, dueLocations, dueEdges};
 ghost use Rattle.line_order.specs.Counts.{countsNone, countsAfter, withNodes, addUpTo, capped};
 
 // The highest action of a list: A, or 63, since no list holds more.
@@ -46,6 +46,12 @@ fn edge(key: Key) -> bool
     ensures { λ r. ⌜ r ≡ isEdge key ⌝ }
 {
     if let Key::Edge = key { true } else { false }
+}
+
+fn variable(key: Key) -> bool
+    ensures { λ r. ⌜ r ≡ isVariable key ⌝ }
+{
+    if let Key::Variable = key { true } else { false }
 }
 
 // The key that is due, the sheet's format (0 before its line), and what is still to come: variable lines; automata, the
@@ -172,6 +178,15 @@ impl Due {
         edge(key) & (Model::WRITES_FORMAT <= format)
     }
 
+    // Its owner stands behind the line that is due: behind a variable, from the first format with owners on.
+    pub fn owned(self) -> bool
+        ensures { λ r. ⌜ r ≡ isOwned self ⌝ }
+    {
+        let key = self.key;
+        let format = self.format;
+        variable(key) & (Model::OWNERS_FORMAT <= format)
+    }
+
     // What is due after the line that is due was read; `count` is its number, if it is the format's line or one that
     // counts.
     pub fn after(self, count: usize) -> Due
@@ -210,9 +225,10 @@ impl Due {
     }
 }
 
-// What has been counted: the actions; the variable lines; the automata begun; the locations of the automaton under way;
-// the edge lines of all automata; the nodes of all predicates.
+// What has been read and counted: the format; the actions; the variable lines; the automata begun; the locations of the
+// automaton under way; the edge lines of all automata; the nodes of all predicates.
 pub struct Counts {
+    pub format: usize,
     pub actions: usize,
     pub variables: usize,
     pub automata: usize,
@@ -242,6 +258,7 @@ impl Counts {
         ensures { λ r. ⌜ r ≡ countsNone ⌝ }
     {
         Counts {
+            format: 0,
             actions: 0,
             variables: 0,
             automata: 0,
@@ -264,7 +281,10 @@ impl Counts {
         ensures { λ r. ⌜ r ≡ countsAfter self key number nodes ⌝ }
     {
         match key {
-            Key::Format => self,
+            Key::Format => {
+                self.format = number;
+                self
+            }
             Key::Actions => {
                 self.actions = number;
                 self

@@ -14,7 +14,7 @@ use Rattle.model.specs.Predicate.{words, nodeCount}
 use Rattle.model.specs.Model.{Edge, Automaton, Model, nobody, automaton}
 use Rattle.model.specs.Limits.{inRange}
 use Rattle.model.specs.Lawful.{Lawful}
-use Rattle.model.specs.Lines.{edgeLine, edgesLine, variableLine, composeLine, locationLines, automatonLines}
+use Rattle.model.specs.Lines.{edgeLine, edgesLine, composeLine, locationLines, automatonLines, variableLines}
 use Rattle.model.specs.Table.{code, wordOf, lowBits, highBits, setWords, predWords, lineWords, sheetWords}
 use Rattle.model.specs.Equal.{sameEdge}
 use Rattle.model.specs.Repeats.{distinctEdges, distinct}
@@ -267,14 +267,14 @@ module _ (m : Model) (lawful : Lawful m) (t rest : List ℕ) (e : t ≡ sheetWor
 
   -- the words up to the first automaton
   abbrev sheetHead : List ℕ
-  sheetHead = m .format ∷ m .actions ∷ length (m .variables) ∷ (wordsOf (map variableLine (m .variables)) ++ length (m .automata) ∷ [])
+  sheetHead = m .format ∷ m .actions ∷ length (m .variables) ∷ (wordsOf (variableLines (m .variables) (m .owners)) ++ length (m .automata) ∷ [])
 
   -- they are copied
   head-is : part t 0 (firstAutomaton t) ≡ sheetHead
   unfolding firstAutomaton
   head-is =
       let others = automatonWords (m .automata) ++ after in
-      let vs = wordsOf (map variableLine (m .variables)) in
+      let vs = wordsOf (variableLines (m .variables) (m .owners)) in
       let there : drop 0 t ≡ sheetHead ++ others =
       sheet-parts t rest m e ∙ ap (λ (l : List ℕ). m .format ∷ m .actions ∷ length (m .variables) ∷ l) (sym (append-assoc vs (length (m .automata) ∷ []) others)) in
       part-words t sheetHead others 0 (firstAutomaton t) (omega arith) (reach-inside t (countAt t) 1) there (automata-stand m lawful t rest e)
@@ -296,7 +296,7 @@ module _ (m : Model) (lawful : Lawful m) (t rest : List ℕ) (e : t ≡ sheetWor
   distinct-parts =
       let xs = automatonWords (map distinctEdges (m .automata)) in
       let c = lineWords (composeLine (m .tree)) in
-      let vs = wordsOf (map variableLine (m .variables)) in
+      let vs = wordsOf (variableLines (m .variables) (m .owners)) in
       sheet-parts (sheetWords (distinct m)) [] (distinct m) (sym (append-nil (sheetWords (distinct m)))) ∙
       ap₂ (λ (n : ℕ) (l : List ℕ). m .format ∷ m .actions ∷ length (m .variables) ∷ (vs ++ (n ∷ (xs ++ l)))) (length-map (m .automata) distinctEdges) (append-nil c) ∙
       ap (λ (l : List ℕ). m .format ∷ m .actions ∷ length (m .variables) ∷ l) (sym (append-assoc vs (length (m .automata) ∷ []) (xs ++ c)))

@@ -11,7 +11,7 @@ use Rattle.model.specs.Composition.{leaf, nodes, starts, treeSize}
 use Rattle.model.specs.Model.{Model, Automaton, inSet}
 use Rattle.model.specs.Rules.{Taker}
 use Rattle.model.specs.Lawful.{Lawful}
-use Rattle.model.specs.Lines.{Entry, formatLine, actionsLine, variablesLine, variableLine, automataLine, composeLine, locationLines, automatonLines, lines}
+use Rattle.model.specs.Lines.{Entry, formatLine, actionsLine, variablesLine, automataLine, composeLine, locationLines, automatonLines, variableLines, lines}
 use Rattle.model.specs.Table.{setWords, predWords, nodeWords, startWords, lineWords, sheetWords}
 use Rattle.model.specs.Moves.{moves}
 use Rattle.model.specs.Linear.{mergedInit, mergedInv, mergedEdge, edgesWithRepeats}
@@ -57,15 +57,15 @@ module _ (m : Model) (lawful : Lawful m) (t rest : List ℕ) (e : t ≡ sheetWor
   }
 
   abbrev front : List Entry
-  front = formatLine (linearWithRepeats m .format) ∷ actionsLine (linearWithRepeats m .actions) ∷ variablesLine (length (linearWithRepeats m .variables)) ∷ (map variableLine (linearWithRepeats m .variables) ++ automataLine 1 ∷ [])
+  front = formatLine (linearWithRepeats m .format) ∷ actionsLine (linearWithRepeats m .actions) ∷ variablesLine (length (linearWithRepeats m .variables)) ∷ (variableLines (linearWithRepeats m .variables) (linearWithRepeats m .owners) ++ automataLine 1 ∷ [])
 
   -- the lines of the merged model, in three parts
   in-parts : lines (linearWithRepeats m) ≡ front ++ (automatonLines whole ++ composeLine (leaf 0) ∷ [])
   unfolding lines linearWithRepeats flatMap
   in-parts =
       ap (λ (l : List Entry). formatLine (linearWithRepeats m .format) ∷ actionsLine (linearWithRepeats m .actions) ∷ variablesLine (length (linearWithRepeats m .variables)) ∷ l)
-      (ap (λ (l : List Entry). map variableLine (linearWithRepeats m .variables) ++ (automataLine 1 ∷ (l ++ composeLine (leaf 0) ∷ []))) (append-nil (automatonLines whole)) ∙
-      sym (append-assoc (map variableLine (linearWithRepeats m .variables)) (automataLine 1 ∷ []) (automatonLines whole ++ composeLine (leaf 0) ∷ [])))
+      (ap (λ (l : List Entry). variableLines (linearWithRepeats m .variables) (linearWithRepeats m .owners) ++ (automataLine 1 ∷ (l ++ composeLine (leaf 0) ∷ []))) (append-nil (automatonLines whole)) ∙
+      sym (append-assoc (variableLines (linearWithRepeats m .variables) (linearWithRepeats m .owners)) (automataLine 1 ∷ []) (automatonLines whole ++ composeLine (leaf 0) ∷ [])))
 
   automaton-words : automatonWords t g list ≡ wordsOf (automatonLines whole)
   unfolding automatonWords locationWords gatheredIn automatonLines locationLines flatMap lineWords

@@ -2,22 +2,22 @@
 use mathlib.Core.Path.{_≡_, refl, sym, ap, ap₂, _∙_}
 use mathlib.Core.Bool.{true, not, _&&_}
 use mathlib.Core.List.{List, [], _∷_, _++_, map, map-append, flatMap, List·Memᴰ, List·Memᴰ·head, List·Memᴰ·tail}
-use mathlib.Core.Option.{Option, none}
+use mathlib.Core.Option.{Option, none, some}
 use Prim.Native.Nat.{ℕ, _+_, _≤_, _<_}
 use native.Mathlib.Omega.{arith}
 use lib.ListN.{length, length-append}
-use lib.Dec.{leb, ltb}
+use lib.Dec.{eqb, leb, ltb}
 use borrow.Author.Tests.{leb-true, ltb-false}
 use Rattle.model.specs.Basic.{between, every, lacks}
-use Rattle.model.specs.Bounds.{firstFormat, lastFormat, maxActions, maxNodes, maxTreeNodes, leastNumber, greatestNumber}
+use Rattle.model.specs.Bounds.{firstFormat, lastFormat, maxActions, maxNodes, maxTreeNodes, leastNumber, greatestNumber, lastAutomaton}
 use Rattle.model.specs.Predicate.{Pred, Word, words, nodeCount, namesOutside, namesNew}
 use Rattle.model.specs.Composition.{Tree, par, syn, ini, leaf, starts, startNodes, treeSize}
 use Rattle.model.specs.Model.{Model}
 use Rattle.model.specs.Lawful.{Lawful}
 use Rattle.model.specs.Lines.{Entry, formatLine, actionsLine, variablesLine, variableLine, automataLine, syncLine, locationsLine, initLine, invLine, edgesLine, edgeLine, composeLine, lines, Reading, atFirst, noted}
-use Rattle.model.specs.Limits.{inRange, treeInRange, numbersInRange, rises, treeRises, isTooDeep, exceedsSpan, passesNodes, variableCount, listsFilled, isDisordered, isTooLarge, predFault, locationFault, contentFault, faultOf, withinLimits, limits}
+use Rattle.model.specs.Limits.{inRange, treeInRange, ownerInRange, numbersInRange, rises, treeRises, isTooDeep, exceedsSpan, passesNodes, variableCount, listsFilled, isDisordered, isTooLarge, predFault, locationFault, contentFault, faultOf, withinLimits, limits}
 use Rattle.node_words.proofs.NodeLaws.{biased-small, code-small}
-use Rattle.model.specs.Table.{biased, lowBits, highBits, setWords, code, predWords, startWords, lineWords, sheetWords}
+use Rattle.model.specs.Table.{biased, lowBits, highBits, setWords, code, predWords, startWords, ownerWord, lineWords, sheetWords}
 use Rattle.model.proofs.Tests.{and-intro, and-left, and-right}
 use Rattle.model.proofs.LimitLines.{starts-ranged, starts-clear}
 use Rattle.model.proofs.LimitsLaws.{lawful-is}
@@ -130,16 +130,24 @@ said : (r : Reading) (e : Entry) → faultOf r e ≡ none → contentFault r e �
 unfolding faultOf
 said r e h = unbroken 3 (not (numbersInRange e)) (contentFault r e) h .1
 
+owner-small : (o : Option ℕ) → ownerInRange o ≡ true → ownerWord o < 4294967296
+unfolding ownerInRange ownerWord
+owner-small none h = omega arith
+owner-small (some k) h = let l = leb-true k lastAutomaton h in omega arith
+
 line-fits : (r : Reading) (e : Entry) → faultOf r e ≡ none → Fit (lineWords e)
 unfolding lineWords numbersInRange contentFault
 line-fits r (formatLine n) h = let l = leb-true n lastFormat (and-right (leb firstFormat n) _ (in-range r (formatLine n) h)) in one-fits n [] (omega arith) refl
 line-fits r (actionsLine n) h = let l = leb-true n 63 (in-range r (actionsLine n) h) in one-fits n [] (omega arith) refl
 line-fits r (variablesLine n) h = let l = leb-true n 48 (in-range r (variablesLine n) h) in one-fits n [] (omega arith) refl
-line-fits r (variableLine x) h =
-    let z = in-range r (variableLine x) h in
+line-fits r (variableLine x o) h =
+    let z = in-range r (variableLine x o) h in
+    let y = and-right (between leastNumber greatestNumber (x .low)) _ z in
     let low = biased-small (x .low) (and-left (between leastNumber greatestNumber (x .low)) _ z) in
-    let high = biased-small (x .high) (and-right (between leastNumber greatestNumber (x .low)) _ z) in
-    one-fits (biased (x .low)) (biased (x .high) ∷ []) (omega arith) (one-fits (biased (x .high)) [] (omega arith) refl)
+    let high = biased-small (x .high) (and-left (between leastNumber greatestNumber (x .high)) _ y) in
+    let owner = owner-small o (and-right (between leastNumber greatestNumber (x .high)) _ y) in
+    one-fits (biased (x .low)) (biased (x .high) ∷ ownerWord o ∷ []) (omega arith)
+    (one-fits (biased (x .high)) (ownerWord o ∷ []) (omega arith) (one-fits (ownerWord o) [] owner refl))
 line-fits r (automataLine n) h = let l = leb-true n 16 (and-right (leb 1 n) _ (in-range r (automataLine n) h)) in one-fits n [] (omega arith) refl
 line-fits r (syncLine list) h = list-fits (r .model .actions) list (unsaid r (syncLine list) 5 (rises (r .model .actions) 0 list) none h refl) (in-range r (syncLine list) h)
 line-fits r (locationsLine n) h = let l = leb-true n 32 (and-right (leb 1 n) _ (in-range r (locationsLine n) h)) in one-fits n [] (omega arith) refl
@@ -170,4 +178,4 @@ lines-fit (e ∷ es) r h =
 -- the law
 pub fits : (n : Model) → Lawful n → map narrow (sheetWords n) ≡ sheetWords n
 unfolding sheetWords limits
-fits n lawful = lines-fit (lines n) atFirst (lawful-is n .1 lawful)
+fits n lawful = lines-fit (lines n) atFirst (and-right (eqb (length (n .owners)) (length (n .variables))) _ (lawful-is n .1 lawful))

@@ -3,10 +3,10 @@ use model::Model;
 use table_places::Layout;
 ghost use mathlib.Core.Path.{_≡_};
 ghost use mathlib.Core.List.{[], _∷_};
-ghost use Rattle.model.specs.Bounds.{bias};
 ghost use Rattle.table_places.specs.Layout.{automataOf};
 ghost use Rattle.merge_append.specs.Append.{Appended};
-ghost use Rattle.merge_words.specs.Head.{formatIn, lastLocationAt, pointerRanges, headWords};
+ghost use Rattle.merge_words.specs.Head.{formatIn, lastLocationAt, mergedOwnerWord, pointerOwnerWord};
+ghost use Rattle.merge_words.specs.Head.{variableAt, variablesFrom, pointersFrom, headWords};
 
 // The last location of the automaton at a place.
 fn last_location(t: &[u32], at: usize) -> usize
@@ -19,57 +19,87 @@ fn last_location(t: &[u32], at: usize) -> usize
     locations - 1
 }
 
-// A pointer's range: from 0 to the last location.
-fn range(high: usize, out: &mut [u32; Model::WORDS], at: usize) -> usize
-    ensures { λ r. ⌜ Appended (bias ∷ high ∷ []) at (now (out .entry)) (now (out .exit)) r ⌝ }
+// The word of a variable's owner in the merged sheet, which has automaton 0 alone: nobody stays 0, and every owner
+// becomes 1.
+fn merged_owner(owner: usize) -> usize
+    ensures { λ r. ⌜ r ≡ mergedOwnerWord owner ⌝ }
 {
-    let next = merge_append::put(Model::BIAS as usize, out, at);
-    merge_append::put(high, out, next)
+    if owner == 0 { 0 } else { 1 }
 }
 
-// The ranges of the pointers.
+// The word of the pointers' owner: automaton 0 where the format has owners, and nobody before.
+fn pointer_owner(format: usize) -> usize
+    ensures { λ r. ⌜ r ≡ pointerOwnerWord format ⌝ }
+{
+    if format < Model::OWNERS_FORMAT { 0 } else { 1 }
+}
+
+// Three words.
+fn three(
+    first: usize,
+    second: usize,
+    third: usize,
+    out: &mut [u32; Model::WORDS],
+    at: usize,
+) -> usize
+    ensures { λ r. ⌜ Appended (first ∷ second ∷ third ∷ []) at (now (out .entry)) (now (out .exit)) r ⌝ }
+{
+    let a = merge_append::put(first, out, at);
+    let b = merge_append::put(second, out, a);
+    merge_append::put(third, out, b)
+}
+
+// The variable at a place: its range, and who owns it now.
+fn variable(t: &[u32], place: usize, out: &mut [u32; Model::WORDS], at: usize) -> usize
+    ensures { λ r. ⌜ Appended (variableAt (now (t .entry)) place) at (now (out .entry)) (now (out .exit)) r ⌝ }
+{
+    let low = arithmetic::index(table_places::low(t, place));
+    let high = arithmetic::index(table_places::high(t, place));
+    let owner = merged_owner(arithmetic::index(table_places::owner(t, place)));
+    three(low, high, owner, out, at)
+}
+
+// So many variables, from variable 0 on.
+fn variables(t: &[u32], count: usize, out: &mut [u32; Model::WORDS], at: usize) -> usize
+    ensures { λ r. ⌜ Appended (variablesFrom (now (t .entry)) 0 count) at (now (out .entry)) (now (out .exit)) r ⌝ }
+{
+    let mut k = 0;
+    let mut next = at;
+    while k < count {
+        next = variable(t, table_places::range_at(t, k), out, next);
+        k += 1;
+    }
+    next
+}
+
+// The pointers: each from 0 to its automaton's last location, and who owns it.
 fn pointers(t: &[u32], x: Layout, out: &mut [u32; Model::WORDS], at: usize) -> usize
-    ensures { λ r. ⌜ Appended (pointerRanges (now (t .entry)) (x .sets) 0 (automataOf x))
+    ensures { λ r. ⌜ Appended (pointersFrom (now (t .entry)) (x .sets) 0 (automataOf x))
         at (now (out .entry)) (now (out .exit)) r ⌝ }
 {
     let count = table_places::automata_of(x);
+    let owner = pointer_owner(table_places::word(t, 0));
     let places = x.sets;
     let mut i = 0;
     let mut next = at;
     while i < count {
         let place = places[i];
         let high = merge_append::upward(last_location(t, place));
-        next = range(high, out, next);
+        next = three(Model::BIAS as usize, high, owner, out, next);
         i += 1;
     }
     next
 }
 
-// The format, the actions, and the number of variables.
-fn numbers(
-    t: &[u32],
-    actions: usize,
-    variables: usize,
-    out: &mut [u32; Model::WORDS],
-    at: usize,
-) -> usize
-    ensures { λ r. ⌜ Appended (formatIn (now (t .entry)) ∷ actions ∷ variables ∷ [])
-        at (now (out .entry)) (now (out .exit)) r ⌝ }
-{
-    let a = merge_append::put(table_places::word(t, 0), out, at);
-    let b = merge_append::put(actions, out, a);
-    merge_append::put(variables, out, b)
-}
-
-// Format, actions, V + N, the ranges, and one automaton.
+// Format, actions, V + N, the variables, the pointers, and one automaton.
 pub fn head(t: &[u32], x: Layout, out: &mut [u32; Model::WORDS], at: usize) -> usize
     ensures { λ r. ⌜ Appended (headWords (now (t .entry)) x) at (now (out .entry)) (now (out .exit)) r ⌝ }
 {
-    let variables = merge_append::pointer(x.variables, x.automata);
-    let a = numbers(t, x.actions, variables, out, at);
-    let ranges = table_places::range_at(t, 0);
-    let words = merge_append::pointer(x.variables, x.variables);
-    let b = merge_append::copy(t, ranges, words, out, a);
+    let format = table_places::word(t, 0);
+    let total = merge_append::pointer(x.variables, x.automata);
+    let a = three(format, x.actions, total, out, at);
+    let count = table_places::variables_of(x);
+    let b = variables(t, count, out, a);
     let c = pointers(t, x, out, b);
     merge_append::put(1, out, c)
 }
@@ -78,7 +108,5 @@ pub fn head(t: &[u32], x: Layout, out: &mut [u32; Model::WORDS], at: usize) -> u
 pub fn tail(out: &mut [u32; Model::WORDS], at: usize) -> usize
     ensures { λ r. ⌜ Appended (1 ∷ 2 ∷ 0 ∷ []) at (now (out .entry)) (now (out .exit)) r ⌝ }
 {
-    let a = merge_append::put(1, out, at);
-    let b = merge_append::put(2, out, a);
-    merge_append::put(0, out, b)
+    three(1, 2, 0, out, at)
 }

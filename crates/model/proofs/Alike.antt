@@ -15,11 +15,11 @@ use Rattle.model.specs.Model.{Model, automaton, nobody, inSet}
 use Rattle.model.specs.Lawful.{Lawful}
 use Rattle.model.specs.Rules.{State, at, val, reached, changed}
 use Rattle.model.specs.Linear.{linear, pointer, pointerRange}
-use Rattle.model.specs.Judge.{hasValues, Answer, marked, yes, no, refused, rangeOf, row21, row22, row23, row24, settled, stepHolds, judgeTo, judgeEnvironment}
+use Rattle.model.specs.Judge.{hasValues, Answer, marked, yes, no, refused, rangeOf, row21, row22, row23, row24, environmentHolds, stepHolds, judgeTo, judgeEnvironment}
 use Rattle.model.specs.Runs.{IsState, Proposal, toStep, toEnvironment, proposed, modelJudge, goes, Run, andThen, run, beside, translate, translates, Reply, put, notPut, mergedRun, Alike, both-marked, both-yes, both-no, both-23, both-24, only-21, only-22, AllAlike, ended, then, RunsAlike}
 use Rattle.model.proofs.Tests.{of-le, lt-of, le-of, not-false, not-true, and-intro, and-left, and-right, and-same, eq-of, of-eq, each-intro, each-elim, each-ext, each-add, or-cases, or-none-left, or-none-right}
 use Rattle.model.proofs.Pointers.{pointer-value}
-use Rattle.model.proofs.Merged.{Shaped, shaped, step-same, settled-same, marks-same}
+use Rattle.model.proofs.Merged.{Shaped, shaped, step-same, environment-stays, marks-same}
 
 -- variable k's value is in its range
 abbrev pub inside : Model → State → ℕ → Bool
@@ -105,7 +105,7 @@ module _ (m : Model) (s t : State) (p : row21 m s ≡ false) (q : row22 m s ≡ 
 
 -- the same of the environment judge
 module _ (m : Model) (s : State) (values : List ℤ) (p : row21 m s ≡ false) (q : row22 m s ≡ false) (p' : row21 m (changed s values) ≡ false) where
-  environment-short : judgeEnvironment m s values ≡ cond (row23 m s || row23 m (changed s values)) (refused 23) (cond (settled m s (changed s values)) yes no)
+  environment-short : judgeEnvironment m s values ≡ cond (row23 m s || row23 m (changed s values)) (refused 23) (cond (environmentHolds m s (changed s values)) yes no)
   unfolding judgeEnvironment
   environment-short = rw (p, p', q)
 
@@ -119,7 +119,7 @@ module _ (m : Model) (s : State) (values : List ℤ) (p : row21 m s ≡ false) (
       let t = changed s values in
       let g = shaped m s p q in
       let h = shaped m t p' same-22 in
-      rw (p, p', q, merged-21 m s g, merged-21 m t h, merged-22 m s g, merged-23 m s g, merged-23 m t h, settled-same m lawful s t g h)
+      rw (p, p', q, merged-21 m s g, merged-21 m t h, merged-22 m s g, merged-23 m s g, merged-23 m t h, environment-stays m lawful s values g h)
 
 -- an answer that neither 21 nor 22 gave is alike itself
 alike-step : (r r' h k : Bool) → let x = cond r (refused 23) (cond r' (refused 24) (cond h (marked k) no)) in Alike x (put x)
@@ -203,7 +203,7 @@ module _ (m : Model) (s : State) (g : IsState m s) where
       record {
         same = rw d (environment-answers m s values (g .no-21) (g .no-22) p lawful);
         there = rw d;
-        alike = subst (λ (x : Answer). Alike x (put x)) (sym k) (alike-environment (row23 m s || row23 m t) (settled m s t));
+        alike = subst (λ (x : Answer). Alike x (put x)) (sym k) (alike-environment (row23 m s || row23 m t) (environmentHolds m s t));
         state = state-after _ t p q (λ z. k ∙ rw z);
       }
 

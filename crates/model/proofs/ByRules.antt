@@ -1,21 +1,22 @@
 -- The judges say yes exactly when the rules allow the step.
-use mathlib.Core.Path.{_≡_, refl, sym, _∙_, subst}
-use mathlib.Core.Bool.{Bool, true, false, cond, _&&_, _||_}
+use mathlib.Core.Path.{_≡_, refl, sym, ap, _∙_, subst}
+use mathlib.Core.Bool.{Bool, true, false, cond, _&&_, _||_, true≢false}
 use mathlib.Core.List.{List, _++_, List·Memᴰ, Memᴰ·map, Memᴰ·of-map}
 use mathlib.Core.Logic.{_↔_, _⊎_, inl, inr}
+use mathlib.Core.Option.{Option, none, some}
 use Prim.Native.Nat.{ℕ, _+_, _≤_, _<_}
 use native.Mathlib.Omega.{arith}
 use lib.IntN.{ℤ}
 use lib.ListN.{length}
 use lib.Dec.{eqb}
-use Rattle.model.specs.Basic.{eqZ, every, exists, countUp}
+use Rattle.model.specs.Basic.{eqZ, each, every, exists, lacks, countUp}
 use Rattle.model.specs.Predicate.{Pred}
 use Rattle.model.specs.Composition.{Tree, par, syn, ini, leaf, leaves, starts}
-use Rattle.model.specs.Model.{Model, automaton, location, inSet}
+use Rattle.model.specs.Model.{Model, automaton, location, ownerOf, inSet}
 use Rattle.model.specs.Lawful.{Lawful}
 use Rattle.model.specs.Rules.{Phase, start, running, State, reached, at, val, holdsIn, Starts, Taker, mentioned, Rests, rule-2, rule-5, rule-7, ini-rests, Moves, rule-1, rule-3, rule-4-left, rule-4-right, rule-6, ini-moves, Step, Environment, changed}
 use Rattle.model.specs.Moves.{under, sides, alone, moves}
-use Rattle.model.specs.Judge.{inits, invs, startsHold, initial, settled, isTaker, updated, led, kept, framed, fits, stepHolds, Answer, marked, yes, no, refused, row21, row22, row23, row24, judgeTo, judgeStep, judgeEnvironment, StepPasses, EnvironmentPasses}
+use Rattle.model.specs.Judge.{inits, invs, startsHold, initial, settled, isTaker, updated, led, kept, framed, fits, stepHolds, ownedKeep, environmentHolds, Answer, marked, yes, no, refused, row21, row22, row23, row24, judgeTo, judgeStep, judgeEnvironment, StepPasses, EnvironmentPasses}
 use Rattle.model.proofs.Tests.{and-intro, and-left, and-right, or-right, or-other, or-intro, or-less-left, or-less-right, or-cases, or-more-left, or-more-right, eq-of, eq-self, of-eq, eqZ-of, of-eqZ, each-intro, each-elim, exists-intro, exists-elim, exists-append, every-append}
 use Rattle.model.proofs.Takers.{under-in, under-out, pairs-in, Sides, both, left-one, right-one, sides-out, sides-left, sides-right, within}
 use Rattle.model.proofs.Numbered.{size, Numbered, numbered, size-is, Leaves, leaves-map, leaves-in, leaves-out}
@@ -347,17 +348,31 @@ module _ (m : Model) (ordered : leaves (m .tree) ≡ countUp 0 (length (m .autom
       and-intro (each-intro _ _ (on-automata m ordered (Kept m s t (q .takers)) (f .kept-all)))
       (each-intro _ _ (λ k l. or-intro (mentioned k (q .takers)) (eqZ (val s k) (val t k)) (λ e. of-eqZ _ _ (q .frame k l e))))))))
 
+-- what does not lack is there
+lacks-not : (o : Option ℕ) → lacks o ≡ false → (i : ℕ) × (o ≡ some i)
+unfolding lacks
+lacks-not none h = absurd (true≢false h)
+lacks-not (some i) h = (i, refl)
+
 module _ (m : Model) (ordered : leaves (m .tree) ≡ countUp 0 (length (m .automata))) (s : State) (values : List ℤ) where
   -- and of an environment step
-  pub settled-environment : settled m s (changed s values) ≡ true → Environment m s values
-  settled-environment h =
+  pub holds-environment : environmentHolds m s (changed s values) ≡ true → Environment m s values
+  unfolding environmentHolds ownedKeep lacks
+  holds-environment h =
       let t = changed s values in
-      record { still = rests-in m s t (m .tree) (settled-started m s t h) (on-leaves m ordered (settled-ready m s t h)) (on-leaves m ordered (λ k l. refl)) }
+      let q = and-left (settled m s t) (ownedKeep m s t) h in
+      record {
+        still = rests-in m s t (m .tree) (settled-started m s t q) (on-leaves m ordered (settled-ready m s t q)) (on-leaves m ordered (λ k l. refl));
+        owned = λ k i l e. eqZ-of _ _ (or-other (each-elim _ (λ k. lacks (ownerOf m k) || eqZ (val s k) (val t k)) (and-right (settled m s t) (ownedKeep m s t) h) k l) (ap lacks e));
+      }
 
-  pub environment-settled : Environment m s values → settled m s (changed s values) ≡ true
-  environment-settled h =
+  pub environment-holds : Environment m s values → environmentHolds m s (changed s values) ≡ true
+  unfolding environmentHolds ownedKeep
+  environment-holds h =
       let t = changed s values in
-      ready-settled m s t (rests-started m s t (h .still)) (on-automata m ordered (Ready m s t) (rests-ready m s t (h .still)))
+      and-intro
+      (ready-settled m s t (rests-started m s t (h .still)) (on-automata m ordered (Ready m s t) (rests-ready m s t (h .still))))
+      (each-intro _ _ (λ k l. or-intro (lacks (ownerOf m k)) (eqZ (val s k) (val t k)) (λ e. let o = lacks-not (ownerOf m k) e in of-eqZ _ _ (h .owned k (o .0) l (o .1)))))
 
 -- what a yes says of the rows before it
 not-refused : (b : Bool) (row : ℕ) (x y : Answer) → cond b (refused row) x ≡ y → ((j : ℕ) → refused j ≡ y → ⊥) → (b ≡ false) × (x ≡ y)
@@ -417,10 +432,10 @@ environment-by-rules m lawful s values = (there, back)
         let x1 = not-refused (row21 m s || row21 m (changed s values)) 21 _ yes h refused-yes in
         let x2 = not-refused (row22 m s) 22 _ yes (x1 .1) refused-yes in
         let x3 = not-refused (row23 m s || row23 m (changed s values)) 23 _ yes (x2 .1) refused-yes in
-        let x4 = not-no (settled m s (changed s values)) yes yes (x3 .1) no-yes in (
+        let x4 = not-no (environmentHolds m s (changed s values)) yes yes (x3 .1) no-yes in (
           record { no-21 = x1 .0; no-22 = x2 .0; no-23 = x3 .0 },
-          settled-environment m (lawful .tree .in-order) s values (x4 .0),
+          holds-environment m (lawful .tree .in-order) s values (x4 .0),
         )
 
     back : EnvironmentPasses m s values × Environment m s values → judgeEnvironment m s values ≡ yes
-    back h = rw (h .0 .no-21, h .0 .no-22, h .0 .no-23, environment-settled m (lawful .tree .in-order) s values (h .1))
+    back h = rw (h .0 .no-21, h .0 .no-22, h .0 .no-23, environment-holds m (lawful .tree .in-order) s values (h .1))

@@ -17,7 +17,7 @@ use Rattle.model.specs.Composition.{Tree, Node, nodes, starts, treeSize,
 use Rattle.model.specs.Model.{Edge, Model}
 use Rattle.model.specs.Lines.{Key, Entry, formatLine, actionsLine, variablesLine, variableLine, automataLine, syncLine, locationsLine, initLine, invLine, edgesLine, edgeLine, composeLine, keyOf, thenDue, Reading, noted}
 use Rattle.model.specs.Limits.{inRange, treeInRange, numbersInRange, rises, treeRises, listsFilled, isTooDeep, exceedsSpan, passesNodes, variableCount, broken, startsFault, contentFault, faultOf, withinLimits}
-use Rattle.model.specs.Table.{biased, unbiased, nodeWord, kindOf, argumentOf, code, kinds, wordOf, setWords, predWords, nodeWords, startWords, lineWords, lowBits, highBits, bit, setOf, split, splitNumber, splitPair, splitPred, edgeTo, splitEdge, andNode, overNode, splitNodes, andPred, splitPreds, splitStarts, treeWith, splitTree, splitEntry, decode}
+use Rattle.model.specs.Table.{biased, unbiased, nodeWord, kindOf, argumentOf, code, kinds, wordOf, setWords, predWords, nodeWords, startWords, lineWords, lowBits, highBits, bit, setOf, split, splitNumber, splitPair, ownerWord, ownerFrom, splitVariable, splitPred, edgeTo, splitEdge, andNode, overNode, splitNodes, andPred, splitPreds, splitStarts, treeWith, splitTree, splitEntry, decode}
 use Rattle.model.proofs.Tests.{and-intro, and-left, and-right, every-append}
 use Rattle.model.proofs.Parsing.{none-some, read-words-of, read-nodes-of, bare, given-back}
 use Rattle.model.proofs.LinesLaws.{Follows}
@@ -186,15 +186,22 @@ lists-filled r c h =
     let b = unbroken 5 (not (treeRises (r .model .actions) c)) _ a .1 in
     not-false _ (unbroken 13 (not (listsFilled c)) _ (past-starts r (starts c) _ b) .0)
 
+-- an owner's word
+pub owner-back : (o : Option ℕ) → ownerFrom (ownerWord o) ≡ o
+unfolding ownerFrom ownerWord
+owner-back none = refl
+owner-back (some k) = refl
+
 -- each line's entry
 pub entry-back : (r : Reading) (e : Entry) (rest : List ℕ) → faultOf r e ≡ none → splitEntry (keyOf e) (lineWords e ++ rest) ≡ split e rest
-unfolding splitEntry keyOf lineWords startWords splitNumber splitPair splitEdge splitTree splitStarts treeWith edgeTo setWords numbersInRange contentFault onSome split range
+unfolding splitEntry keyOf lineWords startWords splitNumber splitPair splitVariable splitEdge splitTree splitStarts treeWith edgeTo setWords numbersInRange contentFault onSome split range
 entry-back r (formatLine n) rest h = refl
 entry-back r (actionsLine n) rest h = refl
 entry-back r (variablesLine n) rest h = refl
-entry-back r (variableLine x) rest h =
-    let z = in-range r (variableLine x) h in
-    rw (number-back (x .low) (and-left (between leastNumber greatestNumber (x .low)) _ z), number-back (x .high) (and-right (between leastNumber greatestNumber (x .low)) _ z))
+entry-back r (variableLine x o) rest h =
+    let z = in-range r (variableLine x o) h in
+    let y = and-right (between leastNumber greatestNumber (x .low)) _ z in
+    rw (number-back (x .low) (and-left (between leastNumber greatestNumber (x .low)) _ z), number-back (x .high) (and-left (between leastNumber greatestNumber (x .high)) _ y), owner-back o)
 entry-back r (automataLine n) rest h = refl
 entry-back r (syncLine list) rest h =
     rw (set-back (r .model .actions) list (unsaid r (syncLine list) 5 (rises (r .model .actions) 0 list) none h refl) (in-range r (syncLine list) h))

@@ -3,16 +3,16 @@ use mathlib.Core.Path.{_≡_, refl, sym, ap, ap₂, _∙_, subst, fun-ext}
 use mathlib.Core.List.{List, [], _∷_, _++_, map, flatMap, map-map, List·Memᴰ, List·Memᴰ·head, List·Memᴰ·tail, Memᴰ·of-map}
 use Prim.Native.Nat.{ℕ, suc, _+_, _≤_}
 use native.Mathlib.Omega.{arith}
-use lib.ListN.{length, length-map}
+use lib.ListN.{length, length-map, List·getD-map}
 use Rattle.model.specs.Basic.{keep, once, sum, countUp}
 use Rattle.model.specs.Predicate.{Pred, all, preds, nodeCount}
-use Rattle.model.specs.Model.{Model, Location, Edge, Automaton, inSet, edgeTotal}
+use Rattle.model.specs.Model.{Model, Location, Edge, Automaton, automaton, nobody, inSet, edgeTotal}
 use Rattle.model.specs.Lawful.{automatonNodes, nodeTotal, LawfulAutomaton, Lawful}
 use Rattle.model.specs.Rules.{Taker}
 use Rattle.model.specs.Composition.{Tree, par, syn, ini, leaf, starts}
 use Rattle.model.specs.Equal.{sameEdge}
 use Rattle.model.specs.Moves.{moveCount, distinctCount}
-use Rattle.model.specs.Linear.{pointerRange, pointer, atLocations, atAutomata, mergedInit, mergedInv, pointerMoves, mergedEdge, edgesWithRepeats, mergedEdges, mergedCount, linear, mergedPreds, row31, row32, row33, row34, mergeFault}
+use Rattle.model.specs.Linear.{pointerRange, pointerOwner, pointer, atLocations, atAutomata, mergedInit, mergedInv, pointerMoves, mergedEdge, edgesWithRepeats, mergedEdges, mergedCount, linear, mergedPreds, row31, row32, row33, row34, mergeFault}
 use Rattle.model.specs.Repeats.{distinctEdges, distinct, countWithRepeats, linearWithRepeats, predsWithRepeats, row32WithRepeats, row33WithRepeats, row34WithRepeats, faultWithRepeats}
 use Rattle.model.proofs.Lists.{keep-ext}
 use Rattle.model.proofs.LimitsLaws.{Members}
@@ -44,6 +44,11 @@ unfolding nodeTotal automatonNodes sum distinctEdges
 nodes-fewer [] = omega arith
 nodes-fewer (x ∷ xs) = let ih = nodes-fewer xs in let k = sum-once sameEdge (λ (e : Edge). nodeCount (e .update)) (x .edges) in omega arith
 
+-- each of its edges was one before
+edge-kept : (m : Model) (i : ℕ) (e : Edge) → List·Memᴰ e (automaton (distinct m) i .edges) → List·Memᴰ e (automaton m i .edges)
+unfolding distinct distinctEdges once
+edge-kept m i e j = once-out sameEdge (automaton m i .edges) (subst (λ (x : Automaton). List·Memᴰ e (x .edges)) (List·getD-map distinctEdges (m .automata) i nobody) j)
+
 -- the sheet without repeats is lawful
 pub lawful-distinct : (m : Model) → Lawful m → Lawful (distinct m)
 unfolding distinct
@@ -55,11 +60,14 @@ lawful-distinct m h =
       few-actions = h .few-actions;
       few-variables = h .few-variables;
       ranges = h .ranges;
+      owners-are = h .owners-are;
+      owners = rw n (h .owners);
       some-automaton = omega (arith, h .some-automaton);
       few-automata = omega (arith, h .few-automata);
       automata = λ x i.
           let r = Memᴰ·of-map distinctEdges (m .automata) i in
           subst (LawfulAutomaton (m .variables) (m .actions)) (r .2) (lawful-automaton m (r .0) (h .automata (r .0) (r .1)));
+      own = λ i l e j. h .own i (rw n at l) e (edge-kept m i e j);
       few-edges = omega (arith, h .few-edges, edges-fewer (m .automata));
       few-nodes = omega (arith, h .few-nodes, nodes-fewer (m .automata));
       starts = h .starts;
@@ -103,6 +111,10 @@ module _ (m : Model) where
   unfolding pointerRange distinct distinctEdges
   ranges-same = map-map pointerRange distinctEdges (m .automata)
 
+  owners-same : map (λ x. pointerOwner (m .format)) (distinct m .automata) ≡ map (λ x. pointerOwner (m .format)) (m .automata)
+  unfolding distinct
+  owners-same = map-map (λ (x : Automaton). pointerOwner (m .format)) distinctEdges (m .automata)
+
 -- the different moves are as many as those of the sheet without repeats
 counts-distinct : (m : Model) (a : ℕ) (c : Tree) → distinctCount m a c ≡ moveCount (distinct m) a c
 unfolding distinctCount moveCount
@@ -131,7 +143,7 @@ module _ (m : Model) (lawful : Lawful m) where
   -- the merged sheet is that of the sheet without repeats
   pub linear-distinct : linear m ≡ linearWithRepeats (distinct m)
   unfolding linear linearWithRepeats distinct
-  linear-distinct = rw (inits-distinct m, invs-distinct m, sets-same m, ranges-same m, edges-distinct)
+  linear-distinct = rw (inits-distinct m, invs-distinct m, sets-same m, ranges-same m, owners-same m, edges-distinct)
 
   -- so are its predicates, and the rows that are tried of it
   preds-distinct : mergedPreds m ≡ predsWithRepeats (distinct m)

@@ -24,7 +24,7 @@ abbrev automaton : List ℕ → List ℕ → Automaton
 automaton sync targets = record { sync = sync; locations = []; edges = map to targets }
 
 abbrev model : List Automaton → Tree → Model
-model automata tree = record { format = 1; actions = 3; variables = []; automata = automata; tree = tree }
+model automata tree = record { format = 1; actions = 3; variables = []; owners = []; automata = automata; tree = tree }
 
 abbrev three : List ℕ → List ℕ → List ℕ → Tree → Model
 three x y z tree = model (automaton x (0 ∷ 1 ∷ []) ∷ automaton y (2 ∷ 3 ∷ []) ∷ automaton z (4 ∷ 5 ∷ []) ∷ []) tree

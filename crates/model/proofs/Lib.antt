@@ -1,6 +1,7 @@
 pub mod Tests
 pub mod Lists
 pub mod Once
+pub mod Owners
 pub mod Parsing
 pub mod EqualLaws
 pub mod LinesLaws

@@ -4,21 +4,23 @@ use mathlib.Core.Path.{_≡_, refl, sym}
 use mathlib.Core.Bool.{Bool, true, false, not, _&&_, _||_, true≢false, and-eq-true-iff}
 use mathlib.Core.List.{List, [], _∷_, _++_, List·Memᴰ, List·Memᴰ·head, List·Memᴰ·tail, Memᴰ·append-left, Memᴰ·append-right, List·Memᴰ·append-cases, List·Memᴰ·not-nil}
 use mathlib.Core.Logic.{_↔_, _⊎_, inl, inr}
+use mathlib.Core.Option as O
 use mathlib.Core.Option.{Option}
 use native.Mathlib.Omega.{arith}
 use borrow.Author.Tests.{leb-true, leb-false, le-leb, lt-leb, not-false}
 use lib.ListN.{length}
 use lib.Dec.{leb, ltb, eqb}
 use Rattle.model.specs.Basic.{every, exists, lacks, same, countUp}
-use Rattle.model.specs.Bounds.{firstFormat, lastFormat, maxDepth, maxNodes, maxActions, maxLocations, maxEdges, maxAutomata, maxVariables, lastAutomaton}
-use Rattle.model.specs.Predicate.{Pred, Range, words, depth, namesOutside, namesNew, nodeCount}
+use Rattle.model.specs.Bounds.{firstFormat, lastFormat, maxDepth, maxNodes, maxActions, maxLocations, maxEdges, maxAutomata, maxVariables, lastAutomaton, ownersFormat}
+use Rattle.model.specs.Predicate.{Pred, Range, words, depth, namesOutside, namesNew, nodeCount, written}
 use Rattle.model.specs.Composition.{Tree, par, syn, ini, leaf, leaves, starts, startNodes}
 use Rattle.model.specs.Model.{Edge, edgeTotal}
 use Rattle.model.specs.Lines.{formatLine, actionsLine, variablesLine, variableLine, automataLine, syncLine, locationsLine, initLine, edgesLine, edgeLine, composeLine, Reading}
-use Rattle.model.specs.Limits.{inRange, numbersInRange, treeInRange, isCrossed, rises, treeRises, isTooDeep, exceedsSpan, passesNodes, variableCount, locationCount, isAstray, isDisordered, isTooLarge, passesEdges, broken, predFault, locationFault, startsFault, contentFault, faultOf}
-use Rattle.model.specs.Lawful.{LawfulRange, LawfulPred, LawfulStart, LawfulEdge, LawfulTree}
+use Rattle.model.specs.Limits.{inRange, numbersInRange, treeInRange, isCrossed, rises, treeRises, isTooDeep, exceedsSpan, passesNodes, variableCount, locationCount, isAstray, isDisordered, isTooLarge, passesEdges, ownerInRange, isEarly, isBeyond, isForeign, broken, predFault, locationFault, startsFault, contentFault, faultOf}
+use Rattle.model.specs.Lawful.{LawfulRange, LawfulOwner, LawfulPred, LawfulStart, LawfulEdge, LawfulTree}
 use Rattle.model.proofs.Tests.{le-of, and-intro, and-right, every-append, exists-none, none-exists}
 use Rattle.model.proofs.Lists.{same-of, same-self}
+use Rattle.model.proofs.Parsing.{none-some}
 
 -- a row that is not broken, and its tests as facts
 clear : (n : ℕ) (b : Bool) (rest : Option ℕ) → (lacks (broken n b rest) ≡ true) ↔ ((b ≡ false) × (lacks rest ≡ true))
@@ -108,9 +110,9 @@ pub variables-line : (r : Reading) (n : ℕ) → (lacks (faultOf r (variablesLin
 unfolding faultOf numbersInRange contentFault lacks
 variables-line r n = (λ h. let g = simp rows at h in g .0, λ h. simp rows (h, refl))
 
-pub automata-line : (r : Reading) (n : ℕ) → (lacks (faultOf r (automataLine n)) ≡ true) ↔ ((1 ≤ n) × (n ≤ maxAutomata))
+pub automata-line : (r : Reading) (n : ℕ) → (lacks (faultOf r (automataLine n)) ≡ true) ↔ ((1 ≤ n) × (n ≤ maxAutomata) × (exists (isBeyond n) (r .model .owners) ≡ false))
 unfolding faultOf numbersInRange contentFault lacks
-automata-line r n = (λ h. let g = simp rows at h in g .0, λ h. simp rows (h, refl))
+automata-line r n = (λ h. let g = simp rows at h in (g .0 .0, g .0 .1, g .1 .0), λ h. simp rows ((h .0, h .1), (h .2, refl)))
 
 pub locations-line : (r : Reading) (n : ℕ) → (lacks (faultOf r (locationsLine n)) ≡ true) ↔ ((1 ≤ n) × (n ≤ maxLocations))
 unfolding faultOf numbersInRange contentFault lacks
@@ -121,12 +123,30 @@ unfolding faultOf numbersInRange contentFault passesEdges lacks
 edges-line r n = (λ h. let g = simp rows at h in omega (arith, g .1 .0), λ h. simp rows (omega arith, (omega arith, refl)))
 
 -- the lines of the parts
-pub variable-line : (r : Reading) (x : Range) → (lacks (faultOf r (variableLine x)) ≡ true) ↔ LawfulRange x
+-- an owner that can be said in a format
+abbrev pub Said : ℕ → Option ℕ → Type 0
+Said f o = (ownerInRange o ≡ true) × (isEarly f o ≡ false)
+
+pub variable-line : (r : Reading) (x : Range) (o : Option ℕ) → (lacks (faultOf r (variableLine x o)) ≡ true) ↔ (LawfulRange x × Said (r .model .format) o)
 unfolding faultOf numbersInRange contentFault isCrossed lacks
-variable-line r x = (
-  λ h. let g = simp rows at h in record { low = g .0 .0; high = g .0 .1; ordered = g .1 .0 },
-  λ h. simp rows ((h .low, h .high), (h .ordered, refl)),
+variable-line r x o = (
+  λ h. let g = simp rows at h in (record { low = g .0 .0; high = g .0 .1 .0; ordered = g .1 .1 .0 }, (g .0 .1 .1, g .1 .0)),
+  λ h. simp rows ((h .0 .low, (h .0 .high, h .1 .0)), (h .1 .1, (h .0 .ordered, refl))),
 )
+
+-- one that is said, and is among N automata
+pub owner-lawful : (f N : ℕ) (o : Option ℕ) → isEarly f o ≡ false → isBeyond N o ≡ false → LawfulOwner f N o
+unfolding isEarly isBeyond
+owner-lawful f N O.none e b = record { said = λ k h. absurd (none-some k h); below = λ k h. absurd (none-some k h) }
+owner-lawful f N (O.some j) e b = record { said = λ k h. omega (arith, leb-false (suc f) ownersFormat e); below = λ k h. let same : j ≡ k = cc in rw (← same) (leb-false N j b) }
+
+pub lawful-owner : (f N : ℕ) (o : Option ℕ) → N ≤ maxAutomata → LawfulOwner f N o → Said f o × (isBeyond N o ≡ false)
+unfolding isEarly isBeyond ownerInRange
+lawful-owner f N O.none l h = ((refl, refl), refl)
+lawful-owner f N (O.some j) l h =
+    let b = h .below j refl in
+    let s = h .said j refl in
+    ((le-leb j lastAutomaton (omega arith), lt-leb (suc f) ownersFormat (omega arith)), lt-leb N j b)
 
 pub sync-line : (r : Reading) (list : List ℕ) → r .model .actions ≤ maxActions → (lacks (faultOf r (syncLine list)) ≡ true) ↔ (rises (r .model .actions) 0 list ≡ true)
 unfolding faultOf numbersInRange contentFault lacks
@@ -144,7 +164,7 @@ state-line r p = (
   λ h. simp rows (h .0 .ranged, (h .0 .named, (h .1, (omega (arith, h .0 .shallow), (h .0 .spanned, (omega (arith, h .2), refl)))))),
 )
 
-pub edge-line : (r : Reading) (e : Edge) → r .model .actions ≤ maxActions → locationCount r ≤ maxLocations → (lacks (faultOf r (edgeLine e)) ≡ true) ↔ (LawfulEdge (r .model .variables) (r .model .actions) (locationCount r) e × (r .nodes + nodeCount (e .update) ≤ maxNodes))
+pub edge-line : (r : Reading) (e : Edge) → r .model .actions ≤ maxActions → locationCount r ≤ maxLocations → (lacks (faultOf r (edgeLine e)) ≡ true) ↔ (LawfulEdge (r .model .variables) (r .model .actions) (locationCount r) e × (r .nodes + nodeCount (e .update) ≤ maxNodes) × (isForeign r (written (e .update)) ≡ false))
 unfolding faultOf numbersInRange contentFault predFault isTooDeep exceedsSpan passesNodes variableCount nodeCount isAstray lacks
 edge-line r e a l = (
   λ h.
@@ -156,10 +176,11 @@ edge-line r e a l = (
           update = record { ranged = g .0 .1 .1 .1; named = g .1 .0; shallow = omega (arith, g .1 .1 .0); spanned = g .1 .1 .1 .0 };
         },
         omega (arith, g .1 .1 .1 .1 .0),
+        g .1 .1 .1 .1 .1 .1 .0,
       ),
   λ h. simp rows (
     (omega (arith, h .0 .from), (omega (arith, h .0 .action), (omega (arith, h .0 .to), h .0 .update .ranged))),
-    (h .0 .update .named, (omega (arith, h .0 .update .shallow), (h .0 .update .spanned, (omega (arith, h .1), ((h .0 .from, (omega (arith, h .0 .action), h .0 .to)), refl))))),
+    (h .0 .update .named, (omega (arith, h .0 .update .shallow), (h .0 .update .spanned, (omega (arith, h .1), ((h .0 .from, (omega (arith, h .0 .action), h .0 .to)), (h .2, refl)))))),
   ),
 )
 

@@ -4,36 +4,38 @@ use mathlib.Core.Path.{_≡_, refl, sym, ap, _∙_, subst}
 use mathlib.Core.Bool.{Bool, true, false, _&&_}
 use mathlib.Core.List.{List, [], _∷_, _++_, map, flatMap, map-map, List·Memᴰ, List·Memᴰ·head, List·Memᴰ·tail, List·Memᴰ·not-nil, List·Memᴰ·append-cases, Memᴰ·map, Memᴰ·of-map}
 use mathlib.Core.Logic.{_⊎_, inl, inr}
-use mathlib.Core.Option.{none}
+use mathlib.Core.Option.{Option, none, some}
 use native.Mathlib.Omega.{arith}
-use borrow.Author.Tests.{leb-true, le-leb, lt-leb}
+use borrow.Author.Tests.{leb-true, leb-false, le-leb, lt-leb}
 use lib.IntN.{ℤ, pos, negsuc}
 use lib.Signed.{leZ}
-use lib.Dec.{ltb}
-use lib.ListN.{length, length-append, length-map, List·getD-append}
+use lib.Dec.{eqb, ltb}
+use lib.ListN.{length, getD, length-append, length-map, List·getD-append}
 use Rattle.model.specs.Basic.{between, every, exists, keep, sum, countUp}
-use Rattle.model.specs.Bounds.{maxVariables, maxLocations, maxEdges, maxOperands, maxDepth, maxNodes, lastVariable, lastLocation, leastNumber, greatestNumber, leastValue, greatestValue}
+use Rattle.model.specs.Bounds.{maxVariables, maxLocations, maxEdges, maxOperands, maxDepth, maxNodes, lastVariable, lastLocation, ownersFormat, leastNumber, greatestNumber, leastValue, greatestValue}
 use Rattle.model.specs.Predicate as P
-use Rattle.model.specs.Predicate.{Pred, Preds, Expr, all, any, negate, imp, eq, le, more, num, old, new, add, sub, mul, choose, preds, operands, Word, words, wordsAll, wordsOf, nodeCount, Named, nothing, theOld, theNew, named, isOutside, isNew, namesOutside, namesNew, depth, Range, range, interval, stays, allStay, allStayAll, allStayIn}
+use Rattle.model.specs.Predicate.{Pred, Preds, Expr, all, any, negate, imp, eq, le, more, num, old, new, add, sub, mul, choose, preds, operands, Word, words, wordsAll, wordsOf, nodeCount, Named, nothing, theOld, theNew, named, isOutside, isNew, namesOutside, namesNew, mentions, written, depth, Range, range, interval, stays, allStay, allStayAll, allStayIn}
 use Rattle.model.specs.Composition.{Tree, par, syn, ini, leaf, leaves, starts, startNodes, nodes, treeSize}
-use Rattle.model.specs.Model.{Model, Location, Edge, Automaton, automaton, edgeTotal, inSet}
+use Rattle.model.specs.Model.{Model, Location, Edge, Automaton, automaton, nobody, ownerOf, edgeTotal, inSet}
 use Rattle.model.specs.Limits.{inRange, isTooDeep, rises, treeRises, listsFilled, limits, broken}
-use Rattle.model.specs.Lawful.{locationNodes, automatonNodes, nodeTotal, LawfulRange, LawfulPred, LawfulStart, LawfulLocation, LawfulEdge, LawfulAutomaton, Lawful}
-use Rattle.model.specs.Rules.{Taker}
+use Rattle.model.specs.Lawful.{locationNodes, automatonNodes, nodeTotal, LawfulRange, LawfulOwner, LawfulPred, LawfulStart, LawfulLocation, LawfulEdge, LawfulAutomaton, Lawful}
+use Rattle.model.specs.Rules.{Taker, mentioned}
 use Rattle.model.specs.Moves.{under, alone, moves}
-use Rattle.model.specs.Linear.{pointerRange, pointer, atLocations, atAutomata, mergedInit, mergedInv, pointerMoves, mergedEdge, edgesWithRepeats, mergedEdges, sheetWith, predsWith, linear, mergedPreds, row31, row32, row33, row34, mergeFault}
+use Rattle.model.specs.Linear.{pointerRange, mergedOwner, pointerOwner, pointer, atLocations, atAutomata, mergedInit, mergedInv, pointerMoves, mergedEdge, edgesWithRepeats, mergedEdges, sheetWith, predsWith, linear, mergedPreds, row31, row32, row33, row34, mergeFault}
 use Rattle.model.specs.Repeats.{linearWithRepeats, predsWithRepeats, row32WithRepeats, row33WithRepeats, row34WithRepeats, faultWithRepeats}
 use Rattle.model.specs.Equal.{sameEdge}
-use Rattle.model.proofs.Tests.{and-intro, and-left, and-right, and-same, or-none, or-none-left, below-of, of-lt, le-of, exists-none, exists-append, every-append}
+use Rattle.model.proofs.Tests.{and-intro, and-left, and-right, and-same, or-none, or-none-left, or-left, or-cases, eq-of, exists-elim, below-of, of-lt, le-of, exists-none, exists-append, every-append}
 use Rattle.model.proofs.Lists.{none-left, none-right, none-narrower, all-at, keep-first, keep-skip}
 use Rattle.model.proofs.Once.{once-out}
-use Rattle.model.proofs.LimitsLaws.{Members, members, no-members, lawful-is}
+use Rattle.model.proofs.LimitsLaws.{Members, members, no-members, Own, lawful-is}
 use Rattle.model.proofs.Bits.{rises-cons}
 use Rattle.model.proofs.Decode.{unbroken}
 use Rattle.model.proofs.Numbered.{size, numbered, size-is, leaves-in}
 use Rattle.model.proofs.Pointers.{pointers-length}
 use Rattle.model.proofs.Takers.{Sides, both, left-one, right-one, sides-out, of-takers}
-use Rattle.model.proofs.Merged.{automaton-at}
+use Rattle.model.proofs.Merged.{automaton-at, merged-mentions}
+use Rattle.model.proofs.Owners.{mergedOwners, mentioned-owned, none-foreign, variable-owner, pointer-owner, pointer-owned, owners-length, merged-lawful, pointer-lawful}
+use Rattle.model.proofs.Written.{mention-inside, written-mentions}
 use Rattle.model.proofs.Alike.{merged-size}
 use Rattle.model.proofs.Count.{repeats-counted}
 use Rattle.model.proofs.Distinct.{count-is}
@@ -405,14 +407,19 @@ module _ (m : Model) (lawful : Lawful m) (few : length (m .variables) + length (
     from : y .edge .from ≤ lastLocation
     to : y .edge .to ≤ lastLocation
     update : LawfulPred (m .variables) (y .edge .update)
+    own : ownersFormat ≤ m .format → (k : ℕ) → mentions k (y .edge .update) ≡ true → ownerOf m k ≡ some (y .automaton)
+
+  abbrev Lasting : Edge → Type 0
+  Lasting e = (e .from ≤ lastLocation) × (e .to ≤ lastLocation) × LawfulPred (m .variables) (e .update)
 
   taken : (a : ℕ) {x : List Taker} → List·Memᴰ x (moves m a (m .tree)) → Members Taken x
   taken a i = of-takers m a Taken (m .tree) (leaves-in (m .tree) 0 (numbered (m .tree) (length (m .automata)) (lawful .tree .in-order)) from-leaf) i
     where
       from-leaf : (k : ℕ) → 0 ≤ k → k < 0 + size (m .tree) → (e : Edge) → List·Memᴰ e (automaton m k .edges) → Taken (record { automaton = k; edge = e })
-      from-leaf k l u e =
-          automaton-at m lawful (λ x. List·Memᴰ e (x .edges) → Taken (record { automaton = k; edge = e })) (λ q. absurd (List·Memᴰ·not-nil q))
-          (λ x h q. let g = h .edges e q in record { place = omega (arith, size-is (m .tree) (length (m .automata)) (lawful .tree .in-order)); from = omega arith; to = omega arith; update = g .update }) k
+      from-leaf k l u e q =
+          let g = automaton-at m lawful (λ x. List·Memᴰ e (x .edges) → Lasting e) (λ q. absurd (List·Memᴰ·not-nil q)) (λ x h q. let g = h .edges e q in (omega arith, omega arith, g .update)) k q in
+          let place : k < length (m .automata) = omega (arith, size-is (m .tree) (length (m .automata)) (lawful .tree .in-order)) in
+          record { place = place; from = g .0; to = g .1; update = g .2; own = λ f j h. mentioned-owned m lawful f k place e q (g .2 .named) j h }
 
   -- their pointers' moves
   moves-fine : (x : List Taker) → Members Taken x → Members (Fine merged) (pointerMoves m x)
@@ -446,6 +453,33 @@ module _ (m : Model) (lawful : Lawful m) (few : length (m .variables) + length (
       (moves-fine x t)) in
       record { from = omega arith; action = l; to = omega arith; update = record { ranged = f .ranged; named = f .named; shallow = shallow; spanned = f .spanned } }
 
+  -- what a merged edge writes has automaton 0 as its owner, from format 3 on
+  pub edge-owned : (a : ℕ) (x : List Taker) → List·Memᴰ x (moves m a (m .tree)) → ownersFormat ≤ m .format → (k : ℕ) → mentions k (mergedEdge m a x .update) ≡ true → getD (mergedOwners m) k none ≡ some 0
+  unfolding mentioned exists mergedOwner
+  edge-owned a x i f k h = go (or-cases (mentioned k x) (exists (λ y. eqb k (pointer m (y .automaton))) x) (sym (merged-mentions m a k x) ∙ or-left false h))
+    where
+      go : (mentioned k x ≡ true) ⊎ (exists (λ y. eqb k (pointer m (y .automaton))) x ≡ true) → getD (mergedOwners m) k none ≡ some 0
+      go (inl e) =
+          let y = exists-elim (λ (y : Taker). mentions k (y .edge .update)) x e in
+          let t = taken a i (y .0) (y .1) in
+          let b = leb-false (length (m .variables)) k (mention-inside (length (m .variables)) k (words (y .0 .edge .update)) (t .update .named) (unfold mentions in y .2)) in
+          variable-owner m (lawful .owners-are) k b ∙ rw (t .own f k (y .2))
+      go (inr e) =
+          let y = exists-elim (λ (y : Taker). eqb k (pointer m (y .automaton))) x e in
+          let t = taken a i (y .0) (y .1) in
+          rw (eq-of k _ (y .2)) (pointer-owner m (lawful .owners-are) (y .0 .automaton) (t .place) ∙ pointer-owned (m .format) f)
+
+  abbrev Owning : Edge → Type 0
+  Owning e = ownersFormat ≤ m .format → (k : ℕ) → mentions k (e .update) ≡ true → getD (mergedOwners m) k none ≡ some 0
+
+  edges-owned : (l : List ℕ) → Members Owning (flatMap (λ a. map (mergedEdge m a) (moves m a (m .tree))) l)
+  unfolding flatMap
+  edges-owned [] = no-members Owning
+  edges-owned (a ∷ l) =
+      members-append Owning (map (mergedEdge m a) (moves m a (m .tree))) (flatMap (λ b. map (mergedEdge m b) (moves m b (m .tree))) l)
+      (members-map Owning (mergedEdge m a) (moves m a (m .tree)) (edge-owned a))
+      (edges-owned l)
+
   edges-allowed : (l : List ℕ) → Members (λ a. a ≤ m .actions) l → Members Allowed (flatMap (λ a. map (mergedEdge m a) (moves m a (m .tree))) l)
   unfolding flatMap
   edges-allowed [] h = no-members Allowed
@@ -478,6 +512,11 @@ rows-ask m edges h =
       few-nodes = le-of maxNodes _ (r34 .0);
     }
 
+-- a sheet's only automaton owns what its edges write
+one-owns : (f : ℕ) (os : List (Option ℕ)) (x : Automaton) → Members (Own f os 1) (x .edges) → (i : ℕ) → i < 1 → Members (Own f os (suc i)) (getD (x ∷ []) i nobody .edges)
+one-owns f os x h zero l = h
+one-owns f os x h (suc i) l = absurd (omega arith)
+
 -- the merged sheet with some of the merged edges is lawful
 sheet-lawful : (m : Model) → Lawful m → (es : List Edge) → ((e : Edge) → List·Memᴰ e es → List·Memᴰ e (edgesWithRepeats m)) → Unrefused m es → Lawful (sheetWith m es)
 unfolding edgesWithRepeats edgeTotal nodeTotal automatonNodes locationNodes sum treeRises listsFilled leaves starts startNodes flatMap countUp treeSize nodes
@@ -495,15 +534,21 @@ sheet-lawful m lawful es listed u =
       locations = members (LawfulLocation vs) location [] (record { init = init .0; init-old = init .1; inv = inv .0; inv-old = inv .1 }) (no-members (LawfulLocation vs));
       edges = λ e i. allowed e (listed e i) (u .shallow (e .update) (List·Memᴰ·tail (List·Memᴰ·tail (Memᴰ·map (λ (d : Edge). d .update) i))));
     } in
+    let owned = edges-owned m lawful (u .few-variables) (countUp 0 (suc (m .actions))) in
     record {
       format-from = lawful .format-from;
       format-to = lawful .format-to;
       few-actions = lawful .few-actions;
       few-variables = merged-few m lawful (u .few-variables);
       ranges = merged-ranges m lawful (u .few-variables);
+      owners-are = owners-length m (lawful .owners-are) ∙ sym (simp (length-append, length-map));
+      owners = members-append (LawfulOwner (m .format) 1) (map mergedOwner (m .owners)) (map (λ x. pointerOwner (m .format)) (m .automata))
+          (members-map (LawfulOwner (m .format) 1) mergedOwner (m .owners) (λ o i. merged-lawful (m .format) (length (m .automata)) o (lawful .owners o i)))
+          (members-map (LawfulOwner (m .format) 1) (λ x. pointerOwner (m .format)) (m .automata) (λ x i. pointer-lawful (m .format)));
       some-automaton = omega arith;
       few-automata = omega arith;
       automata = members (LawfulAutomaton vs (m .actions)) merged-automaton [] lawful-automaton (no-members (LawfulAutomaton vs (m .actions)));
+      own = one-owns (m .format) (mergedOwners m) merged-automaton (λ e i. none-foreign (m .format) (mergedOwners m) 0 (written (e .update)) (λ f k q. owned e (listed e i) f k (written-mentions (e .update) k q)));
       few-edges = omega (arith, u .few-edges);
       few-nodes = let e = ap sum (map-map nodeCount (λ (d : Edge). d .update) es) in omega (arith, u .few-nodes);
       starts = no-members (LawfulStart vs);

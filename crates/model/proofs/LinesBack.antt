@@ -2,9 +2,10 @@
 use Prim.Native.Nat.{ℕ, zero, suc}
 use mathlib.Core.Path.{_≡_, refl, sym, _∙_, ap, subst}
 use mathlib.Core.List.{List, [], _∷_, _++_, append-assoc, append-nil, map, flatMap}
+use mathlib.Core.Option.{Option}
 use lib.ListN.{length}
 use Rattle.model.specs.Composition.{Tree}
-use Rattle.model.specs.Lines.{Entry, Key, Reading, actions, actionsLine, atFirst, automata, automataLine, automatonLines, compose, composeLine, dueAtFirst, edge, edgeLine, edges, edgesLine, format, formatLine, init, initLine, inv, invLine, keyOf, lines, locationLines, locations, locationsLine, repeat, sync, syncLine, noted, thenDue, variable, variableLine, variables, variablesLine}
+use Rattle.model.specs.Lines.{Entry, Key, Reading, actions, actionsLine, atFirst, automata, automataLine, automatonLines, compose, composeLine, dueAtFirst, edge, edgeLine, edges, edgesLine, format, formatLine, init, initLine, inv, invLine, keyOf, lines, locationLines, locations, locationsLine, repeat, sync, syncLine, noted, thenDue, variable, variableLine, variableLines, variables, variablesLine}
 use Rattle.model.specs.Model.{Automaton, Edge, Location, Model}
 use Rattle.model.specs.Predicate.{Pred, Range}
 use Rattle.model.proofs.LinesLaws.{Follows, notedAll, noted-append, noted-lines}
@@ -14,7 +15,7 @@ abbrev Says : Entry → Key → Type 0
 Says e format = (n : ℕ) × (e ≡ formatLine n)
 Says e actions = (n : ℕ) × (e ≡ actionsLine n)
 Says e variables = (n : ℕ) × (e ≡ variablesLine n)
-Says e variable = (x : Range) × (e ≡ variableLine x)
+Says e variable = (x : Range) × (o : Option ℕ) × (e ≡ variableLine x o)
 Says e automata = (n : ℕ) × (e ≡ automataLine n)
 Says e sync = (list : List ℕ) × (e ≡ syncLine list)
 Says e locations = (n : ℕ) × (e ≡ locationsLine n)
@@ -29,7 +30,7 @@ unfolding keyOf
 says (formatLine n) = (n, refl)
 says (actionsLine n) = (n, refl)
 says (variablesLine n) = (n, refl)
-says (variableLine x) = (x, refl)
+says (variableLine x o) = (x, o, refl)
 says (automataLine n) = (n, refl)
 says (syncLine list) = (list, refl)
 says (locationsLine n) = (n, refl)
@@ -69,14 +70,18 @@ after : (e x : Entry) (es : List Entry) (r : Reading) (ks : List Key) (m : Model
 after e x es r ks m h f = subst (λ (y : Entry). Follows es (noted r y) (thenDue (r .model .format) y ++ ks) m) h f
 
 -- what a count makes due
-variables-block : (n : ℕ) (r : Reading) (ks : List Key) (es : List Entry) (m : Model) → Follows es r (repeat n (variable ∷ []) ++ ks) m → (xs : List Range) × (length xs ≡ n) × Block r (map variableLine xs) ks es m
-unfolding repeat thenDue
-variables-block zero r ks es m h = ([], refl, nil-block r ks es m h)
+-- variables with their owners, as many of the one as of the other
+Declared : (n : ℕ) → Reading → List Key → List Entry → Model → Type 0
+Declared n r ks es m = (xs : List Range) × (os : List (Option ℕ)) × (length xs ≡ n) × (length os ≡ length xs) × Block r (variableLines xs os) ks es m
+
+variables-block : (n : ℕ) (r : Reading) (ks : List Key) (es : List Entry) (m : Model) → Follows es r (repeat n (variable ∷ []) ++ ks) m → Declared n r ks es m
+unfolding repeat thenDue variableLines Declared
+variables-block zero r ks es m h = ([], [], refl, refl, nil-block r ks es m h)
 variables-block (suc n) r ks [] m h = absurd h
 variables-block (suc n) r ks (e ∷ es) m h =
     let q = said e variable (h .0) in
-    let b = variables-block n (noted r (variableLine (q .0))) ks es m (after e (variableLine (q .0)) es r (repeat n (variable ∷ []) ++ ks) m (q .1) (h .1)) in
-    (q .0 ∷ b .0, ap suc (b .1), cons-block r (variableLine (q .0)) (map variableLine (b .0)) ks e es m (q .1) (b .2))
+    let b = variables-block n (noted r (variableLine (q .0) (q .1))) ks es m (after e (variableLine (q .0) (q .1)) es r (repeat n (variable ∷ []) ++ ks) m (q .2) (h .1)) in
+    (q .0 ∷ b .0, q .1 ∷ b .1, ap suc (b .2), ap suc (b .3), cons-block r (variableLine (q .0) (q .1)) (variableLines (b .0) (b .1)) ks e es m (q .2) (b .4))
 
 edges-block : (n : ℕ) (r : Reading) (ks : List Key) (es : List Entry) (m : Model) → Follows es r (repeat n (edge ∷ []) ++ ks) m → (xs : List Edge) × (length xs ≡ n) × Block r (map edgeLine xs) ks es m
 unfolding repeat thenDue
@@ -150,13 +155,13 @@ automata-part r ks (e ∷ es) m h =
     let b = automata-block (q .0) (noted r (automataLine (q .0))) ks es m (after e (automataLine (q .0)) es r ks m (q .1) (h .1)) in
     (b .0, rw (b .1) (cons-block r (automataLine (q .0)) (flatMap automatonLines (b .0)) ks e es m (q .1) (b .2)))
 
-variables-part : (r : Reading) (ks : List Key) (es : List Entry) (m : Model) → Follows es r (variables ∷ ks) m → (xs : List Range) × Block r (variablesLine (length xs) ∷ map variableLine xs) ks es m
-unfolding thenDue
+variables-part : (r : Reading) (ks : List Key) (es : List Entry) (m : Model) → Follows es r (variables ∷ ks) m → (xs : List Range) × (os : List (Option ℕ)) × (length os ≡ length xs) × Block r (variablesLine (length xs) ∷ variableLines xs os) ks es m
+unfolding thenDue Declared
 variables-part r ks [] m h = absurd h
 variables-part r ks (e ∷ es) m h =
     let q = said e variables (h .0) in
     let b = variables-block (q .0) (noted r (variablesLine (q .0))) ks es m (after e (variablesLine (q .0)) es r ks m (q .1) (h .1)) in
-    (b .0, rw (b .1) (cons-block r (variablesLine (q .0)) (map variableLine (b .0)) ks e es m (q .1) (b .2)))
+    (b .0, b .1, b .3, rw (b .2) (cons-block r (variablesLine (q .0)) (variableLines (b .0) (b .1)) ks e es m (q .1) (b .4)))
 
 tree-part : (r : Reading) (es : List Entry) (m : Model) → Follows es r (compose ∷ []) m → (c : Tree) × Block r (composeLine c ∷ []) [] es m
 unfolding thenDue
@@ -166,18 +171,20 @@ tree-part r (e ∷ es) m h =
     let r₁ = noted r (composeLine (q .0)) in
     (q .0, cons-block r (composeLine (q .0)) [] [] e es m (q .1) (nil-block r₁ [] es m (after e (composeLine (q .0)) es r [] m (q .1) (h .1))))
 
-rest-part : (r : Reading) (es : List Entry) (m : Model) → Follows es r (variables ∷ automata ∷ compose ∷ []) m → (vs : List Range) × (xs : List Automaton) × (c : Tree) × Block r ((variablesLine (length vs) ∷ map variableLine vs) ++ ((automataLine (length xs) ∷ flatMap automatonLines xs) ++ (composeLine c ∷ []))) [] es m
+rest-part : (r : Reading) (es : List Entry) (m : Model) → Follows es r (variables ∷ automata ∷ compose ∷ []) m
+    → (vs : List Range) × (os : List (Option ℕ)) × (xs : List Automaton) × (c : Tree) × (length os ≡ length vs)
+    × Block r ((variablesLine (length vs) ∷ variableLines vs os) ++ ((automataLine (length xs) ∷ flatMap automatonLines xs) ++ (composeLine c ∷ []))) [] es m
 rest-part r es m h =
     let v = variables-part r (automata ∷ compose ∷ []) es m h in
-    let lv = variablesLine (length (v .0)) ∷ map variableLine (v .0) in
-    let a = automata-part (notedAll r lv) (compose ∷ []) (v .1 .rest) m (v .1 .follows) in
+    let lv = variablesLine (length (v .0)) ∷ variableLines (v .0) (v .1) in
+    let a = automata-part (notedAll r lv) (compose ∷ []) (v .3 .rest) m (v .3 .follows) in
     let la = automataLine (length (a .0)) ∷ flatMap automatonLines (a .0) in
     let t = tree-part (notedAll (notedAll r lv) la) (a .1 .rest) m (a .1 .follows) in
     let lt = composeLine (t .0) ∷ [] in
-    let j = join-block (notedAll r lv) la lt (compose ∷ []) [] (v .1 .rest) m (a .1) (t .1) in
-    (v .0, a .0, t .0, join-block r lv (la ++ lt) (automata ∷ compose ∷ []) [] es m (v .1) j)
+    let j = join-block (notedAll r lv) la lt (compose ∷ []) [] (v .3 .rest) m (a .1) (t .1) in
+    (v .0, v .1, a .0, t .0, v .2, join-block r lv (la ++ lt) (automata ∷ compose ∷ []) [] es m (v .3) j)
 
-whole : (es : List Entry) (m : Model) → Follows es atFirst dueAtFirst m → (x : Model) × Block atFirst (lines x) [] es m
+whole : (es : List Entry) (m : Model) → Follows es atFirst dueAtFirst m → (x : Model) × (length (x .owners) ≡ length (x .variables)) × Block atFirst (lines x) [] es m
 unfolding thenDue dueAtFirst lines
 whole [] m h = absurd h
 whole (e ∷ []) m h =
@@ -190,15 +197,16 @@ whole (e ∷ f ∷ es) m h =
     let t = said f actions (g .0) in
     let r₂ = noted r₁ (actionsLine (t .0)) in
     let o = rest-part r₂ es m (after f (actionsLine (t .0)) es r₁ (variables ∷ automata ∷ compose ∷ []) m (t .1) (g .1)) in
-    let lo = (variablesLine (length (o .0)) ∷ map variableLine (o .0)) ++ ((automataLine (length (o .1)) ∷ flatMap automatonLines (o .1)) ++ (composeLine (o .2) ∷ [])) in (
-      record { format = q .0; actions = t .0; variables = o .0; automata = o .1; tree = o .2 },
-      cons-block atFirst (formatLine (q .0)) (actionsLine (t .0) ∷ lo) [] e (f ∷ es) m (q .1) (cons-block r₁ (actionsLine (t .0)) lo [] f es m (t .1) (o .3)),
+    let lo = (variablesLine (length (o .0)) ∷ variableLines (o .0) (o .1)) ++ ((automataLine (length (o .2)) ∷ flatMap automatonLines (o .2)) ++ (composeLine (o .3) ∷ [])) in (
+      record { format = q .0; actions = t .0; variables = o .0; owners = o .1; automata = o .2; tree = o .3 },
+      o .4,
+      cons-block atFirst (formatLine (q .0)) (actionsLine (t .0) ∷ lo) [] e (f ∷ es) m (q .1) (cons-block r₁ (actionsLine (t .0)) lo [] f es m (t .1) (o .5)),
     )
 
--- entries that follow what is due at first are the lines of their model
-pub lines-follow : (es : List Entry) (m : Model) → Follows es atFirst dueAtFirst m → es ≡ lines m
-lines-follow es m h = let w = whole es m h in go (w .0) (w .1 .rest) (w .1 .parted) (w .1 .follows)
+-- entries that follow what is due at first are the lines of their model, whose variables have as many owners
+pub lines-follow : (es : List Entry) (m : Model) → Follows es atFirst dueAtFirst m → (es ≡ lines m) × (length (m .owners) ≡ length (m .variables))
+lines-follow es m h = let w = whole es m h in go (w .0) (w .1) (w .2 .rest) (w .2 .parted) (w .2 .follows)
   where
-    go : (x : Model) (rest : List Entry) → es ≡ lines x ++ rest → Follows rest (notedAll atFirst (lines x)) [] m → es ≡ lines m
-    go x [] e f = e ∙ append-nil (lines x) ∙ ap lines (sym (noted-lines x) ∙ f)
-    go x (d ∷ rest) e f = absurd f
+    go : (x : Model) → length (x .owners) ≡ length (x .variables) → (rest : List Entry) → es ≡ lines x ++ rest → Follows rest (notedAll atFirst (lines x)) [] m → (es ≡ lines m) × (length (m .owners) ≡ length (m .variables))
+    go x n [] e f = let same = sym (noted-lines x n) ∙ f in (e ∙ append-nil (lines x) ∙ ap lines same, subst (λ (y : Model). length (y .owners) ≡ length (y .variables)) same n)
+    go x n (d ∷ rest) e f = absurd f

@@ -9,26 +9,27 @@ use native.Mathlib.Nat.{zero-add}
 use lib.IntN.{ℤ, pos}
 use lib.ListN.{length, getD, length-append, length-map, List·getD-append}
 use lib.Dec.{eqb, leb, ltb}
-use Rattle.model.specs.Basic.{eqZ, each, every, exists, keep, once, member, countUp}
+use Rattle.model.specs.Basic.{eqZ, each, every, exists, keep, once, member, lacks, countUp}
 use Rattle.model.specs.Predicate.{Pred, all, preds, holds, words, named, isOutside, namesOutside, mentions}
 use Rattle.model.specs.Composition.{Tree, par, syn, ini, leaf, leaves, starts}
-use Rattle.model.specs.Model.{Model, Location, Edge, Automaton, automaton, location, nobody, nowhere, inSet}
+use Rattle.model.specs.Model.{Model, Location, Edge, Automaton, automaton, location, ownerOf, nobody, nowhere, inSet}
 use Rattle.model.specs.Limits.{rises, treeRises}
 use Rattle.model.specs.Lawful.{Lawful, LawfulAutomaton}
 use Rattle.model.specs.Rules.{State, at, val, holdsIn, Taker, mentioned, Step, Environment, changed}
 use Rattle.model.specs.Moves.{under, alone, moves}
-use Rattle.model.specs.Linear.{pointer, pointerRange, atAutomata, pointerMoves, mergedInit, mergedInv, mergedEdge, edgesWithRepeats, mergedEdges, linear}
+use Rattle.model.specs.Linear.{pointer, pointerRange, pointerOwner, atAutomata, pointerMoves, mergedInit, mergedInv, mergedEdge, edgesWithRepeats, mergedEdges, linear}
 use Rattle.model.specs.Equal.{sameEdge}
-use Rattle.model.specs.Judge.{hasValues, row21, row22, inits, startsHold, invs, settled, isTaker, updated, led, kept, framed, fits, stepHolds}
+use Rattle.model.specs.Judge.{hasValues, row21, row22, inits, startsHold, invs, settled, isTaker, updated, led, kept, framed, fits, stepHolds, ownedKeep, environmentHolds}
 use Rattle.model.specs.Runs.{beside}
-use Rattle.model.proofs.Tests.{not-false, each-elim, and-left, and-right, and-same, or-none, eq-of, of-eq, not-eq, eq-self, lt-of, each-ext, each-add, exists-append, exists-map, exists-ext, every-append, every-ext}
+use Rattle.model.proofs.Tests.{not-false, each-intro, each-elim, or-right, and-left, and-right, and-same, or-none, eq-of, of-eq, not-eq, eq-self, lt-of, each-ext, each-add, exists-append, exists-map, exists-ext, every-append, every-ext}
 use Rattle.model.proofs.Lists.{keep-append, keep-all, keep-none, all-at, every-map, member-keep, member-count}
 use Rattle.model.proofs.Once.{exists-once, keep-once}
 use Rattle.model.proofs.EqualLaws.{same-edge-is}
 use Rattle.model.proofs.Numbered.{leaves-all}
 use Rattle.model.proofs.Takers.{of-takers}
-use Rattle.model.proofs.ByRules.{holds-step, step-holds, settled-environment, environment-settled}
+use Rattle.model.proofs.ByRules.{holds-step, step-holds, holds-environment, environment-holds}
 use Rattle.model.proofs.Pointers.{same-p, takers-quiet, preds-hold, preds-mention, automata-hold, pointers-lead, pointers-mention, no-pointer, pointer-takers, pointer-value}
+use Rattle.model.proofs.Owners.{variable-owner, pointer-owner, lacks-merged}
 
 -- the merged edges under an action are those that its moves gave
 module _ (m : Model) (a : ℕ) where
@@ -126,7 +127,7 @@ module _ (m : Model) where
       (pointers-lead m (beside s .values) (beside t .values) s t (pointer-value m (s .values) (s .locations) (g .values-are)) (pointer-value m (t .values) (t .locations) (h .values-are)) x)
 
   -- it mentions what its takers mention, and its takers' pointers
-  merged-mentions : (a k : ℕ) (x : List Taker) → mentioned k (alone 0 (mergedEdge m a x)) ≡ (mentioned k x || exists (λ y. eqb k (pointer m (y .automaton))) x)
+  pub merged-mentions : (a k : ℕ) (x : List Taker) → mentioned k (alone 0 (mergedEdge m a x)) ≡ (mentioned k x || exists (λ y. eqb k (pointer m (y .automaton))) x)
   unfolding mergedEdge mentioned exists
   merged-mentions a k x =
       or-false _
@@ -300,13 +301,59 @@ steps-alike m lawful s t p q p' q' a l b = (there, back)
     back q = marked-by m s t (q .marked ∙ marks-same m lawful a l)
         (holds-step m (lawful .tree .in-order) s a t (q .ended) (sym (step-same m lawful s t g h a l) ∙ step-holds (linear m) (linear-ordered m) (beside s) a (beside t) q))
 
+-- The merged automaton's variables with owners keep their values exactly if the composition's do, and if the pointers
+-- keep theirs, where they have an owner.
+module _ (m : Model) (lawful : Lawful m) (s t : State) (g : Shaped m s) (h : Shaped m t) where
+  abbrev pub pointersKeep : Bool
+  pointersKeep = each (length (m .automata)) (λ k. lacks (pointerOwner (m .format)) || eqb (at s k) (at t k))
+
+  variable-keeps : (k : ℕ) → k < length (m .variables) → (lacks (ownerOf (linear m) k) || eqZ (val (beside s) k) (val (beside t) k)) ≡ (lacks (ownerOf m k) || eqZ (val s k) (val t k))
+  unfolding beside linear
+  variable-keeps k l = rw (
+    variable-owner m (lawful .owners-are) k l,
+    lacks-merged (ownerOf m k),
+    List·getD-append (s .values) (map pos (s .locations)) (pos 0) k (omega (arith, g .values-are)),
+    List·getD-append (t .values) (map pos (t .locations)) (pos 0) k (omega (arith, h .values-are)),
+  )
+
+  pointer-keeps : (k : ℕ) → k < length (m .automata) → (lacks (ownerOf (linear m) (pointer m k)) || eqZ (val (beside s) (pointer m k)) (val (beside t) (pointer m k))) ≡ (lacks (pointerOwner (m .format)) || eqb (at s k) (at t k))
+  unfolding beside eqZ linear
+  pointer-keeps k l = rw (
+    pointer-owner m (lawful .owners-are) k l,
+    pointer-value m (s .values) (s .locations) (g .values-are) k,
+    pointer-value m (t .values) (t .locations) (h .values-are) k,
+  )
+
+  size-same : length (linear m .variables) ≡ length (m .variables) + length (m .automata)
+  unfolding linear
+  size-same = simp (length-append, length-map)
+
+  pub owned-same : ownedKeep (linear m) (beside s) (beside t) ≡ (ownedKeep m s t && pointersKeep)
+  unfolding ownedKeep pointer
+  owned-same =
+      ap (λ (n : ℕ). each n (λ k. lacks (ownerOf (linear m) k) || eqZ (val (beside s) k) (val (beside t) k))) size-same
+      ∙ each-add (length (m .variables)) (length (m .automata)) _
+      ∙ and-same (each-ext (length (m .variables)) _ _ variable-keeps) (each-ext (length (m .automata)) _ _ pointer-keeps)
+
+  pub environment-same : environmentHolds (linear m) (beside s) (beside t) ≡ (environmentHolds m s t && pointersKeep)
+  unfolding environmentHolds
+  environment-same = rw (settled-same m lawful s t g h, owned-same, and-assoc (settled m s t) (ownedKeep m s t) pointersKeep)
+
+-- they do where the locations stay, whatever the format
+stays-kept : (m : Model) (s : State) (values : List ℤ) → each (length (m .automata)) (λ k. lacks (pointerOwner (m .format)) || eqb (at s k) (at (changed s values) k)) ≡ true
+stays-kept m s values = each-intro _ _ (λ k l. or-right (lacks (pointerOwner (m .format))) (eq-self (at s k)))
+
+pub environment-stays : (m : Model) → Lawful m → (s : State) (values : List ℤ) → Shaped m s → Shaped m (changed s values)
+    → environmentHolds (linear m) (beside s) (beside (changed s values)) ≡ environmentHolds m s (changed s values)
+environment-stays m lawful s values g h = environment-same m lawful s (changed s values) g h ∙ rw (stays-kept m s values) (and-true _)
+
 -- an environment step likewise, the pointers kept
 pub environments-alike : (m : Model) → Lawful m → (s : State) (values : List ℤ) → row21 m s ≡ false → row22 m s ≡ false → row21 m (changed s values) ≡ false
     → Environment m s values ↔ Environment (linear m) (beside s) (values ++ map pos (s .locations))
 unfolding beside
 environments-alike m lawful s values p q p' = (
-  λ e. settled-environment (linear m) (linear-ordered m) (beside s) (values ++ map pos (s .locations)) (settled-same m lawful s (changed s values) g h ∙ environment-settled m (lawful .tree .in-order) s values e),
-  λ e. settled-environment m (lawful .tree .in-order) s values (sym (settled-same m lawful s (changed s values) g h) ∙ environment-settled (linear m) (linear-ordered m) (beside s) (values ++ map pos (s .locations)) e),
+  λ e. holds-environment (linear m) (linear-ordered m) (beside s) (values ++ map pos (s .locations)) (environment-stays m lawful s values g h ∙ environment-holds m (lawful .tree .in-order) s values e),
+  λ e. holds-environment m (lawful .tree .in-order) s values (sym (environment-stays m lawful s values g h) ∙ environment-holds (linear m) (linear-ordered m) (beside s) (values ++ map pos (s .locations)) e),
 )
   where
     g : Shaped m s

@@ -2,6 +2,8 @@
 use Prim.Native.Nat.{ℕ, suc, _+_, _*_, _≤_}
 use mathlib.Core.Path.{_≡_, refl, ap}
 use mathlib.Core.List.{List, [], _∷_, _++_, map, flatMap, List·Memᴰ, List·Memᴰ·head, List·Memᴰ·tail}
+use mathlib.Core.Option as O
+use mathlib.Core.Option.{Option}
 use native.Mathlib.Omega.{arith}
 use lib.ListN.{length, length-append, length-map}
 use Rattle.model.specs.Basic.{sum}
@@ -9,7 +11,7 @@ use Rattle.model.specs.Bounds.{maxLocations, tableWords}
 use Rattle.model.specs.Predicate.{Pred, Range, words, nodeCount}
 use Rattle.model.specs.Composition.{Tree, par, syn, ini, leaf, starts, startNodes, Node, nodes, treeSize, parNode, synNode, iniNode, leafNode, strayNode}
 use Rattle.model.specs.Model.{Location, Edge, Automaton, Model, edgeTotal}
-use Rattle.model.specs.Lines.{Entry, formatLine, actionsLine, variablesLine, variableLine, automataLine, syncLine, locationsLine, initLine, invLine, edgesLine, edgeLine, composeLine, locationLines, automatonLines, lines}
+use Rattle.model.specs.Lines.{Entry, formatLine, actionsLine, variablesLine, variableLine, automataLine, syncLine, locationsLine, initLine, invLine, edgesLine, edgeLine, composeLine, locationLines, automatonLines, variableLines, lines}
 use Rattle.model.specs.Lawful.{Lawful, locationNodes, automatonNodes, nodeTotal}
 use Rattle.model.specs.Table.{code, setWords, predWords, nodeWords, startWords, lineWords, sheetWords}
 
@@ -33,10 +35,11 @@ size-pred : (p : Pred) → length (predWords p) ≡ suc (nodeCount p)
 unfolding predWords nodeCount
 size-pred p = ap suc (length-map (words p) code)
 
-size-variables : (xs : List Range) → size (map variableLine xs) ≡ 2 * length xs
-unfolding lineWords
-size-variables [] = size-none
-size-variables (x ∷ xs) = omega (arith, size-cons (variableLine x) (map variableLine xs), size-variables xs)
+size-variables : (xs : List Range) (os : List (Option ℕ)) → size (variableLines xs os) ≡ 3 * length xs
+unfolding lineWords variableLines
+size-variables [] os = size-none
+size-variables (x ∷ xs) [] = omega (arith, size-cons (variableLine x O.none) (variableLines xs []), size-variables xs [])
+size-variables (x ∷ xs) (o ∷ os) = omega (arith, size-cons (variableLine x o) (variableLines xs os), size-variables xs os)
 
 size-locations : (xs : List Location) → size (flatMap locationLines xs) ≡ 2 * length xs + sum (map locationNodes xs)
 unfolding flatMap locationLines locationNodes sum lineWords
@@ -107,13 +110,13 @@ lines-fit m w =
     let automataPart = flatMap automatonLines (m .automata) in
     let tail = automataPart ++ composeLine (m .tree) ∷ [] in
     let rest = automataLine (length (m .automata)) ∷ tail in
-    let variablesPart = map variableLine (m .variables) in
+    let variablesPart = variableLines (m .variables) (m .owners) in
     let v = variablesLine (length (m .variables)) ∷ variablesPart ++ rest in
     let a = size-cons (formatLine (m .format)) (actionsLine (m .actions) ∷ v) in
     let b = size-cons (actionsLine (m .actions)) v in
     let c = size-cons (variablesLine (length (m .variables))) (variablesPart ++ rest) in
     let d = size-append variablesPart rest in
-    let e = size-variables (m .variables) in
+    let e = size-variables (m .variables) (m .owners) in
     let f = size-cons (automataLine (length (m .automata))) tail in
     let g = size-append automataPart (composeLine (m .tree) ∷ []) in
     let h = size-automata (m .automata) (λ x i. w .automata x i .few-locations) in
@@ -128,7 +131,7 @@ unfolding lineWords setWords predWords
 size-line (formatLine n) = omega arith
 size-line (actionsLine n) = omega arith
 size-line (variablesLine n) = omega arith
-size-line (variableLine x) = omega arith
+size-line (variableLine x o) = omega arith
 size-line (automataLine n) = omega arith
 size-line (syncLine list) = omega arith
 size-line (locationsLine n) = omega arith

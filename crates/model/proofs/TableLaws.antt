@@ -8,6 +8,7 @@ use mathlib.Core.Logic.{_↔_}
 use native.Mathlib.Omega.{arith}
 use lib.ListN.{length, take, drop, replicate, length-append, length-replicate, take-append-drop}
 use lib.Seq.{take-at}
+use lib.Dec.{eqb}
 use Rattle.model.specs.Basic.{same, onSome, lacks}
 use Rattle.model.specs.Bounds.{tableWords}
 use Rattle.model.specs.Model.{Model}
@@ -25,7 +26,9 @@ use Rattle.model.proofs.Sizes.{words-fit, lines-few}
 -- what follows a sheet's words plays no part in taking it apart
 pub decode-back : (m : Model) → limits m ≡ true → (rest : List ℕ) → decode tableWords atFirst dueAtFirst (sheetWords m ++ rest) ≡ some m
 unfolding limits sheetWords
-decode-back m h rest = decode-lines (lines m) atFirst dueAtFirst m (follow-lines m) h tableWords (lines-few m (lawful-is m .0 h)) rest
+decode-back m h rest =
+    let lawful = lawful-is m .0 h in
+    decode-lines (lines m) atFirst dueAtFirst m (follow-lines m (lawful .owners-are)) (and-right (eqb (length (m .owners)) (length (m .variables))) _ h) tableWords (lines-few m lawful) rest
 
 pub table-length : (m : Model) → limits m ≡ true → length (tableOf m) ≡ tableWords
 unfolding tableOf

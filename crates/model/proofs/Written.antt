@@ -2,7 +2,7 @@
 -- its members.
 use mathlib.Core.Path.{_≡_, refl, sym, ap, _∙_}
 use mathlib.Core.Bool.{Bool, true, false, _&&_, _||_}
-use mathlib.Core.List.{List, [], _∷_}
+use mathlib.Core.List.{List, [], _∷_, List·Memᴰ}
 use Prim.Native.Nat.{ℕ, zero, suc, _+_, _-_, _≤_, _<_}
 use native.Mathlib.Omega.{arith}
 use lib.Dec.{leb}
@@ -53,7 +53,7 @@ unfolding written
 written-ranged p = kept-ranged (λ k. mentions k p) 0 maxVariables lastVariable (omega arith)
 
 -- a variable that words mention is the model's, where all that they name are (row 7)
-mention-inside : (count k : ℕ) (ws : List Word) → namesOutside count ws ≡ false → exists (λ w. isNewOf k (named w)) ws ≡ true → leb count k ≡ false
+pub mention-inside : (count k : ℕ) (ws : List Word) → namesOutside count ws ≡ false → exists (λ w. isNewOf k (named w)) ws ≡ true → leb count k ≡ false
 unfolding namesOutside isOutside isNewOf
 mention-inside count k ws h e =
     let x = exists-elim (λ w. isNewOf k (named w)) ws e in
@@ -67,6 +67,11 @@ mention-inside count k ws h e =
 pub written-inside : (count : ℕ) (p : Pred) → namesOutside count (words p) ≡ false → exists (λ k. leb count k) (written p) ≡ false
 unfolding written mentions
 written-inside count p h = none-exists (λ k. leb count k) (written p) (λ k m. mention-inside count k (words p) h (keep-out (λ j. mentions j p) (countUp 0 maxVariables) m .1))
+
+-- what is in the list is mentioned
+pub written-mentions : (p : Pred) (k : ℕ) → List·Memᴰ k (written p) → mentions k p ≡ true
+unfolding written
+written-mentions p k m = keep-out (λ j. mentions j p) (countUp 0 maxVariables) m .1
 
 -- what is below a rising list is not in it
 pub below-ascending : (low : ℕ) (list : List ℕ) → ascends low list ≡ true → (j : ℕ) → j < low → member j list ≡ false

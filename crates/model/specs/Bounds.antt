@@ -7,11 +7,15 @@ abbrev pub firstFormat : ℕ
 firstFormat = 1
 
 abbrev pub lastFormat : ℕ
-lastFormat = 2
+lastFormat = 3
 
 -- the first format with a line `writes=` after each edge (request (f))
 abbrev pub writesFormat : ℕ
 writesFormat = 2
+
+-- the first format with a line `owner=` after each variable (request (k))
+abbrev pub ownersFormat : ℕ
+ownersFormat = 3
 
 abbrev pub maxActions : ℕ
 maxActions = 63

@@ -7,10 +7,10 @@ use Prim.Native.Nat.{ℕ}
 use lib.IntN.{ℤ, pos}
 use lib.ListN.{length, getD}
 use lib.Dec.{eqb, ltb}
-use Rattle.model.specs.Basic.{eqZ, between, each, every, exists}
+use Rattle.model.specs.Basic.{eqZ, between, each, every, exists, lacks}
 use Rattle.model.specs.Predicate.{Range, range, holds}
 use Rattle.model.specs.Composition.{starts}
-use Rattle.model.specs.Model.{Model, automaton, location, inSet}
+use Rattle.model.specs.Model.{Model, automaton, location, ownerOf, inSet}
 use Rattle.model.specs.Table.{Opened, unopened, opened, openTable}
 use Rattle.model.specs.Rules.{Phase, start, running, State, reached, at, val, holdsIn, Taker, mentioned, changed}
 use Rattle.model.specs.Moves.{moves}
@@ -91,6 +91,13 @@ fits m s t takers = every (updated s t) takers && (every (led s t) takers && (ke
 unfoldable pub stepHolds : Model → State → ℕ → State → Bool
 stepHolds m s a t = settled m s t && exists (fits m s t) (moves m a (m .tree))
 
+-- What holds of the variables where the environment moves: each that has an owner keeps its value.
+unfoldable pub ownedKeep : Model → State → State → Bool
+ownedKeep m s t = each (length (m .variables)) (λ k. lacks (ownerOf m k) || eqZ (val s k) (val t k))
+
+unfoldable pub environmentHolds : Model → State → State → Bool
+environmentHolds m s t = settled m s t && ownedKeep m s t
+
 -- Rows 21 to 24, then the rules. (The laws step-by-rules and environment-by-rules.)
 unfoldable pub judgeTo : Model → State → ℕ → State → Answer
 judgeTo m s a t =
@@ -108,7 +115,7 @@ judgeEnvironment m s values =
     cond (row21 m s || row21 m (changed s values)) (refused 21)
     (cond (row22 m s) (refused 22)
     (cond (row23 m s || row23 m (changed s values)) (refused 23)
-    (cond (settled m s (changed s values)) yes no)))
+    (cond (environmentHolds m s (changed s values)) yes no)))
 
 -- The two calls over a table: rows 18, 19 and 20 come first.
 unfoldable pub judgeAt : List ℕ → (phase : ℕ) → List ℕ → List ℤ → (Model → State → Answer) → Answer

@@ -2,16 +2,18 @@
 use mathlib.Core.Path.{_≡_}
 use mathlib.Core.Bool.{Bool, true, false}
 use mathlib.Core.List.{List, [], _∷_, map, List·Memᴰ}
-use Prim.Native.Nat.{ℕ, _+_, _≤_, _<_}
+use mathlib.Core.Option.{Option, some}
+use Prim.Native.Nat.{ℕ, suc, _+_, _≤_, _<_}
 use lib.ListN.{length}
 use lib.Signed.{leZ}
 use Rattle.model.specs.Basic.{between, every, sum, countUp}
 use Rattle.model.specs.Bounds.{firstFormat, lastFormat, maxActions, maxVariables, maxAutomata, maxLocations}
 use Rattle.model.specs.Bounds.{maxEdges, maxDepth, maxNodes, maxTreeNodes, leastNumber, greatestNumber}
-use Rattle.model.specs.Predicate.{Pred, Range, words, depth, allStay, namesOutside, namesNew, nodeCount}
+use Rattle.model.specs.Bounds.{ownersFormat}
+use Rattle.model.specs.Predicate.{Pred, Range, words, depth, allStay, namesOutside, namesNew, nodeCount, written}
 use Rattle.model.specs.Composition.{Tree, leaves, starts, startNodes, treeSize}
-use Rattle.model.specs.Model.{Location, Edge, Automaton, Model, edgeTotal}
-use Rattle.model.specs.Limits.{inRange, rises, treeRises, listsFilled}
+use Rattle.model.specs.Model.{Location, Edge, Automaton, Model, automaton, edgeTotal}
+use Rattle.model.specs.Limits.{inRange, rises, treeRises, listsFilled, writesForeign}
 
 -- the nodes of all predicates
 unfoldable pub locationNodes : Location → ℕ
@@ -28,6 +30,11 @@ pub record LawfulRange (x : Range) : Type 0 where
   pub low : between leastNumber greatestNumber (x .low) ≡ true
   pub high : between leastNumber greatestNumber (x .high) ≡ true
   pub ordered : leZ (x .low) (x .high) ≡ true
+
+-- row 50, and that an owner takes a format that says it; N automata
+pub record LawfulOwner (format N : ℕ) (o : Option ℕ) : Type 0 where
+  pub said : (k : ℕ) → o ≡ some k → ownersFormat ≤ format
+  pub below : (k : ℕ) → o ≡ some k → k < N
 
 -- rows 3, 7, 9 and 10
 pub record LawfulPred (declared : List Range) (p : Pred) : Type 0 where
@@ -70,16 +77,20 @@ pub record LawfulTree (A N : ℕ) (c : Tree) : Type 0 where
   pub in-order : leaves c ≡ countUp 0 N
   pub size : treeSize c ≤ maxTreeNodes
 
--- rows 3, 11 and 15
+-- rows 3, 11, 15 and 51
 pub record Lawful (m : Model) : Type 0 where
   pub format-from : firstFormat ≤ m .format
   pub format-to : m .format ≤ lastFormat
   pub few-actions : m .actions ≤ maxActions
   pub few-variables : length (m .variables) ≤ maxVariables
   pub ranges : (x : Range) → List·Memᴰ x (m .variables) → LawfulRange x
+  pub owners-are : length (m .owners) ≡ length (m .variables)
+  pub owners : (o : Option ℕ) → List·Memᴰ o (m .owners) → LawfulOwner (m .format) (length (m .automata)) o
   pub some-automaton : 1 ≤ length (m .automata)
   pub few-automata : length (m .automata) ≤ maxAutomata
   pub automata : (x : Automaton) → List·Memᴰ x (m .automata) → LawfulAutomaton (m .variables) (m .actions) x
+  pub own : (i : ℕ) → i < length (m .automata) → (e : Edge) → List·Memᴰ e (automaton m i .edges)
+      → writesForeign (m .format) (m .owners) (suc i) (written (e .update)) ≡ false
   pub few-edges : edgeTotal (m .automata) ≤ maxEdges
   pub few-nodes : nodeTotal (m .automata) + startNodes (m .tree) ≤ maxNodes
   pub starts : (p : Pred) → List·Memᴰ p (starts (m .tree)) → LawfulStart (m .variables) p

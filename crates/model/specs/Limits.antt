@@ -5,17 +5,17 @@ use Prim.Native.Nat.{ℕ, suc, _+_}
 use mathlib.Core.Bool.{Bool, true, false, not, _&&_, _||_}
 use mathlib.Core.List.{List, [], _∷_, flatMap}
 use mathlib.Core.Option.{Option, none, some}
-use lib.ListN.{length}
+use lib.ListN.{length, getD}
 use lib.IntN.{ℤ}
 use lib.Signed.{leZ}
 use lib.Dec.{eqb, leb, ltb}
 use Rattle.model.specs.Basic.{between, every, exists, same, countUp, lacks}
 use Rattle.model.specs.Bounds.{firstFormat, lastFormat, maxActions, maxVariables, maxAutomata, maxLocations}
 use Rattle.model.specs.Bounds.{maxEdges, maxOperands, maxDepth, maxNodes, maxTreeNodes, lastVariable}
-use Rattle.model.specs.Bounds.{lastLocation, lastAutomaton, leastNumber, greatestNumber}
+use Rattle.model.specs.Bounds.{lastLocation, lastAutomaton, leastNumber, greatestNumber, ownersFormat}
 use Rattle.model.specs.Predicate.{Pred, Word, Range, words, depth, allStay, namesOutside, namesNew, allOf, anyOf}
 use Rattle.model.specs.Predicate.{notWord, impWord, eqWord, leWord, numWord, oldWord, newWord, addWord, subWord}
-use Rattle.model.specs.Predicate.{mulWord, ifWord, stray}
+use Rattle.model.specs.Predicate.{mulWord, ifWord, stray, written}
 use Rattle.model.specs.Composition.{Tree, par, syn, ini, leaf, leaves, starts, treeSize}
 use Rattle.model.specs.Model.{Edge, Model, edgeTotal}
 use Rattle.model.specs.Lines.{Entry, formatLine, actionsLine, variablesLine, variableLine, automataLine, syncLine}
@@ -45,12 +45,16 @@ treeInRange (syn list c) = every (λ k. leb k maxActions) list && treeInRange c
 treeInRange (ini p c) = every inRange (words p) && treeInRange c
 treeInRange (leaf k) = leb k lastAutomaton
 
+unfoldable pub ownerInRange : Option ℕ → Bool
+ownerInRange none = true
+ownerInRange (some k) = leb k lastAutomaton
+
 unfoldable pub numbersInRange : Entry → Bool
 numbersInRange (formatLine n) = leb firstFormat n && leb n lastFormat
 numbersInRange (actionsLine n) = leb n maxActions
 numbersInRange (variablesLine n) = leb n maxVariables
-numbersInRange (variableLine x) =
-    between leastNumber greatestNumber (x .low) && between leastNumber greatestNumber (x .high)
+numbersInRange (variableLine x o) =
+    between leastNumber greatestNumber (x .low) && (between leastNumber greatestNumber (x .high) && ownerInRange o)
 numbersInRange (automataLine n) = leb 1 n && leb n maxAutomata
 numbersInRange (syncLine list) = every (λ k. leb k maxActions) list
 numbersInRange (locationsLine n) = leb 1 n && leb n maxLocations
@@ -61,6 +65,11 @@ numbersInRange (edgeLine e) =
     leb (e .from) lastLocation &&
     (leb (e .action) maxActions && (leb (e .to) lastLocation && every inRange (words (e .update))))
 numbersInRange (composeLine c) = treeInRange c
+
+-- Row 2, as far as an entry can break it: before format 3 no line says an owner.
+unfoldable pub isEarly : (format : ℕ) → Option ℕ → Bool
+isEarly f none = false
+isEarly f (some k) = ltb f ownersFormat
 
 -- Row 4: the range is empty.
 unfoldable pub isCrossed : Range → Bool
@@ -123,6 +132,23 @@ isTooLarge nodes = ltb maxTreeNodes nodes
 unfoldable pub passesEdges : Reading → ℕ → Bool
 passesEdges r E = ltb maxEdges (edgeTotal (r .model .automata) + E)
 
+-- Row 50: is an owner not among N automata?
+unfoldable pub isBeyond : ℕ → Option ℕ → Bool
+isBeyond N none = false
+isBeyond N (some k) = leb N k
+
+-- Row 51: from format 3 on, is there a variable in the list that the last of n automata does not own?
+unfoldable pub isOwner : ℕ → Option ℕ → Bool
+isOwner n none = false
+isOwner n (some k) = eqb (suc k) n
+
+unfoldable pub writesForeign : (format : ℕ) → List (Option ℕ) → (n : ℕ) → List ℕ → Bool
+writesForeign f owners n list = leb ownersFormat f && exists (λ k. not (isOwner n (getD owners k none))) list
+
+-- the same for the automaton that is being read
+unfoldable pub isForeign : Reading → List ℕ → Bool
+isForeign r list = writesForeign (r .model .format) (r .model .owners) (length (r .model .automata)) list
+
 -- A row's number if it is broken, otherwise what `rest` says.
 unfoldable pub broken : ℕ → Bool → Option ℕ → Option ℕ
 broken row true rest = some row
@@ -156,8 +182,8 @@ unfoldable pub contentFault : Reading → Entry → Option ℕ
 contentFault r (formatLine n) = none
 contentFault r (actionsLine n) = none
 contentFault r (variablesLine n) = none
-contentFault r (variableLine x) = broken 4 (isCrossed x) none
-contentFault r (automataLine n) = none
+contentFault r (variableLine x o) = broken 2 (isEarly (r .model .format) o) (broken 4 (isCrossed x) none)
+contentFault r (automataLine n) = broken 50 (exists (isBeyond n) (r .model .owners)) none
 contentFault r (syncLine list) = broken 5 (not (rises (r .model .actions) 0 list)) none
 contentFault r (locationsLine n) = none
 contentFault r (initLine p) = locationFault r p
@@ -167,7 +193,8 @@ contentFault r (edgeLine e) =
     broken 7 (namesOutside (variableCount r) (words (e .update)))
     (predFault r (e .update)
     (broken 12 (isAstray r (e .from) (e .action) (e .to))
-    none))
+    (broken 51 (isForeign r (written (e .update)))
+    none)))
 contentFault r (composeLine c) =
     broken 5 (not (treeRises (r .model .actions) c))
     (startsFault r (starts c)
@@ -184,6 +211,7 @@ unfoldable pub withinLimits : Reading → List Entry → Bool
 withinLimits r [] = true
 withinLimits r (e ∷ es) = lacks (faultOf r e) && withinLimits (noted r e) es
 
--- what an accepted model meets. (Its text then has at most 65,536 bytes: text-fits.)
+-- what an accepted model meets, and that each variable has its place for an owner. (Its text then has at most 65,536
+-- bytes: text-fits.)
 unfoldable pub limits : Model → Bool
-limits m = withinLimits atFirst (lines m)
+limits m = eqb (length (m .owners)) (length (m .variables)) && withinLimits atFirst (lines m)

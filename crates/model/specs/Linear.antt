@@ -1,14 +1,14 @@
 -- "The merged text": Definition 4 of source document 003, the linearization. The format departs from it once: the
 -- pointers' ranges say what its second conjunct of `init` says.
 use Prim.Native.Nat.{ℕ, suc, pred, _+_}
-use mathlib.Core.Bool.{Bool}
+use mathlib.Core.Bool.{Bool, true, false}
 use mathlib.Core.List.{List, [], _∷_, _++_, map, flatMap}
-use mathlib.Core.Option.{Option, none}
+use mathlib.Core.Option.{Option, none, some}
 use lib.IntN.{ℤ, pos}
 use lib.ListN.{length}
-use lib.Dec.{ltb}
+use lib.Dec.{leb, ltb}
 use Rattle.model.specs.Basic.{exists, keep, once, sum, countUp}
-use Rattle.model.specs.Bounds.{maxVariables, maxEdges, maxNodes}
+use Rattle.model.specs.Bounds.{maxVariables, maxEdges, maxNodes, ownersFormat}
 use Rattle.model.specs.Predicate.{Pred, all, imp, eq, num, old, new, preds, Range, range, nodeCount}
 use Rattle.model.specs.Composition.{leaf, starts}
 use Rattle.model.specs.Model.{Model, Location, Edge, Automaton, inSet}
@@ -20,6 +20,14 @@ use Rattle.model.specs.Moves.{moves, distinctCount}
 -- a pointer's values are its automaton's locations
 unfoldable pub pointerRange : Automaton → Range
 pointerRange x = range (pos 0) (pos (pred (length (x .locations))))
+
+-- the merged automaton, which is automaton 0, owns what has an owner; and from format 3 on the pointers (request (k))
+unfoldable pub mergedOwner : Option ℕ → Option ℕ
+mergedOwner none = none
+mergedOwner (some k) = some 0
+
+unfoldable pub pointerOwner : (format : ℕ) → Option ℕ
+pointerOwner f = elim (leb ownersFormat f) [ true ↦ some 0 | false ↦ none ]
 
 module _ (m : Model) where
   -- automaton I's pointer is variable V + I
@@ -79,6 +87,7 @@ module _ (m : Model) where
         format = m .format;
         actions = m .actions;
         variables = m .variables ++ map pointerRange (m .automata);
+        owners = map mergedOwner (m .owners) ++ map (λ x. pointerOwner (m .format)) (m .automata);
         automata = record {
           sync = keep (λ a. inSet m a (m .tree)) (countUp 1 (m .actions));
           locations = record { init = mergedInit; inv = mergedInv } ∷ [];

@@ -2,6 +2,8 @@
 -- entries with bytes, and the table with words.
 use Prim.Native.Nat.{ℕ, zero, suc, _+_}
 use mathlib.Core.List.{List, [], _∷_, _++_, map, flatMap}
+use mathlib.Core.Option as O
+use mathlib.Core.Option.{Option}
 use lib.ListN.{length}
 use Rattle.model.specs.Predicate.{Pred, all, none, Range, nodeCount}
 use Rattle.model.specs.Composition.{Tree, leaf, startNodes}
@@ -14,7 +16,7 @@ pub data Key : Type 0 where
 -- what a line says
 pub data Entry : Type 0 where
   formatLine actionsLine variablesLine automataLine locationsLine edgesLine : ℕ → Entry
-  variableLine : Range → Entry
+  variableLine : Range → (owner : Option ℕ) → Entry
   syncLine : List ℕ → Entry
   initLine invLine : Pred → Entry
   edgeLine : Edge → Entry
@@ -24,7 +26,7 @@ unfoldable pub keyOf : Entry → Key
 keyOf (formatLine n) = format
 keyOf (actionsLine n) = actions
 keyOf (variablesLine n) = variables
-keyOf (variableLine r) = variable
+keyOf (variableLine x o) = variable
 keyOf (automataLine n) = automata
 keyOf (syncLine list) = sync
 keyOf (locationsLine n) = locations
@@ -44,10 +46,16 @@ automatonLines x =
     (flatMap locationLines (x .locations) ++
     (edgesLine (length (x .edges)) ∷ map edgeLine (x .edges)))
 
+-- a variable with its owner; a sheet has as many of the one as of the other
+unfoldable pub variableLines : List Range → List (Option ℕ) → List Entry
+variableLines [] os = []
+variableLines (x ∷ xs) [] = variableLine x O.none ∷ variableLines xs []
+variableLines (x ∷ xs) (o ∷ os) = variableLine x o ∷ variableLines xs os
+
 unfoldable pub lines : Model → List Entry
 lines m =
     formatLine (m .format) ∷ actionsLine (m .actions) ∷ variablesLine (length (m .variables)) ∷
-    (map variableLine (m .variables) ++
+    (variableLines (m .variables) (m .owners) ++
     (automataLine (length (m .automata)) ∷
     (flatMap automatonLines (m .automata) ++
     (composeLine (m .tree) ∷ []))))
@@ -65,7 +73,7 @@ unfoldable pub thenDue : (format : ℕ) → Entry → List Key
 thenDue f (formatLine n) = []
 thenDue f (actionsLine n) = []
 thenDue f (variablesLine n) = repeat n (variable ∷ [])
-thenDue f (variableLine r) = []
+thenDue f (variableLine x o) = []
 thenDue f (automataLine n) = repeat n (sync ∷ locations ∷ [])
 thenDue f (syncLine list) = []
 thenDue f (locationsLine n) = repeat n (init ∷ inv ∷ []) ++ edges ∷ []
@@ -85,7 +93,7 @@ pub record Reading : Type 0 where
 unfoldable pub atFirst : Reading
 atFirst =
     record {
-      model = record { format = 0; actions = 0; variables = []; automata = []; tree = leaf 0 };
+      model = record { format = 0; actions = 0; variables = []; owners = []; automata = []; tree = leaf 0 };
       latest = all none;
       nodes = 0;
     }
@@ -107,16 +115,18 @@ addLocation l x = record { sync = x .sync; locations = x .locations ++ l ∷ [];
 unfoldable pub addEdge : Edge → Automaton → Automaton
 addEdge e x = record { sync = x .sync; locations = x .locations; edges = x .edges ++ e ∷ [] }
 
-unfoldable pub withModel : Reading → (format actions : ℕ) → List Range → List Automaton → Tree → Reading
-withModel r f a vs xs c =
+unfoldable pub withModel : Reading → (format actions : ℕ) → List Range → List (Option ℕ) → List Automaton → Tree
+    → Reading
+withModel r f a vs os xs c =
     record {
-      model = record { format = f; actions = a; variables = vs; automata = xs; tree = c };
+      model = record { format = f; actions = a; variables = vs; owners = os; automata = xs; tree = c };
       latest = r .latest;
       nodes = r .nodes;
     }
 
 unfoldable pub withAutomata : Reading → List Automaton → Reading
-withAutomata r xs = withModel r (r .model .format) (r .model .actions) (r .model .variables) xs (r .model .tree)
+withAutomata r xs =
+    withModel r (r .model .format) (r .model .actions) (r .model .variables) (r .model .owners) xs (r .model .tree)
 
 unfoldable pub withPred : Reading → Pred → Reading
 withPred r p = record { model = r .model; latest = p; nodes = r .nodes + nodeCount p }
@@ -124,14 +134,27 @@ withPred r p = record { model = r .model; latest = p; nodes = r .nodes + nodeCou
 unfoldable pub withNodes : Reading → ℕ → Reading
 withNodes r n = record { model = r .model; latest = r .latest; nodes = r .nodes + n }
 
+-- an owner for the last variable, which has been noted with none: the line behind it says one (request (k))
+unfoldable pub lastOwner : Option ℕ → List (Option ℕ) → List (Option ℕ)
+lastOwner o [] = []
+lastOwner o (p ∷ []) = o ∷ []
+lastOwner o (p ∷ q ∷ rest) = p ∷ lastOwner o (q ∷ rest)
+
+unfoldable pub withOwner : Reading → Option ℕ → Reading
+withOwner r o =
+    withModel r (r .model .format) (r .model .actions) (r .model .variables) (lastOwner o (r .model .owners))
+    (r .model .automata) (r .model .tree)
+
 -- what a line adds
 unfoldable pub noted : Reading → Entry → Reading
-noted r (formatLine n) = withModel r n (r .model .actions) (r .model .variables) (r .model .automata) (r .model .tree)
-noted r (actionsLine n) = withModel r (r .model .format) n (r .model .variables) (r .model .automata) (r .model .tree)
+noted r (formatLine n) =
+    withModel r n (r .model .actions) (r .model .variables) (r .model .owners) (r .model .automata) (r .model .tree)
+noted r (actionsLine n) =
+    withModel r (r .model .format) n (r .model .variables) (r .model .owners) (r .model .automata) (r .model .tree)
 noted r (variablesLine n) = r
-noted r (variableLine x) =
-    withModel r (r .model .format) (r .model .actions) (r .model .variables ++ x ∷ []) (r .model .automata)
-    (r .model .tree)
+noted r (variableLine x o) =
+    withModel r (r .model .format) (r .model .actions) (r .model .variables ++ x ∷ []) (r .model .owners ++ o ∷ [])
+    (r .model .automata) (r .model .tree)
 noted r (automataLine n) = r
 noted r (syncLine list) = withAutomata r (r .model .automata ++ record { sync = list; locations = []; edges = [] } ∷ [])
 noted r (locationsLine n) = r
@@ -141,5 +164,6 @@ noted r (invLine p) =
 noted r (edgesLine n) = r
 noted r (edgeLine e) = withAutomata (withPred r (e .update)) (onLast (addEdge e) (r .model .automata))
 noted r (composeLine c) =
-    withNodes (withModel r (r .model .format) (r .model .actions) (r .model .variables) (r .model .automata) c)
+    withNodes
+    (withModel r (r .model .format) (r .model .actions) (r .model .variables) (r .model .owners) (r .model .automata) c)
     (startNodes c)

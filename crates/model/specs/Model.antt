@@ -3,6 +3,8 @@
 use Prim.Native.Nat.{ℕ, _+_}
 use mathlib.Core.Bool.{Bool, _||_}
 use mathlib.Core.List.{List, [], _∷_}
+use mathlib.Core.Option as O
+use mathlib.Core.Option.{Option}
 use lib.ListN.{length, getD}
 use Rattle.model.specs.Basic.{member}
 use Rattle.model.specs.Predicate.{Pred, all, none, Range}
@@ -26,11 +28,13 @@ pub record Automaton : Type 0 where
   pub edges : List Edge
 
 -- `format` is the number of the text's format; `actions` is A, the highest action; 0 is the silent action, which no set
--- holds
+-- holds. `variables` has the range of each variable, and `owners` the automaton that owns it, if one does (request (k);
+-- before format 3 none has an owner).
 pub record Model : Type 0 where
   pub format : ℕ
   pub actions : ℕ
   pub variables : List Range
+  pub owners : List (Option ℕ)
   pub automata : List Automaton
   pub tree : Tree
 
@@ -46,6 +50,10 @@ automaton m k = getD (m .automata) k nobody
 
 abbrev pub location : Model → ℕ → ℕ → Location
 location m k j = getD (automaton m k .locations) j nowhere
+
+-- the owner of variable k
+abbrev pub ownerOf : Model → ℕ → Option ℕ
+ownerOf m k = getD (m .owners) k O.none
 
 -- "Steps": is action a in the synchronising set of a composition?
 unfoldable pub inSet : Model → ℕ → Tree → Bool

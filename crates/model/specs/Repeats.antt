@@ -25,6 +25,7 @@ distinct m =
       format = m .format;
       actions = m .actions;
       variables = m .variables;
+      owners = m .owners;
       automata = map distinctEdges (m .automata);
       tree = m .tree;
     }

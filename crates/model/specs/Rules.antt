@@ -3,13 +3,14 @@
 use mathlib.Core.Path.{_≡_}
 use mathlib.Core.Bool.{Bool, true, false, _||_}
 use mathlib.Core.List.{List, [], _∷_, _++_, List·Memᴰ}
+use mathlib.Core.Option.{some}
 use Prim.Native.Nat.{ℕ, _<_}
 use lib.IntN.{ℤ, pos}
 use lib.ListN.{length, getD}
 use Rattle.model.specs.Basic.{member, exists}
 use Rattle.model.specs.Predicate.{Pred, holds, mentions}
 use Rattle.model.specs.Composition.{Tree, par, syn, ini, leaf}
-use Rattle.model.specs.Model.{Model, Edge, automaton, location, inSet}
+use Rattle.model.specs.Model.{Model, Edge, automaton, location, ownerOf, inSet}
 
 -- phase 0 is start, phase 1 running
 pub data Phase : Type 0 where
@@ -115,9 +116,11 @@ module _ (m : Model) (s : State) (a : ℕ) (t : State) where
     -- the mark: is the action in the whole's set?
     pub marked : mark ≡ inSet m a (m .tree)
 
--- rules 2, 5 and 7 for the whole: the locations stay, and the values may become others that every invariant allows
+-- rules 2, 5 and 7 for the whole: the locations stay, and the values may become others that every invariant allows;
+-- only a variable that nobody owns may change (request (k))
 abbrev pub changed : State → List ℤ → State
 changed s values = reached (s .locations) values
 
 pub record Environment (m : Model) (s : State) (values : List ℤ) : Type 0 where
   pub still : Rests m s (changed s values) (m .tree)
+  pub owned : (k i : ℕ) → k < length (m .variables) → ownerOf m k ≡ some i → val s k ≡ val (changed s values) k

@@ -83,11 +83,16 @@ nodeWords C.strayNode = []
 unfoldable pub startWords : Tree → List ℕ
 startWords c = length (starts c) ∷ flatMap predWords (starts c)
 
+-- nobody is 0, automaton K is K + 1
+unfoldable pub ownerWord : Option ℕ → ℕ
+ownerWord none = 0
+ownerWord (some k) = suc k
+
 unfoldable pub lineWords : Entry → List ℕ
 lineWords (formatLine n) = n ∷ []
 lineWords (actionsLine n) = n ∷ []
 lineWords (variablesLine n) = n ∷ []
-lineWords (variableLine x) = biased (x .low) ∷ biased (x .high) ∷ []
+lineWords (variableLine x o) = biased (x .low) ∷ biased (x .high) ∷ ownerWord o ∷ []
 lineWords (automataLine n) = n ∷ []
 lineWords (syncLine list) = setWords list
 lineWords (locationsLine n) = n ∷ []
@@ -143,6 +148,16 @@ splitPair f [] = none
 splitPair f (a ∷ []) = none
 splitPair f (a ∷ b ∷ ws) = split (f a b) ws
 
+unfoldable pub ownerFrom : ℕ → Option ℕ
+ownerFrom zero = none
+ownerFrom (suc k) = some k
+
+unfoldable pub splitVariable : List ℕ → Option (Split Entry)
+splitVariable [] = none
+splitVariable (a ∷ []) = none
+splitVariable (a ∷ b ∷ []) = none
+splitVariable (a ∷ b ∷ c ∷ ws) = split (variableLine (range (unbiased a) (unbiased b)) (ownerFrom c)) ws
+
 unfoldable pub splitPred : (Pred → Entry) → List ℕ → Option (Split Entry)
 splitPred f [] = none
 splitPred f (n ∷ ws) = onSome (λ p. split (f p) (drop n ws)) (readPred (map wordOf (take n ws)))
@@ -196,7 +211,7 @@ unfoldable pub splitEntry : Key → List ℕ → Option (Split Entry)
 splitEntry format ws = splitNumber formatLine ws
 splitEntry actions ws = splitNumber actionsLine ws
 splitEntry variables ws = splitNumber variablesLine ws
-splitEntry variable ws = splitPair (λ a b. variableLine (range (unbiased a) (unbiased b))) ws
+splitEntry variable ws = splitVariable ws
 splitEntry automata ws = splitNumber automataLine ws
 splitEntry sync ws = splitPair (λ a b. syncLine (setOf a b)) ws
 splitEntry locations ws = splitNumber locationsLine ws

@@ -8,10 +8,13 @@ impl Model {
     // The formats that are read.
     pub const FIRST_FORMAT: usize = 1;
 
-    pub const LAST_FORMAT: usize = 2;
+    pub const LAST_FORMAT: usize = 3;
 
     // The first format with a line `writes=` after each edge.
     pub const WRITES_FORMAT: usize = 2;
+
+    // The first format with a line `owner=` after each variable.
+    pub const OWNERS_FORMAT: usize = 3;
 
     // Counts and numbers in a sheet.
     pub const ACTIONS: u32 = 63;
@@ -32,6 +35,8 @@ impl Model {
     pub const LAST_LOCATION: usize = 31;
 
     pub const LAST_VARIABLE: u32 = 47;
+
+    pub const LAST_AUTOMATON: u32 = 15;
 
     // The numbers of expressions, and the bounds of variables.
     pub const LEAST_NUMBER: i32 = -1000000000;

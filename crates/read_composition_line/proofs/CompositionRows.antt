@@ -28,7 +28,7 @@ use Rattle.table_line.specs.Line.{rangesIn}
 use Rattle.table_line.specs.Exact.{Declared}
 use Rattle.table_line.proofs.PredicateLines.{declared-are}
 use Rattle.format.specs.Bytes.{Bytes, bytes, parts, comma}
-use Rattle.format.specs.Rows.{fault, entry, field, fields, hasPred, is, numbersSound, place, theTree, theStarts, startsOf, treeTokens, nodesIn, treeOf, valueOf, row2, row3, row4, row5, row6, row7, row8, row9, row10, row11, row12, row13, row14, row15, row16}
+use Rattle.format.specs.Rows.{fault, entry, field, fields, hasPred, is, numbersSound, place, theTree, theStarts, startsOf, treeTokens, nodesIn, treeOf, valueOf, row2, row3, row4, row5, row6, row7, row8, row9, row10, row11, row12, row13, row14, row15, row16, row50}
 use Rattle.format.specs.Spelling.{spelling}
 use Rattle.format.specs.Tokens.{Numeral, bare, lettered, unjudged, numeral, items, tokens, sound, sounds, listSound, listsSound}
 use Rattle.format.proofs.BytesLaws.{same-is}
@@ -215,7 +215,7 @@ module _ (r : Reading) (c : Counts) (t : List ℕ) (k : Counted r c) (d : Declar
   -- the rows of a line `compose=`
   rows-of : fault r compose (lineOf s ended) ≡ broken 2 (row2 compose (lineOf s ended)) (broken 3 (not inRow3) (broken 5 (not inRow5) rowsFrom6))
   unfolding
-      fault row3 row4 row5 row6 row7 row8 row9 row10 row11 row12 row13 row14 row15 row16 is place hasPred broken numbersSound field fields
+      fault row3 row4 row5 row6 row7 row8 row9 row10 row11 row12 row13 row14 row15 row16 row50 is place hasPred broken numbersSound field fields
       valueOf treeTokens startsOf theStarts nodesIn treeOf theTree spelling variableCount startsRows
   rows-of =
       rw (

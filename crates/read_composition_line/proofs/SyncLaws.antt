@@ -19,7 +19,7 @@ use Rattle.line_order.specs.Counts.{capped}
 use Rattle.line_order.proofs.CappedLaws.{rises-capped}
 use Rattle.format.specs.Bytes.{Bytes, bytes}
 use Rattle.format.specs.Number.{within, naturalOf}
-use Rattle.format.specs.Rows.{fault, entry, field, fields, hasPred, is, listItems, numbersSound, place, syncList, valueOf, row2, row3, row4, row5, row6, row7, row8, row9, row10, row11, row12, row13, row14, row15, row16}
+use Rattle.format.specs.Rows.{fault, entry, field, fields, hasPred, is, listItems, numbersSound, place, syncList, valueOf, row2, row3, row4, row5, row6, row7, row8, row9, row10, row11, row12, row13, row14, row15, row16, row50}
 use Rattle.format.specs.Spelling.{spelling}
 use Rattle.read_composition.specs.declared.list.Listed.{Listed}
 use Rattle.read_composition.specs.List.{listOf}
@@ -134,7 +134,7 @@ module _ (r : Reading) (c : Counts) (counted : Counted r c) (s : Bytes) (ended :
   -- the rows of a line `sync=`
   rows-of : fault r sync (lineOf s ended) ≡ broken 2 (row2 sync (lineOf s ended)) (broken 3 (not inRow3) (broken 5 (not inRow5) none))
   unfolding
-      fault row3 row4 row5 row6 row7 row8 row9 row10 row11 row12 row13 row14 row15 row16 is place hasPred broken numbersSound field fields
+      fault row3 row4 row5 row6 row7 row8 row9 row10 row11 row12 row13 row14 row15 row16 row50 is place hasPred broken numbersSound field fields
       valueOf syncList spelling
   rows-of = rw (or-false (not inRow5))
 

@@ -32,7 +32,7 @@ number-kept (Count.Unsound row) at words = refl
 
 bounds-kept : (b : Bounds) (at : ℕ) (words : List ℕ) → length (boundsAfter b at words) ≡ length words
 unfolding boundsAfter
-bounds-kept (Bounds.Are low high) at words = put-kept (biased low ∷ biased high ∷ []) at words
+bounds-kept (Bounds.Are low high) at words = put-kept (biased low ∷ biased high ∷ 0 ∷ []) at words
 bounds-kept (Bounds.Unsound row) at words = refl
 
 sync-kept : (s : Bytes) (ended : Bool) (c : Counts) (words : List ℕ) (at : ℕ) → length (syncAfter s ended c words at) ≡ length words

@@ -7,7 +7,7 @@ use mathlib.Core.Option.{none, some}
 use lib.ListN.{length}
 use Rattle.model.specs.Bounds.{maxBytes}
 use Rattle.model.specs.Lines.{Key, format, actions, variables, variable, automata, sync, locations, init, inv, edges, edge, compose, Reading}
-use Rattle.model.specs.Table.{lineWords}
+use Rattle.model.specs.Table.{lineWords, ownerWord}
 use Rattle.line_order.specs.declared.Counts.{Counts}
 use Rattle.line_order.specs.Due.{codeOf, numberOf}
 use Rattle.line_order.specs.Counts.{nodesOf, Counted}
@@ -36,7 +36,7 @@ module _ (r : Reading) (c : Counts) (words : List ℕ) (at : ℕ) (s : Bytes) (e
   faulty actions row h = actions-read r s ended at words ∙ answered-fault _ row _ h
   faulty variables row h = variables-read r s ended at words ∙ answered-fault _ row _ h
   faulty variable row h = variable-read r s ended at words ∙ answered-fault _ row _ h
-  faulty automata row h = automata-read r s ended at words ∙ answered-fault _ row _ h
+  faulty automata row h = automata-read r s ended at words (c .variables) (n .variables) d ∙ answered-fault _ row _ h
   faulty sync row h = sync-faulty r c words at s ended n row h
   faulty locations row h = locations-read r s ended at words ∙ answered-fault _ row _ h
   faulty init row h = location-faulty init init-of s ended r c words n d short at row h
@@ -48,12 +48,13 @@ module _ (r : Reading) (c : Counts) (words : List ℕ) (at : ℕ) (s : Bytes) (e
   sound : (k : Key) → fault r k (lineOf s ended) ≡ none
       → (lineRead s ended (codeOf k) c words at ≡ Sound (numberTold (entry k (lineOf s ended))) (nodesOf (entry k (lineOf s ended))) (nextPlace at (length (lineWords (entry k (lineOf s ended))))))
       × (lineAfter s ended (codeOf k) c words at ≡ put at (lineWords (entry k (lineOf s ended))) words)
-  unfolding lineRead lineAfter lineWith lineWithAfter codeOf entry numberOf numberTold nodesOf lineWords theRange range
+  unfolding lineRead lineAfter lineWith lineWithAfter codeOf entry numberOf numberTold nodesOf lineWords ownerWord theRange range
   sound format h = (format-read r s ended at words ∙ answered-sound _ _ h, format-left r s ended at words ∙ written-sound _ _ words h)
   sound actions h = (actions-read r s ended at words ∙ answered-sound _ _ h, actions-left r s ended at words ∙ written-sound _ _ words h)
   sound variables h = (variables-read r s ended at words ∙ answered-sound _ _ h, variables-left r s ended at words ∙ written-sound _ _ words h)
   sound variable h = (variable-read r s ended at words ∙ answered-sound _ _ h, variable-left r s ended at words ∙ written-sound _ _ words h)
-  sound automata h = (automata-read r s ended at words ∙ answered-sound _ _ h, automata-left r s ended at words ∙ written-sound _ _ words h)
+  sound automata h =
+      (automata-read r s ended at words (c .variables) (n .variables) d ∙ answered-sound _ _ h, automata-left r s ended at words (c .variables) (n .variables) d ∙ written-sound _ _ words h)
   sound sync h = sync-sound r c words at s ended n h
   sound locations h = (locations-read r s ended at words ∙ answered-sound _ _ h, locations-left r s ended at words ∙ written-sound _ _ words h)
   sound init h = location-sound init init-of s ended r c words n d short at h

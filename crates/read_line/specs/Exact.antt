@@ -30,7 +30,7 @@ unfoldable pub numberTold : Entry → ℕ
 numberTold (formatLine n) = n
 numberTold (actionsLine n) = n
 numberTold (variablesLine n) = n
-numberTold (variableLine x) = 0
+numberTold (variableLine x o) = 0
 numberTold (automataLine n) = n
 numberTold (syncLine list) = 0
 numberTold (locationsLine n) = n

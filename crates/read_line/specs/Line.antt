@@ -10,13 +10,14 @@ use Rattle.line_order.specs.declared.Key.{Key}
 use Rattle.line_order.specs.declared.Key.the-variants.{Format, Actions, Variables, Variable, Automata, Sync}
 use Rattle.line_order.specs.declared.Key.the-variants.{Locations, Init, Inv, Edges, Edge, Compose, End}
 use Rattle.line_order.specs.declared.Counts.{Counts}
+use Rattle.table_line.specs.Line.{rangesIn}
 use Rattle.format.specs.Bytes.{Bytes}
 use Rattle.format.specs.Spelling.{spelling}
 use Rattle.read_form.specs.declared.LineRead.{LineRead}
 use Rattle.read_form.specs.declared.LineRead.the-variants.{Fault}
 use Rattle.read_numbers.specs.Number.{countIn, fewEdges}
 use Rattle.read_numbers.specs.Range.{boundsIn}
-use Rattle.read_number_line.specs.Number.{numberRead, numberAfter, boundsRead, boundsAfter}
+use Rattle.read_number_line.specs.Number.{numberRead, numberAfter, knownOwners, boundsRead, boundsAfter}
 use Rattle.read_composition_line.specs.Sync.{syncRead, syncAfter}
 use Rattle.read_predicate_line.specs.Predicate.{mostWords, locationRead, locationAfter}
 use Rattle.read_predicate_line.specs.Edge.{edgeRead, edgeAfter}
@@ -33,7 +34,8 @@ lineWith s ended Variables c words at room high =
 lineWith s ended Variable c words at room high =
     boundsRead (boundsIn (spelling Lines.variable) s ended) at
 lineWith s ended Automata c words at room high =
-    numberRead (countIn (spelling Lines.automata) 1 maxAutomata s ended) at
+    numberRead
+    (knownOwners (rangesIn words (c .variables)) (countIn (spelling Lines.automata) 1 maxAutomata s ended)) at
 lineWith s ended Sync c words at room high = syncRead s ended c at
 lineWith s ended Locations c words at room high =
     numberRead (countIn (spelling Lines.locations) 1 maxLocations s ended) at
@@ -55,7 +57,8 @@ lineWithAfter s ended Variables c words at room high =
 lineWithAfter s ended Variable c words at room high =
     boundsAfter (boundsIn (spelling Lines.variable) s ended) at words
 lineWithAfter s ended Automata c words at room high =
-    numberAfter (countIn (spelling Lines.automata) 1 maxAutomata s ended) at words
+    numberAfter
+    (knownOwners (rangesIn words (c .variables)) (countIn (spelling Lines.automata) 1 maxAutomata s ended)) at words
 lineWithAfter s ended Sync c words at room high = syncAfter s ended c words at
 lineWithAfter s ended Locations c words at room high =
     numberAfter (countIn (spelling Lines.locations) 1 maxLocations s ended) at words

@@ -29,7 +29,7 @@ fn read_with(
         Key::Actions => read_number_line::actions(line, ended, words, at),
         Key::Variables => read_number_line::variables(line, ended, words, at),
         Key::Variable => read_number_line::variable(line, ended, words, at),
-        Key::Automata => read_number_line::automata(line, ended, words, at),
+        Key::Automata => read_number_line::automata(line, ended, counts, words, at),
         Key::Sync => read_composition_line::sync(line, ended, counts, words, at),
         Key::Locations => read_number_line::locations(line, ended, words, at),
         Key::Init => read_predicate_line::init(line, ended, counts, words, at, nodes, sorts),

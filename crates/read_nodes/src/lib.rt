@@ -74,7 +74,7 @@ fn first(from: &[u32], n: usize) -> &[u32]
 }
 
 // Reads the bytes of a P, of any length. Where `old`, P may name only old values. `ranges` has the variables' declared
-// ranges as the table has them: LO and HI of variable K are the words 2K and 2K + 1. So many nodes were counted
+// ranges as the table has them: LO and HI of variable K are the words 3K and 3K + 1. So many nodes were counted
 // `before`. The nodes go into `nodes`; `sorts` is scratch memory. A word of P takes two bytes at least, so half as many
 // places as P has bytes are enough of both.
 pub fn read(

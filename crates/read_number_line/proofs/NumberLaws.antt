@@ -1,10 +1,13 @@
 -- Each way out of the code of src/number.rt.
 use Prim.Native.Nat.{ℕ}
-use mathlib.Core.Path.{_≡_, _∙_}
+use mathlib.Core.Path.{_≡_, sym, _∙_, ap}
+use mathlib.Core.Bool.{Bool, true, false}
 use mathlib.Core.List.{List, [], _∷_}
 use lib.IntN.{ℤ}
 use Rattle.model.specs.Table.{biased}
+use Rattle.table_owners.specs.Owners.{beyondIn}
 use Rattle.table_append.specs.Append.{nextPlace, put}
+use Rattle.table_append.proofs.Joined.{next-then, put-then}
 use Rattle.read_numbers.specs.declared.number.Count.{Count}
 use Rattle.read_numbers.specs.declared.number.Count.the-variants.{Is, Unsound}
 use Rattle.read_numbers.specs.declared.range.Bounds.{Bounds}
@@ -12,7 +15,7 @@ use Rattle.read_numbers.specs.declared.range.Bounds.the-variants as Bounds
 use Rattle.read_numbers.specs.Number.{fewEdges}
 use Rattle.read_form.specs.declared.LineRead.{LineRead}
 use Rattle.read_form.specs.declared.LineRead.the-variants.{Sound, Fault}
-use Rattle.read_number_line.specs.Number.{numberRead, numberAfter, boundsRead, boundsAfter}
+use Rattle.read_number_line.specs.Number.{numberRead, numberAfter, knownOwners, boundsRead, boundsAfter}
 
 -- `counting`
 module _ (c : Count) (at : ℕ) where
@@ -36,14 +39,25 @@ module _ (c : Count) (at : ℕ) where
 
 pub ruleset counting-laws = (counting-sound, number-put, counting-fault, number-kept)
 
+-- `append_variable`
+module _ (at next : ℕ) (hn : next ≡ nextPlace at 2) where
+  pub variable-next : (last : ℕ) → last ≡ nextPlace next 1 → last ≡ nextPlace at 3
+  variable-next last hl = hl ∙ ap (λ (n : ℕ). nextPlace n 1) hn ∙ next-then at 2 1
+
+  pub variable-put : (x y : ℕ) (old mid new : List ℕ) → mid ≡ put at (x ∷ y ∷ []) old → new ≡ put next (0 ∷ []) mid → new ≡ put at (x ∷ y ∷ 0 ∷ []) old
+  variable-put x y old mid new hm h =
+      h ∙ ap (λ (n : ℕ). put n (0 ∷ []) mid) hn ∙ ap (put (nextPlace at 2) (0 ∷ [])) hm ∙ put-then (x ∷ y ∷ []) at (0 ∷ []) old
+
+pub ruleset variable-laws = (variable-next, variable-put)
+
 -- `ranging`
 module _ (b : Bounds) (at : ℕ) where
   module _ (low high : ℤ) (e : b ≡ Bounds.Are low high) where
-    pub ranging-sound : (next : ℕ) → next ≡ nextPlace at 2 → Sound 0 0 next ≡ boundsRead b at
+    pub ranging-sound : (next : ℕ) → next ≡ nextPlace at 3 → Sound 0 0 next ≡ boundsRead b at
     unfolding boundsRead
     ranging-sound next hn = rw (e, hn)
 
-    pub ranging-put : (x y : ℕ) → x ≡ biased low → y ≡ biased high → (old new : List ℕ) → new ≡ put at (x ∷ y ∷ []) old → new ≡ boundsAfter b at old
+    pub ranging-put : (x y : ℕ) → x ≡ biased low → y ≡ biased high → (old new : List ℕ) → new ≡ put at (x ∷ y ∷ 0 ∷ []) old → new ≡ boundsAfter b at old
     unfolding boundsAfter
     ranging-put x y hx hy old new h = h ∙ rw (hx, hy, e)
 
@@ -57,6 +71,23 @@ module _ (b : Bounds) (at : ℕ) where
     ranging-kept old = rw e
 
 pub ruleset ranging-laws = (ranging-sound, ranging-put, ranging-fault, ranging-kept)
+
+-- `known_owners`
+module _ (variables : List ℕ) (c : Count) where
+  pub known-unsound : (row : ℕ) → c ≡ Unsound row → c ≡ knownOwners variables c
+  unfolding knownOwners
+  known-unsound row e = rw e
+
+  module _ (n : ℕ) (e : c ≡ Is n) (i : ℕ) (hi : i ≡ n) (b : Bool) (hb : b ≡ beyondIn variables i) where
+    pub known-beyond : b ≡ true → Unsound 50 ≡ knownOwners variables c
+    unfolding knownOwners
+    known-beyond h = rw (e, ← hi, sym hb ∙ h, knownOwners)
+
+    pub known-all : b ≡ false → Is n ≡ knownOwners variables c
+    unfolding knownOwners
+    known-all h = sym (rw (e, ← hi, sym hb ∙ h, knownOwners) (ap (λ (x : ℕ). Is x) (sym hi)))
+
+pub ruleset known-laws = (known-unsound, known-beyond, known-all)
 
 -- the lines of the keys: a count that was read goes on as it is
 module _ (at : ℕ) (d c : Count) (e : d ≡ c) where
@@ -76,4 +107,7 @@ module _ (at : ℕ) (d c : Bounds) (e : d ≡ c) where
 pub few-on : (before : ℕ) (f d c : Count) → f ≡ fewEdges before d → d ≡ c → f ≡ fewEdges before c
 few-on before f d c h e = h ∙ rw e
 
-pub ruleset on-laws = (read-on, after-on, bounds-on, bounds-after-on, few-on)
+pub known-on : (variables rs : List ℕ) (f d c : Count) → f ≡ knownOwners rs d → rs ≡ variables → d ≡ c → f ≡ knownOwners variables c
+known-on variables rs f d c h hr e = h ∙ rw (hr, e)
+
+pub ruleset on-laws = (read-on, after-on, bounds-on, bounds-after-on, few-on, known-on)

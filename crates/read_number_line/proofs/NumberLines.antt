@@ -9,13 +9,14 @@ use borrow.Author.Tests.{ltb-true, ltb-false, not-true, not-false}
 use lib.IntN.{pos}
 use lib.ListN.{length, getD, drop}
 use lib.Dec.{ltb}
+use Rattle.model.specs.Basic.{exists}
 use Rattle.model.specs.Bounds.{firstFormat, lastFormat, maxActions, maxVariables, maxAutomata, maxLocations, maxEdges}
 use Rattle.model.specs.Model.{edgeTotal}
 use Rattle.model.specs.Lines.{Key, format, actions, variables, variable, automata, locations, edges, Reading}
-use Rattle.model.specs.Limits.{isCrossed, passesEdges, broken}
+use Rattle.model.specs.Limits.{isBeyond, isCrossed, passesEdges, variableCount, broken}
 use Rattle.format.specs.Bytes.{Bytes, parts, comma}
 use Rattle.format.specs.Number.{within, naturalOf}
-use Rattle.format.specs.Rows.{Line, place, is, valueOf, fields, fieldCount, field, hasPred, numbersSound, theRange, row2, row3, row4, row5, row6, row7, row8, row9, row10, row11, row12, row13, row14, row15, row16, fault}
+use Rattle.format.specs.Rows.{Line, place, is, valueOf, fields, fieldCount, field, hasPred, numbersSound, theRange, row2, row3, row4, row5, row6, row7, row8, row9, row10, row11, row12, row13, row14, row15, row16, row50, fault}
 use Rattle.format.specs.Spelling.{spelling}
 use Rattle.format.proofs.LineLaws.{formed}
 use Rattle.text_bytes.specs.Find.{gap}
@@ -23,10 +24,14 @@ use Rattle.text_bytes.proofs.FindLaws.{parts-step, parts-last, parts-count}
 use Rattle.read_form.specs.declared.LineRead.the-variants.{Sound}
 use Rattle.read_numbers.specs.declared.number.Count.{Count}
 use Rattle.read_numbers.specs.declared.number.Count.the-variants.{Is, Unsound}
+use Rattle.table_owners.specs.Owners.{beyondIn}
+use Rattle.table_owners.proofs.OwnerLaws.{beyond-is}
+use Rattle.table_line.specs.Line.{rangesIn}
+use Rattle.table_line.specs.Exact.{Declared}
 use Rattle.table_append.specs.Append.{nextPlace, put}
 use Rattle.read_form.specs.Form.{lineOf, valueAfter, misformed, fieldsOf}
 use Rattle.read_numbers.specs.Number.{countIn, fewEdges}
-use Rattle.read_number_line.specs.Number.{numberRead, numberAfter}
+use Rattle.read_number_line.specs.Number.{numberRead, numberAfter, knownOwners}
 use Rattle.read_form.specs.Outcome.{answered, written}
 use Rattle.read_form.proofs.FormLaws.{row2-by}
 
@@ -87,37 +92,37 @@ number-left true three n at words = refl
 number-left false true n at words = refl
 number-left false false n at words = refl
 
--- a line that counts something, or the format's, breaks rows 2 and 3 only
+-- a line that counts something, or the format's, breaks rows 2 and 3, and some one later row
 module _ (r : Reading) (s : Bytes) (ended : Bool) where
   abbrev lf : Line
   lf = lineOf s ended
 
   fault-format : fault r format lf ≡ broken 2 (row2 format lf) (broken 3 (row3 format lf) none)
-  unfolding fault row4 row5 row6 row7 row8 row9 row10 row11 row12 row13 row14 row15 row16 hasPred is place broken
+  unfolding fault row4 row5 row6 row7 row8 row9 row10 row11 row12 row13 row14 row15 row16 row50 hasPred is place broken
   fault-format = refl
 
   fault-actions : fault r actions lf ≡ broken 2 (row2 actions lf) (broken 3 (row3 actions lf) none)
-  unfolding fault row4 row5 row6 row7 row8 row9 row10 row11 row12 row13 row14 row15 row16 hasPred is place broken
+  unfolding fault row4 row5 row6 row7 row8 row9 row10 row11 row12 row13 row14 row15 row16 row50 hasPred is place broken
   fault-actions = refl
 
   fault-variables : fault r variables lf ≡ broken 2 (row2 variables lf) (broken 3 (row3 variables lf) none)
-  unfolding fault row4 row5 row6 row7 row8 row9 row10 row11 row12 row13 row14 row15 row16 hasPred is place broken
+  unfolding fault row4 row5 row6 row7 row8 row9 row10 row11 row12 row13 row14 row15 row16 row50 hasPred is place broken
   fault-variables = refl
 
-  fault-automata : fault r automata lf ≡ broken 2 (row2 automata lf) (broken 3 (row3 automata lf) none)
-  unfolding fault row4 row5 row6 row7 row8 row9 row10 row11 row12 row13 row14 row15 row16 hasPred is place broken
+  fault-automata : fault r automata lf ≡ broken 2 (row2 automata lf) (broken 3 (row3 automata lf) (broken 50 (exists (isBeyond (naturalOf (field 0 automata lf))) (r .model .owners)) none))
+  unfolding fault row4 row5 row6 row7 row8 row9 row10 row11 row12 row13 row14 row15 row16 row50 hasPred is place broken
   fault-automata = refl
 
   fault-locations : fault r locations lf ≡ broken 2 (row2 locations lf) (broken 3 (row3 locations lf) none)
-  unfolding fault row4 row5 row6 row7 row8 row9 row10 row11 row12 row13 row14 row15 row16 hasPred is place broken
+  unfolding fault row4 row5 row6 row7 row8 row9 row10 row11 row12 row13 row14 row15 row16 row50 hasPred is place broken
   fault-locations = refl
 
   fault-edges : fault r edges lf ≡ broken 2 (row2 edges lf) (broken 3 (row3 edges lf) (broken 15 (passesEdges r (naturalOf (field 0 edges lf))) none))
-  unfolding fault row4 row5 row6 row7 row8 row9 row10 row11 row12 row13 row14 row15 row16 hasPred is place broken
+  unfolding fault row4 row5 row6 row7 row8 row9 row10 row11 row12 row13 row14 row15 row16 row50 hasPred is place broken
   fault-edges = refl
 
   pub fault-variable : fault r variable lf ≡ broken 2 (row2 variable lf) (broken 3 (row3 variable lf) (broken 4 (isCrossed (theRange lf)) none))
-  unfolding fault row4 row5 row6 row7 row8 row9 row10 row11 row12 row13 row14 row15 row16 hasPred is place broken
+  unfolding fault row4 row5 row6 row7 row8 row9 row10 row11 row12 row13 row14 row15 row16 row50 hasPred is place broken
   fault-variable = refl
 
 module _ (r : Reading) (s : Bytes) (ended : Bool) (at : ℕ) (words : List ℕ) where
@@ -161,14 +166,6 @@ module _ (r : Reading) (s : Bytes) (ended : Bool) (at : ℕ) (words : List ℕ) 
   unfolding fieldsOf fieldCount fields numbersSound is place
   variables-left = counting-left variables 0 maxVariables refl refl refl refl (fault-variables r s ended)
 
-  pub automata-read : numberRead (countIn (spelling automata) 1 maxAutomata s ended) at ≡ answered (fault r automata ln) (Sound (naturalOf (field 0 automata ln)) 0 (nextPlace at 1))
-  unfolding fieldsOf fieldCount fields numbersSound is place
-  automata-read = counting-read automata 1 maxAutomata refl refl refl refl (fault-automata r s ended)
-
-  pub automata-left : numberAfter (countIn (spelling automata) 1 maxAutomata s ended) at words ≡ written (fault r automata ln) (put at (naturalOf (field 0 automata ln) ∷ []) words) words
-  unfolding fieldsOf fieldCount fields numbersSound is place
-  automata-left = counting-left automata 1 maxAutomata refl refl refl refl (fault-automata r s ended)
-
   pub locations-read : numberRead (countIn (spelling locations) 1 maxLocations s ended) at ≡ answered (fault r locations ln) (Sound (naturalOf (field 0 locations ln)) 0 (nextPlace at 1))
   unfolding fieldsOf fieldCount fields numbersSound is place
   locations-read = counting-read locations 1 maxLocations refl refl refl refl (fault-locations r s ended)
@@ -177,27 +174,48 @@ module _ (r : Reading) (s : Bytes) (ended : Bool) (at : ℕ) (words : List ℕ) 
   unfolding fieldsOf fieldCount fields numbersSound is place
   locations-left = counting-left locations 1 maxLocations refl refl refl refl (fault-locations r s ended)
 
+-- the number by rows 2 and 3 and a later one
+unfoldable byLater : (two three later : Bool) (row n : ℕ) → Count
+byLater true three later row n = Unsound 2
+byLater false true later row n = Unsound 3
+byLater false false true row n = Unsound row
+byLater false false false row n = Is n
+
+few-rows : (before : ℕ) (two three : Bool) (n : ℕ) → fewEdges before (byRows two three n) ≡ byLater two three (ltb maxEdges (before + n)) 15 n
+unfolding fewEdges byRows byLater
+few-rows before true three n = refl
+few-rows before false true n = refl
+few-rows before false false n = go (ltb maxEdges (before + n))
+  where
+    go : (b : Bool) → elim b as (λ x. Count) [ true ↦ Unsound 15 | false ↦ Is n ] ≡ byLater false false b 15 n
+    go true = refl
+    go false = refl
+
+known-rows : (vs : List ℕ) (two three : Bool) (n : ℕ) → knownOwners vs (byRows two three n) ≡ byLater two three (beyondIn vs n) 50 n
+unfolding knownOwners byRows byLater
+known-rows vs true three n = refl
+known-rows vs false true n = refl
+known-rows vs false false n = go (beyondIn vs n)
+  where
+    go : (b : Bool) → elim b as (λ x. Count) [ true ↦ Unsound 50 | false ↦ Is n ] ≡ byLater false false b 50 n
+    go true = refl
+    go false = refl
+
+later-read : (two three later : Bool) (row n at : ℕ) → numberRead (byLater two three later row n) at ≡ answered (broken 2 two (broken 3 three (broken row later none))) (Sound n 0 (nextPlace at 1))
+unfolding numberRead byLater answered broken
+later-read true three later row n at = refl
+later-read false true later row n at = refl
+later-read false false true row n at = refl
+later-read false false false row n at = refl
+
+later-left : (two three later : Bool) (row n at : ℕ) (words : List ℕ) → numberAfter (byLater two three later row n) at words ≡ written (broken 2 two (broken 3 three (broken row later none))) (put at (n ∷ []) words) words
+unfolding numberAfter byLater written broken
+later-left true three later row n at words = refl
+later-left false true later row n at words = refl
+later-left false false true row n at words = refl
+later-left false false false row n at words = refl
+
 -- `edges=E`: row 15 too
-edges-by : (before : ℕ) (two three : Bool) (n at : ℕ) → numberRead (fewEdges before (byRows two three n)) at ≡ answered (broken 2 two (broken 3 three (broken 15 (ltb maxEdges (before + n)) none))) (Sound n 0 (nextPlace at 1))
-unfolding fewEdges byRows
-edges-by before true three n at = unfold numberRead answered broken in refl
-edges-by before false true n at = unfold numberRead answered broken in refl
-edges-by before false false n at = go (ltb maxEdges (before + n))
-  where
-    go : (b : Bool) → numberRead (elim b as (λ x. Count) [ true ↦ Unsound 15 | false ↦ Is n ]) at ≡ answered (broken 2 false (broken 3 false (broken 15 b none))) (Sound n 0 (nextPlace at 1))
-    go true = unfold numberRead answered broken in refl
-    go false = unfold numberRead answered broken in refl
-
-edges-after : (before : ℕ) (two three : Bool) (n at : ℕ) (words : List ℕ) → numberAfter (fewEdges before (byRows two three n)) at words ≡ written (broken 2 two (broken 3 three (broken 15 (ltb maxEdges (before + n)) none))) (put at (n ∷ []) words) words
-unfolding fewEdges byRows
-edges-after before true three n at words = unfold numberAfter written broken in refl
-edges-after before false true n at words = unfold numberAfter written broken in refl
-edges-after before false false n at words = go (ltb maxEdges (before + n))
-  where
-    go : (b : Bool) → numberAfter (elim b as (λ x. Count) [ true ↦ Unsound 15 | false ↦ Is n ]) at words ≡ written (broken 2 false (broken 3 false (broken 15 b none))) (put at (n ∷ []) words) words
-    go true = unfold numberAfter written broken in refl
-    go false = unfold numberAfter written broken in refl
-
 module _ (r : Reading) (s : Bytes) (ended : Bool) (at : ℕ) (words : List ℕ) (before : ℕ) (counted : before ≡ edgeTotal (r .model .automata)) where
   abbrev le : Line
   le = lineOf s ended
@@ -206,14 +224,42 @@ module _ (r : Reading) (s : Bytes) (ended : Bool) (at : ℕ) (words : List ℕ) 
   unfolding passesEdges
   by-edges = ap (λ (n : ℕ). broken 2 (row2 edges le) (broken 3 (row3 edges le) (broken 15 (ltb maxEdges (n + naturalOf (field 0 edges le))) none))) counted ∙ sym (fault-edges r s ended)
 
-  pub edges-read : numberRead (fewEdges before (countIn (spelling edges) 0 maxEdges s ended)) at ≡ answered (fault r edges le) (Sound (naturalOf (field 0 edges le)) 0 (nextPlace at 1))
+  edges-count : fewEdges before (countIn (spelling edges) 0 maxEdges s ended) ≡ byLater (row2 edges le) (row3 edges le) (ltb maxEdges (before + naturalOf (field 0 edges le))) 15 (naturalOf (field 0 edges le))
   unfolding fieldsOf fieldCount fields numbersSound is place
+  edges-count = ap (fewEdges before) (count-rows edges s ended 0 maxEdges refl refl refl refl) ∙ few-rows before _ _ _
+
+  pub edges-read : numberRead (fewEdges before (countIn (spelling edges) 0 maxEdges s ended)) at ≡ answered (fault r edges le) (Sound (naturalOf (field 0 edges le)) 0 (nextPlace at 1))
   edges-read =
-      ap (λ (x : Count). numberRead (fewEdges before x) at) (count-rows edges s ended 0 maxEdges refl refl refl refl) ∙ edges-by before _ _ _ at
+      ap (λ (x : Count). numberRead x at) edges-count ∙ later-read _ _ _ 15 _ at
       ∙ ap (λ (o : Option ℕ). answered o (Sound (naturalOf (field 0 edges le)) 0 (nextPlace at 1))) by-edges
 
   pub edges-left : numberAfter (fewEdges before (countIn (spelling edges) 0 maxEdges s ended)) at words ≡ written (fault r edges le) (put at (naturalOf (field 0 edges le) ∷ []) words) words
-  unfolding fieldsOf fieldCount fields numbersSound is place
   edges-left =
-      ap (λ (x : Count). numberAfter (fewEdges before x) at words) (count-rows edges s ended 0 maxEdges refl refl refl refl) ∙ edges-after before _ _ _ at words
+      ap (λ (x : Count). numberAfter x at words) edges-count ∙ later-left _ _ _ 15 _ at words
       ∙ ap (λ (o : Option ℕ). written o (put at (naturalOf (field 0 edges le) ∷ []) words) words) by-edges
+
+-- `automata=N`: row 50 too, by the words of the variables that were read
+module _ (r : Reading) (s : Bytes) (ended : Bool) (at : ℕ) (words : List ℕ) (variables : ℕ) (counted : variables ≡ variableCount r) (d : Declared words r) where
+  abbrev la : Line
+  la = lineOf s ended
+
+  owners-read : (n : ℕ) → beyondIn (rangesIn words variables) n ≡ exists (isBeyond n) (r .model .owners)
+  unfolding rangesIn
+  owners-read n = rw (counted, d .words) (beyond-is (r .model .variables) (r .model .owners) (d .owners-are) n)
+
+  by-automata : broken 2 (row2 automata la) (broken 3 (row3 automata la) (broken 50 (beyondIn (rangesIn words variables) (naturalOf (field 0 automata la))) none)) ≡ fault r automata la
+  by-automata = ap (λ (b : Bool). broken 2 (row2 automata la) (broken 3 (row3 automata la) (broken 50 b none))) (owners-read _) ∙ sym (fault-automata r s ended)
+
+  automata-count : knownOwners (rangesIn words variables) (countIn (spelling automata) 1 maxAutomata s ended) ≡ byLater (row2 automata la) (row3 automata la) (beyondIn (rangesIn words variables) (naturalOf (field 0 automata la))) 50 (naturalOf (field 0 automata la))
+  unfolding fieldsOf fieldCount fields numbersSound is place
+  automata-count = ap (knownOwners (rangesIn words variables)) (count-rows automata s ended 1 maxAutomata refl refl refl refl) ∙ known-rows (rangesIn words variables) _ _ _
+
+  pub automata-read : numberRead (knownOwners (rangesIn words variables) (countIn (spelling automata) 1 maxAutomata s ended)) at ≡ answered (fault r automata la) (Sound (naturalOf (field 0 automata la)) 0 (nextPlace at 1))
+  automata-read =
+      ap (λ (x : Count). numberRead x at) automata-count ∙ later-read _ _ _ 50 _ at
+      ∙ ap (λ (o : Option ℕ). answered o (Sound (naturalOf (field 0 automata la)) 0 (nextPlace at 1))) by-automata
+
+  pub automata-left : numberAfter (knownOwners (rangesIn words variables) (countIn (spelling automata) 1 maxAutomata s ended)) at words ≡ written (fault r automata la) (put at (naturalOf (field 0 automata la) ∷ []) words) words
+  automata-left =
+      ap (λ (x : Count). numberAfter x at words) automata-count ∙ later-left _ _ _ 50 _ at words
+      ∙ ap (λ (o : Option ℕ). written o (put at (naturalOf (field 0 automata la) ∷ []) words) words) by-automata

@@ -55,14 +55,14 @@ bounds-rows p q = go (within leastNumber greatestNumber p) (within leastNumber g
     go true true true e = unfold boundsOf orderedFrom byRows in rw (e, orderedFrom)
     go true true false e = unfold boundsOf orderedFrom byRows in rw (e, orderedFrom)
 
-bounds-read : (two three four : Bool) (x y : ℤ) (at : ℕ) → boundsRead (byRows two three four x y) at ≡ answered (broken 2 two (broken 3 three (broken 4 four none))) (Sound 0 0 (nextPlace at 2))
+bounds-read : (two three four : Bool) (x y : ℤ) (at : ℕ) → boundsRead (byRows two three four x y) at ≡ answered (broken 2 two (broken 3 three (broken 4 four none))) (Sound 0 0 (nextPlace at 3))
 unfolding boundsRead byRows answered broken
 bounds-read true three four x y at = refl
 bounds-read false true four x y at = refl
 bounds-read false false true x y at = refl
 bounds-read false false false x y at = refl
 
-bounds-left : (two three four : Bool) (x y : ℤ) (at : ℕ) (words : List ℕ) → boundsAfter (byRows two three four x y) at words ≡ written (broken 2 two (broken 3 three (broken 4 four none))) (put at (biased x ∷ biased y ∷ []) words) words
+bounds-left : (two three four : Bool) (x y : ℤ) (at : ℕ) (words : List ℕ) → boundsAfter (byRows two three four x y) at words ≡ written (broken 2 two (broken 3 three (broken 4 four none))) (put at (biased x ∷ biased y ∷ 0 ∷ []) words) words
 unfolding boundsAfter byRows written broken
 bounds-left true three four x y at words = refl
 bounds-left false true four x y at words = refl
@@ -102,11 +102,11 @@ module _ (r : Reading) (s : Bytes) (ended : Bool) (at : ℕ) (words : List ℕ) 
       go true e = unfold byRows in ill e
       go false e = well e
 
-  pub variable-read : boundsRead (boundsIn (spelling variable) s ended) at ≡ answered (fault r variable l) (Sound 0 0 (nextPlace at 2))
+  pub variable-read : boundsRead (boundsIn (spelling variable) s ended) at ≡ answered (fault r variable l) (Sound 0 0 (nextPlace at 3))
   variable-read =
-      ap (λ (b : Bounds). boundsRead b at) ends ∙ bounds-read _ _ _ low high at ∙ ap (λ (o : Option ℕ). answered o (Sound 0 0 (nextPlace at 2))) (sym (fault-variable r s ended))
+      ap (λ (b : Bounds). boundsRead b at) ends ∙ bounds-read _ _ _ low high at ∙ ap (λ (o : Option ℕ). answered o (Sound 0 0 (nextPlace at 3))) (sym (fault-variable r s ended))
 
-  pub variable-left : boundsAfter (boundsIn (spelling variable) s ended) at words ≡ written (fault r variable l) (put at (biased low ∷ biased high ∷ []) words) words
+  pub variable-left : boundsAfter (boundsIn (spelling variable) s ended) at words ≡ written (fault r variable l) (put at (biased low ∷ biased high ∷ 0 ∷ []) words) words
   variable-left =
       ap (λ (b : Bounds). boundsAfter b at words) ends ∙ bounds-left _ _ _ low high at words
-      ∙ ap (λ (o : Option ℕ). written o (put at (biased low ∷ biased high ∷ []) words) words) (sym (fault-variable r s ended))
+      ∙ ap (λ (o : Option ℕ). written o (put at (biased low ∷ biased high ∷ 0 ∷ []) words) words) (sym (fault-variable r s ended))

@@ -18,7 +18,7 @@ use Rattle.line_order.specs.Counts.{nodesOf, Counted}
 use Rattle.table_line.specs.Exact.{Declared}
 use Rattle.format.specs.Bytes.{Bytes}
 use Rattle.format.specs.Number.{within, naturalOf}
-use Rattle.format.specs.Rows.{Line, place, is, fields, field, valueOf, hasPred, predTokens, wordsIn, predOf, thePred, row2, row3, row4, row5, row6, row7, row8, row9, row10, row11, row12, row13, row14, row15, row16, numbersSound, fault, entry}
+use Rattle.format.specs.Rows.{Line, place, is, fields, field, valueOf, hasPred, predTokens, wordsIn, predOf, thePred, row2, row3, row4, row5, row6, row7, row8, row9, row10, row11, row12, row13, row14, row15, row16, row50, numbersSound, fault, entry}
 use Rattle.format.specs.Spelling.{spelling}
 use Rattle.format.specs.Tokens.{tokens, sounds}
 use Rattle.read_form.specs.declared.LineRead.the-variants.{Sound, Fault}
@@ -58,7 +58,7 @@ edge-text : (r : Reading) (l : Line)
     (textFault (r .model .variables) (r .nodes) false (fieldIn 3 (valueOf edge l))
     (broken 12 (isAstray r (naturalOf (fieldIn 0 (valueOf edge l))) (naturalOf (fieldIn 1 (valueOf edge l))) (naturalOf (fieldIn 2 (valueOf edge l))))
     none)))
-unfolding field fields is place fault row3 row4 row5 row6 row7 row8 row9 row10 row11 row12 row13 row14 row15 row16 hasPred broken numbersSound predTokens wordsIn predOf thePred textFault textPred variableCount endsSound fieldIn
+unfolding field fields is place fault row3 row4 row5 row6 row7 row8 row9 row10 row11 row12 row13 row14 row15 row16 row50 hasPred broken numbersSound predTokens wordsIn predOf thePred textFault textPred variableCount endsSound fieldIn
 edge-text r l =
     ap (broken 2 (row2 edge l))
     (sym

@@ -22,7 +22,7 @@ use Rattle.table_line.specs.Line.{rangesIn}
 use Rattle.table_line.specs.Exact.{Declared}
 use Rattle.table_line.proofs.PredicateLines.{declared-are}
 use Rattle.format.specs.Bytes.{Bytes, begins, parts, comma}
-use Rattle.format.specs.Rows.{Line, place, is, fields, field, valueOf, hasPred, predTokens, wordsIn, predOf, thePred, row2, row3, row4, row5, row6, row7, row8, row9, row10, row11, row12, row13, row14, row15, row16, numbersSound, fault, entry}
+use Rattle.format.specs.Rows.{Line, place, is, fields, field, valueOf, hasPred, predTokens, wordsIn, predOf, thePred, row2, row3, row4, row5, row6, row7, row8, row9, row10, row11, row12, row13, row14, row15, row16, row50, numbersSound, fault, entry}
 use Rattle.format.specs.Spelling.{spelling}
 use Rattle.text_bytes.specs.Find.{gap}
 use Rattle.text_bytes.proofs.FindLaws.{parts-step, parts-last, parts-count}
@@ -92,11 +92,11 @@ pub record OfLocation (k : Key) : Type 0 where
   pub words : (l : Line) → lineWords (entry k l) ≡ predWords (textPred (field 0 k l))
 
 pub init-of : OfLocation init
-unfolding fieldsOf field fields valueOf is place fault row3 row4 row5 row6 row7 row8 row9 row10 row11 row12 row13 row14 row15 row16 hasPred broken numbersSound predTokens wordsIn predOf thePred textFault textPred variableCount entry numberOf nodesOf lineWords
+unfolding fieldsOf field fields valueOf is place fault row3 row4 row5 row6 row7 row8 row9 row10 row11 row12 row13 row14 row15 row16 row50 hasPred broken numbersSound predTokens wordsIn predOf thePred textFault textPred variableCount entry numberOf nodesOf lineWords
 init-of = record { sole = refl; value = λ l. refl; rows = λ r l. refl; number = λ l. refl; nodes = λ l. refl; words = λ l. refl }
 
 pub inv-of : OfLocation inv
-unfolding fieldsOf field fields valueOf is place fault row3 row4 row5 row6 row7 row8 row9 row10 row11 row12 row13 row14 row15 row16 hasPred broken numbersSound predTokens wordsIn predOf thePred textFault textPred variableCount entry numberOf nodesOf lineWords
+unfolding fieldsOf field fields valueOf is place fault row3 row4 row5 row6 row7 row8 row9 row10 row11 row12 row13 row14 row15 row16 row50 hasPred broken numbersSound predTokens wordsIn predOf thePred textFault textPred variableCount entry numberOf nodesOf lineWords
 inv-of = record { sole = refl; value = λ l. refl; rows = λ r l. refl; number = λ l. refl; nodes = λ l. refl; words = λ l. refl }
 
 module _ (k : Key) (of : OfLocation k) (s : Bytes) (ended : Bool) where

@@ -1,5 +1,5 @@
 -- The line `writes=LIST` as the code reads it. Where `rest` has the variables that the edge does not mention, it breaks
--- the rows of `writesFault`: the law writes-rows.
+-- the rows of `writesFault` but row 51, which asks who owns the variables: the law writes-rows.
 use Prim.Native.Nat.{ℕ}
 use mathlib.Core.Bool.{Bool, not}
 use mathlib.Core.Option.{Option, none, some}

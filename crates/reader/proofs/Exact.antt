@@ -3,7 +3,6 @@ use Prim.Native.Nat.{ℕ, _≤_}
 use mathlib.Core.Path.{_≡_, refl, sym, _∙_, ap}
 use mathlib.Core.Bool.{Bool, true, false}
 use mathlib.Core.List.{List, _++_}
-use mathlib.Core.Option.{none}
 use native.Mathlib.Omega.{arith}
 use borrow.Author.Tests.{ltb-false, le-leb}
 use lib.ListN.{length, drop}
@@ -14,6 +13,7 @@ use Rattle.model.specs.Lines.{dueAtFirst, atFirst}
 use Rattle.model.specs.Table.{tableOf, row18}
 use Rattle.model.proofs.TableLaws.{table-length}
 use Rattle.format.specs.Bytes.{Bytes}
+use Rattle.format.specs.Spelling.{nothing}
 use Rattle.format.specs.Reader as Reader
 use Rattle.format.specs.Reader.{accepted, refused, linesOf, row1, readAnswer, tableAfter}
 use Rattle.format.proofs.Exact.{accepted-then, answer-reads}
@@ -32,7 +32,7 @@ module _ (exact : ReadsLines lineRead lineAfter) (text : Bytes) (table : List �
     where
       go : (a : Bool) → ltb (length table) tableWords ≡ a → (b : Bool) → ltb maxBytes (length text) ≡ b
           → elim a as (λ x. ReadAnswer) [ true ↦ Refused 18 0 | false ↦ elim b as (λ x. ReadAnswer) [ true ↦ Refused 1 0 | false ↦ sheetRead text blank .answer ] ]
-          ≡ readOf (elim a as (λ x. Reader.ReadAnswer) [ true ↦ refused 18 0 | false ↦ elim b as (λ x. Reader.ReadAnswer) [ true ↦ refused 1 0 | false ↦ Reader.read none atFirst dueAtFirst 1 (linesOf text) ] ])
+          ≡ readOf (elim a as (λ x. Reader.ReadAnswer) [ true ↦ refused 18 0 | false ↦ elim b as (λ x. Reader.ReadAnswer) [ true ↦ refused 1 0 | false ↦ Reader.read nothing atFirst dueAtFirst 1 (linesOf text) ] ])
       go true e b f = refl
       go false e true f = refl
       go false e false f = sheet-ends exact text (ltb-false maxBytes (length text) f) .answer
@@ -49,7 +49,7 @@ module _ (exact : ReadsLines lineRead lineAfter) (text : Bytes) (table : List �
   abbrev after : Reader.ReadAnswer → List ℕ
   after o = elim o as (λ x. List ℕ) [ refused row line ↦ table | accepted m ↦ tableOf m ++ drop tableWords table ]
 
-  stored-by : tableWords ≤ length table → length text ≤ maxBytes → (o : Reader.ReadAnswer) → Reader.read none atFirst dueAtFirst 1 (linesOf text) ≡ o → storedIf (sheetRead text blank) table ≡ after o
+  stored-by : tableWords ≤ length table → length text ≤ maxBytes → (o : Reader.ReadAnswer) → Reader.read nothing atFirst dueAtFirst 1 (linesOf text) ≡ o → storedIf (sheetRead text blank) table ≡ after o
   unfolding storedIf readOf
   stored-by h l (refused row line) e = rw (sheet-ends exact text l .answer ∙ ap readOf e, storedIf)
   stored-by h l (accepted m) e =
@@ -61,7 +61,7 @@ module _ (exact : ReadsLines lineRead lineAfter) (text : Bytes) (table : List �
     where
       go : (a : Bool) → ltb (length table) tableWords ≡ a → (b : Bool) → ltb maxBytes (length text) ≡ b
           → _≡_ {A = List ℕ} (elim a as (λ x. List ℕ) [ true ↦ table | false ↦ elim b as (λ x. List ℕ) [ true ↦ table | false ↦ storedIf (sheetRead text blank) table ] ])
-          (after (elim a as (λ x. Reader.ReadAnswer) [ true ↦ refused 18 0 | false ↦ elim b as (λ x. Reader.ReadAnswer) [ true ↦ refused 1 0 | false ↦ Reader.read none atFirst dueAtFirst 1 (linesOf text) ] ]))
+          (after (elim a as (λ x. Reader.ReadAnswer) [ true ↦ refused 18 0 | false ↦ elim b as (λ x. Reader.ReadAnswer) [ true ↦ refused 1 0 | false ↦ Reader.read nothing atFirst dueAtFirst 1 (linesOf text) ] ]))
       go true e b f = refl
       go false e true f = refl
-      go false e false f = stored-by (ltb-false (length table) tableWords e) (ltb-false maxBytes (length text) f) (Reader.read none atFirst dueAtFirst 1 (linesOf text)) refl
+      go false e false f = stored-by (ltb-false (length table) tableWords e) (ltb-false maxBytes (length text) f) (Reader.read nothing atFirst dueAtFirst 1 (linesOf text)) refl

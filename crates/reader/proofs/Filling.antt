@@ -8,7 +8,7 @@ use native.Mathlib.Omega.{arith}
 use native.Mathlib.Numerals.{add-one}
 use borrow.Author.Tests.{le-leb, lt-leb, leb-true, leb-false, ltb-true, ltb-false}
 use lib.ListN.{length, take, drop, set, length-set, replicate, length-append, length-take, length-replicate, take-append-drop}
-use lib.Seq.{drop-set-lt, take-suc-set, append-snoc, take-all, take-at, take-append-le, drop-append-add, take-append-seam, take-take}
+use lib.Seq.{set-append-left, set-append-seam, drop-set-lt, take-suc-set, append-snoc, take-all, take-at, take-append-le, drop-append-add, take-append-seam, take-take}
 use lib.Dec.{leb, ltb}
 use Rattle.model.specs.Bounds.{tableWords}
 use Rattle.table_append.specs.Append.{nextPlace, put}
@@ -149,3 +149,15 @@ pub filled-first : (s more : List ℕ) (n : ℕ) → n ≤ length s → n ≤ ta
 unfolding filled
 filled-first s more n h k =
     take-append-le n (take tableWords s) (zeros (tableWords - length s)) (omega (arith, length-take tableWords s)) ∙ take-take n tableWords s k ∙ sym (take-append-le n s more h)
+
+-- another word in the place of the last
+pub set-filled : (s : List ℕ) (old new : ℕ) → length s < tableWords → set (filled (s ++ old ∷ [])) (length s) new ≡ filled (s ++ new ∷ [])
+set-filled s old new h =
+    let size = length-append s (old ∷ []) in
+    let size' = length-append s (new ∷ []) in
+    let count : tableWords - length (s ++ old ∷ []) ≡ tableWords - length (s ++ new ∷ []) = omega arith in
+    ap (λ (l : List ℕ). set l (length s) new) (filled-fits (s ++ old ∷ []) (omega arith)) ∙
+    set-append-left (s ++ old ∷ []) (zeros (tableWords - length (s ++ old ∷ []))) (length s) new (omega arith) ∙
+    ap (λ (l : List ℕ). l ++ zeros (tableWords - length (s ++ old ∷ []))) (set-append-seam s old [] new) ∙
+    ap (λ (n : ℕ). (s ++ new ∷ []) ++ zeros n) count ∙
+    sym (filled-fits (s ++ new ∷ []) (omega arith))

@@ -1,6 +1,8 @@
 pub mod StoreLaws
 pub mod SheetLaws
 pub mod Filling
+pub mod Standing
+pub mod BehindRounds
 pub mod ReadExact
 pub mod Exact
 pub mod ReadLaws

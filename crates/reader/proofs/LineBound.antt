@@ -3,7 +3,6 @@ use Prim.Native.Nat.{ℕ, suc, _+_, _≤_}
 use mathlib.Core.Path.{_≡_, refl}
 use mathlib.Core.Bool.{Bool, true, false}
 use mathlib.Core.List.{List, [], _∷_}
-use mathlib.Core.Option.{Option, none}
 use native.Mathlib.Omega.{arith}
 use borrow.Author.Tests.{ltb-false}
 use lib.ListN.{length}
@@ -12,10 +11,11 @@ use Rattle.model.specs.Bounds.{maxBytes, tableWords}
 use Rattle.model.specs.Lines.{Key, Reading, atFirst, dueAtFirst}
 use Rattle.model.specs.Table.{row18}
 use Rattle.format.specs.Bytes.{Bytes, LF}
+use Rattle.format.specs.Spelling.{Behind, nothing}
 use Rattle.format.specs.Reader as Reader
 use Rattle.format.specs.Reader.{ontoLine, linesOf, row1, readAnswer}
 use Rattle.format.specs.Rows.{Line}
-use Rattle.format.proofs.Refusals.{Stops, extra, lacking, faulty, later, no-list, faulty-list, after-list, refusal-first}
+use Rattle.format.proofs.Refusals.{Stops, extra, lacking, faulty, later, no-list, faulty-list, after-list, no-owner, faulty-owner, after-owner, refusal-first}
 
 onto-more : (b : ℕ) (ls : List Line) → length (ontoLine b ls) ≤ suc (length ls)
 unfolding ontoLine
@@ -31,7 +31,7 @@ lines-few (b ∷ t) = go (lines-few t) (eqb b LF)
     go few true = omega arith
     go few false = let more = onto-more b (linesOf t) in omega arith
 
-stops-within : {o : Option (List ℕ)} {r : Reading} {ks : List Key} {ls : List Line} {row n : ℕ} → Stops o r ks ls row n → n ≤ length ls + 1
+stops-within : {b : Behind} {r : Reading} {ks : List Key} {ls : List Line} {row n : ℕ} → Stops b r ks ls row n → n ≤ length ls + 1
 stops-within extra = omega arith
 stops-within lacking = omega arith
 stops-within (faulty h) = omega arith
@@ -39,6 +39,9 @@ stops-within (later h s) = let within = stops-within s in omega arith
 stops-within no-list = omega arith
 stops-within (faulty-list h) = omega arith
 stops-within (after-list h s) = let within = stops-within s in omega arith
+stops-within no-owner = omega arith
+stops-within (faulty-owner h) = omega arith
+stops-within (after-owner h s) = let within = stops-within s in omega arith
 
 same-line : (row n row' n' : ℕ) → Reader.refused row n ≡ Reader.refused row' n' → n ≡ n'
 same-line row n row' n' h = cc
@@ -54,10 +57,10 @@ module _ (text : Bytes) (table row n : ℕ) (h : readAnswer text table ≡ Reade
   unfolding readAnswer row18 row1
   refusal-line = go (ltb table tableWords) refl h
     where
-      next : tableWords ≤ table → (v : Bool) → ltb maxBytes (length text) ≡ v → elim v [ true ↦ Reader.refused 1 0 | false ↦ Reader.read none atFirst dueAtFirst 1 (linesOf text) ] ≡ Reader.refused row n → n ≤ maxBytes + 1
+      next : tableWords ≤ table → (v : Bool) → ltb maxBytes (length text) ≡ v → elim v [ true ↦ Reader.refused 1 0 | false ↦ Reader.read nothing atFirst dueAtFirst 1 (linesOf text) ] ≡ Reader.refused row n → n ≤ maxBytes + 1
       next a true e k = let none = same-line 1 0 row n k in omega arith
       next a false e k = read-line a (ltb-false maxBytes (length text) e)
 
-      go : (v : Bool) → ltb table tableWords ≡ v → elim v [ true ↦ Reader.refused 18 0 | false ↦ elim (ltb maxBytes (length text)) [ true ↦ Reader.refused 1 0 | false ↦ Reader.read none atFirst dueAtFirst 1 (linesOf text) ] ] ≡ Reader.refused row n → n ≤ maxBytes + 1
+      go : (v : Bool) → ltb table tableWords ≡ v → elim v [ true ↦ Reader.refused 18 0 | false ↦ elim (ltb maxBytes (length text)) [ true ↦ Reader.refused 1 0 | false ↦ Reader.read nothing atFirst dueAtFirst 1 (linesOf text) ] ] ≡ Reader.refused row n → n ≤ maxBytes + 1
       go true e k = let none = same-line 18 0 row n k in omega arith
       go false e k = next (ltb-false table tableWords e) (ltb maxBytes (length text)) refl k

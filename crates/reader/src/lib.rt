@@ -17,13 +17,15 @@ pub enum ReadAnswer {
 }
 
 // Where the reader stands: the key that is due with what comes after it, what was counted, the place of the next word
-// in the table and of the next byte in the text. Where `list` says so, the list behind the line before is due first,
-// and `rest` is the number that was told of that line: the variables that the edge does not mention.
+// in the table and of the next byte in the text. Where `owner` says so, the owner behind the line before is due first.
+// Where `list` does, the list behind it is, and `rest` is the number that was told of that line: the variables that
+// the edge does not mention.
 pub struct Place {
     pub due: line_order::Due,
     pub counts: line_order::Counts,
     pub at: usize,
     pub byte: usize,
+    pub owner: bool,
     pub list: bool,
     pub rest: usize,
 }

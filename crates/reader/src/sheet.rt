@@ -6,6 +6,7 @@ use line_order::Counts;
 use line_order::Due;
 use model::Model;
 use read_line::LineRead;
+use read_owner_line::OwnerRead;
 use read_writes_line::WritesRead;
 ghost use mathlib.Core.Path.{_≡_};
 ghost use Prim.Native.Nat.{_+_, _≤_, _<_};
@@ -13,8 +14,9 @@ ghost use lib.ListN.{length};
 ghost use Rattle.model.specs.Bounds.{maxBytes};
 ghost use Rattle.format.specs.Bytes.{LF};
 ghost use Rattle.text_bytes.specs.Find.{firstFrom};
-ghost use Rattle.reader.specs.Read.{placeFirst, placeAfter, placeBehind, lineRound, lineRoundAfter};
-ghost use Rattle.reader.specs.Read.{listRound, roundAt, roundAfter, sheetRead};
+ghost use Rattle.reader.specs.Read.{placeFirst, placeAfter, placeBehind, lineRound, lineRoundAfter, lastSet};
+ghost use Rattle.reader.specs.Read.{ownerRound, ownerRoundAfter, writesOthers, listRound, roundAt, roundAfter};
+ghost use Rattle.reader.specs.Read.{sheetRead};
 
 impl Place {
     fn first() -> Place
@@ -25,6 +27,7 @@ impl Place {
             counts: Counts::none(),
             at: 0,
             byte: 0,
+            owner: false,
             list: false,
             rest: 0,
         }
@@ -43,12 +46,13 @@ impl Place {
             counts: counts.after(key, number, nodes),
             at: next,
             byte: stop + 1,
+            owner: due.owned(),
             list: due.listed(),
             rest: number,
         }
     }
 
-    // After the list behind a line, which ended before byte `stop`.
+    // After the owner or the list behind a line, which ended before byte `stop`.
     fn behind(self, stop: usize) -> Place
         requires { ⌜ stop ≤ maxBytes ⌝ }
         ensures { λ r. ⌜ r ≡ placeBehind self stop ⌝ }
@@ -61,6 +65,7 @@ impl Place {
             counts,
             at,
             byte: stop + 1,
+            owner: false,
             list: false,
             rest: 0,
         }
@@ -95,10 +100,59 @@ fn line(text: &[u8], number: usize, place: Place, words: &mut [u32; Model::WORDS
     }
 }
 
-// The list behind a line, at a place, on the line with this number. It adds no words to the table.
-fn list(text: &[u8], number: usize, place: Place) -> Round
+// A word in the place of the last one before `at`.
+fn set_last(words: &mut [u32; Model::WORDS], at: usize, word: u32)
+    ensures { λ r. ⌜ now (words .exit) ≡ lastSet at word (now (words .entry)) ⌝ }
+{
+    if at == 0 {
+        return;
+    }
+    if Model::WORDS < at {
+        return;
+    }
+    words[at - 1] = word;
+}
+
+// The owner behind a variable's line, at a place, on the line with this number. That line put the word of no owner
+// last; the owner's takes its place.
+fn owner(text: &[u8], number: usize, place: Place, words: &mut [u32; Model::WORDS]) -> Round
     requires { ⌜ (place .byte < length (now text)) × (length (now text) ≤ maxBytes) ⌝ }
-    ensures { λ r. ⌜ r ≡ listRound (now (text .entry)) number place ⌝ }
+    ensures { λ r. ⌜ (r ≡ ownerRound (now (text .entry)) number place)
+        × (now (words .exit) ≡ ownerRoundAfter (now (text .entry)) place (now (words .entry))) ⌝ }
+{
+    let byte = place.byte;
+    let at = place.at;
+    let stop = stop_from(text, byte);
+    let ended = stop < text.len();
+    let read = read_owner_line::read(&text[byte..stop], ended);
+    match read {
+        OwnerRead::Fault(row) => Round::Done(ReadAnswer::Refused(row, number)),
+        OwnerRead::Sound(word) => {
+            set_last(words, at, word);
+            Round::On(place.behind(stop))
+        }
+    }
+}
+
+// Row 51 of the edge before a place: from the format with owners on, it writes what its automaton does not own.
+fn writes_others(place: Place, words: &[u32; Model::WORDS]) -> bool
+    ensures { λ r. ⌜ r ≡ writesOthers place (now (words .entry)) ⌝ }
+{
+    let counts = place.counts;
+    let format = counts.format;
+    let variables = counts.variables;
+    let automata = counts.automata;
+    let rest = place.rest;
+    if format < Model::OWNERS_FORMAT {
+        return false;
+    }
+    table_owners::foreign(table_line::ranges(words, variables), automata, rest as u64)
+}
+
+// The list behind a line, at a place, on the line with this number. It adds no words to the table.
+fn list(text: &[u8], number: usize, place: Place, words: &[u32; Model::WORDS]) -> Round
+    requires { ⌜ (place .byte < length (now text)) × (length (now text) ≤ maxBytes) ⌝ }
+    ensures { λ r. ⌜ r ≡ listRound (now (text .entry)) number place (now (words .entry)) ⌝ }
 {
     let byte = place.byte;
     let rest = place.rest;
@@ -107,13 +161,16 @@ fn list(text: &[u8], number: usize, place: Place) -> Round
     let stop = stop_from(text, byte);
     let ended = stop < text.len();
     let read = read_writes_line::read(&text[byte..stop], ended, variables, rest);
-    match read {
-        WritesRead::Fault(row) => Round::Done(ReadAnswer::Refused(row, number)),
-        WritesRead::Sound => Round::On(place.behind(stop)),
+    if let WritesRead::Fault(row) = read {
+        return Round::Done(ReadAnswer::Refused(row, number));
     }
+    if writes_others(place, words) {
+        return Round::Done(ReadAnswer::Refused(51, number));
+    }
+    Round::On(place.behind(stop))
 }
 
-// One round: no line is left, or none is due, or a list or a line is read.
+// One round: no line is left, or none is due, or an owner, a list or a line is read.
 fn round(text: &[u8], number: usize, place: Place, words: &mut [u32; Model::WORDS]) -> Round
     requires { ⌜ (length (now text) ≤ maxBytes) ⌝ }
     ensures { λ r. ⌜ (r ≡ roundAt (now (text .entry)) number place (now (words .entry)))
@@ -123,15 +180,19 @@ fn round(text: &[u8], number: usize, place: Place, words: &mut [u32; Model::WORD
     let due = place.due;
     let key = due.key;
     let end = line_order::end(key);
-    let behind = place.list;
+    let owned = place.owner;
+    let listed = place.list;
     if text.len() <= byte {
-        if end & !behind {
+        if end & !(owned | listed) {
             return Round::Done(ReadAnswer::Accepted);
         }
         return Round::Done(ReadAnswer::Refused(2, number));
     }
-    if behind {
-        return list(text, number, place);
+    if owned {
+        return owner(text, number, place, words);
+    }
+    if listed {
+        return list(text, number, place, words);
     }
     if end {
         return Round::Done(ReadAnswer::Refused(2, number));

@@ -14,11 +14,11 @@ use Rattle.model.specs.Basic.{every, lacks}
 use Rattle.model.specs.Bounds.{maxNodes, tableWords}
 use Rattle.model.specs.Predicate.{Pred, Range, words, nodeCount}
 use Rattle.model.specs.Model.{Model}
-use Rattle.model.specs.Lines.{Key as LineKey, format, actions, variables, variable, automata, sync, locations, init, inv, edges, edge, compose, Entry, formatLine, actionsLine, variablesLine, variableLine, automataLine, syncLine, locationsLine, initLine, invLine, edgesLine, edgeLine, composeLine, keyOf, lines, dueAtFirst, thenDue, Reading, atFirst, withModel, withAutomata, withPred, withNodes, noted}
+use Rattle.model.specs.Lines.{Key as LineKey, format, actions, variables, variable, automata, sync, locations, init, inv, edges, edge, compose, Entry, formatLine, actionsLine, variablesLine, variableLine, variableLines, automataLine, syncLine, locationsLine, initLine, invLine, edgesLine, edgeLine, composeLine, keyOf, lines, dueAtFirst, thenDue, Reading, atFirst, withModel, withAutomata, withPred, withNodes, noted}
 use Rattle.model.specs.Limits.{passesNodes, variableCount, predFault, locationFault, contentFault, faultOf, withinLimits, limits}
 use Rattle.model.specs.Lawful.{LawfulRange}
 use Rattle.model.specs.Table.{lineWords, sheetWords, tableOf, row19}
-use Rattle.model.proofs.Tests.{and-intro, and-left, and-right, eq-of}
+use Rattle.model.proofs.Tests.{and-intro, and-left, and-right, eq-of, of-eq}
 use Rattle.model.proofs.Parsing.{none-some, got}
 use Rattle.model.proofs.LimitLines.{variable-line, starts-clear}
 use Rattle.model.proofs.LimitsLaws.{lawful-is}
@@ -40,7 +40,7 @@ use Rattle.line_order.proofs.CountsLaws.{paced-first, paced-after, paced-room, 
 use Rattle.table_line.specs.declared.Line.{Line}
 use Rattle.table_line.specs.declared.Line.the-variants.{Sound, Bad}
 use Rattle.table_check.specs.declared.Scan.{Scan}
-use Rattle.table_line.specs.Exact.{rangeWords, Declared, LineAt, LineExact}
+use Rattle.table_line.specs.Exact.{Declared, LineAt, LineExact}
 use Rattle.table_check.specs.Scan.{scanFirst, scanAfter, zerosFrom, scanned, scannedSheet}
 
 -- words of which each is 0 are so many zeros
@@ -70,12 +70,12 @@ module _ (line : ℕ → Key → Counts → Line) (fuel : ℕ) (s : Scan) where
   unfolding scanned
   scanned-bad h e = rw (h, e, scanned)
 
--- where the line that is due begins, if no automaton has been counted yet; `count` ranges have been read
+-- where the line that is due begins, if no automaton has been counted yet; `count` variables have been read
 abbrev pub Placed : Key → (at count : ℕ) → Type 0
 Placed Format at count = (at ≡ 0) × (count ≡ 0)
 Placed Actions at count = (at ≡ 1) × (count ≡ 0)
 Placed Variables at count = (at ≡ 2) × (count ≡ 0)
-Placed Variable at count = at ≡ 3 + 2 * count
+Placed Variable at count = at ≡ 3 + 3 * count
 Placed Automata at count = Unit {0}
 Placed Sync at count = Unit {0}
 Placed Locations at count = Unit {0}
@@ -96,7 +96,7 @@ unfolding dueAfterKey dueVariables dueAutomata dueLocations dueEdges codeOf keyO
 placed-after (formatLine n) d r at h = omega arith
 placed-after (actionsLine n) d r at h = omega arith
 placed-after (variablesLine n) d r at h = placed-either n _ _ _ _ tt (omega arith)
-placed-after (variableLine x) d r at h = placed-either (d .variables - 1) _ _ _ _ tt (omega (arith, length-append (r .model .variables) (x ∷ [])))
+placed-after (variableLine x o) d r at h = placed-either (d .variables - 1) _ _ _ _ tt (omega (arith, length-append (r .model .variables) (x ∷ [])))
 placed-after (automataLine n) d r at h = placed-either n _ _ _ _ tt tt
 placed-after (syncLine list) d r at h = tt
 placed-after (locationsLine n) d r at h = placed-either n _ _ _ _ tt tt
@@ -105,49 +105,6 @@ placed-after (invLine p) d r at h = placed-either (d .locations - 1) _ _ _ _ tt 
 placed-after (edgesLine n) d r at h = placed-either n _ _ _ _ (placed-either (d .automata - 1) _ _ _ _ tt tt) tt
 placed-after (edgeLine e) d r at h = placed-either (d .edges - 1) _ _ _ _ (placed-either (d .automata - 1) _ _ _ _ tt tt) tt
 placed-after (composeLine c) d r at h = tt
-
--- the words of one item more
-flat-last : {A B : Type 0} (f : A → List B) (l : List A) (x : A) → flatMap f (l ++ x ∷ []) ≡ flatMap f l ++ f x
-unfolding flatMap
-flat-last f [] x = append-nil (f x)
-flat-last f (y ∷ l) x = ap (λ (k : List _). f y ++ k) (flat-last f l x) ∙ sym (append-assoc (f y) (flatMap f l) (f x))
-
--- After a line, the ranges read so far stand in the table: one more at a variable's line, which stands just behind the others.
-module _ (t : List ℕ) where
-  declared-more : (r : Reading) (x : Range) (at : ℕ) (rest : List ℕ) → at ≡ 3 + 2 * variableCount r → drop at t ≡ rangeWords x ++ rest → LawfulRange x → Declared t r → Declared t (noted r (variableLine x))
-  unfolding noted withModel variableCount
-  declared-more r x at rest p w l h = record { lawful = λ y m. either y (List·Memᴰ·append-cases vs m); words = rw (longer, take-add n 2 (drop 3 t), h .words, two, flat-last rangeWords vs x) }
-    where
-      vs : List Range
-      vs = r .model .variables
-
-      n : ℕ
-      n = 2 * length vs
-
-      either : (y : Range) → List·Memᴰ y vs ⊎ List·Memᴰ y (x ∷ []) → LawfulRange y
-      either y (inl m) = h .lawful y m
-      either y (inr m) = rw (List·Memᴰ·eq-of-singleton m) l
-
-      longer : 2 * length (vs ++ x ∷ []) ≡ n + 2
-      longer = omega (arith, length-append vs (x ∷ []))
-
-      two : take 2 (drop n (drop 3 t)) ≡ rangeWords x
-      two = rw (drop-drop n 3 t, ← p, w)
-
-  declared-after : (r : Reading) (e : Entry) (at : ℕ) (rest : List ℕ) → Placed (codeOf (keyOf e)) at (variableCount r) → faultOf r e ≡ none → drop at t ≡ lineWords e ++ rest → Declared t r → Declared t (noted r e)
-  unfolding noted withModel withAutomata withPred withNodes variableCount keyOf codeOf lineWords lacks
-  declared-after r (formatLine n) at rest p f w h = record { lawful = h .lawful; words = h .words }
-  declared-after r (actionsLine n) at rest p f w h = record { lawful = h .lawful; words = h .words }
-  declared-after r (variablesLine n) at rest p f w h = h
-  declared-after r (variableLine x) at rest p f w h = declared-more r x at rest p w (variable-line r x .0 (ap lacks f)) h
-  declared-after r (automataLine n) at rest p f w h = h
-  declared-after r (syncLine list) at rest p f w h = record { lawful = h .lawful; words = h .words }
-  declared-after r (locationsLine n) at rest p f w h = h
-  declared-after r (initLine q) at rest p f w h = record { lawful = h .lawful; words = h .words }
-  declared-after r (invLine q) at rest p f w h = record { lawful = h .lawful; words = h .words }
-  declared-after r (edgesLine n) at rest p f w h = h
-  declared-after r (edgeLine e) at rest p f w h = record { lawful = h .lawful; words = h .words }
-  declared-after r (composeLine c) at rest p f w h = record { lawful = h .lawful; words = h .words }
 
 -- a line that breaks no row keeps the nodes few (row 11)
 pred-nodes : (r : Reading) (p : Pred) (rest : Option ℕ) → predFault r p rest ≡ none → r .nodes + nodeCount p ≤ maxNodes
@@ -159,7 +116,7 @@ unfolding nodesOf faultOf contentFault locationFault lacks
 few-nodes r (formatLine n) l f = omega arith
 few-nodes r (actionsLine n) l f = omega arith
 few-nodes r (variablesLine n) l f = omega arith
-few-nodes r (variableLine x) l f = omega arith
+few-nodes r (variableLine x o) l f = omega arith
 few-nodes r (automataLine n) l f = omega arith
 few-nodes r (syncLine list) l f = omega arith
 few-nodes r (locationsLine n) l f = omega arith
@@ -175,7 +132,7 @@ unfolding nodesOf noted withModel withAutomata withPred withNodes
 noted-nodes r (formatLine n) = omega arith
 noted-nodes r (actionsLine n) = omega arith
 noted-nodes r (variablesLine n) = omega arith
-noted-nodes r (variableLine x) = omega arith
+noted-nodes r (variableLine x o) = omega arith
 noted-nodes r (automataLine n) = omega arith
 noted-nodes r (syncLine list) = omega arith
 noted-nodes r (locationsLine n) = omega arith
@@ -184,6 +141,102 @@ noted-nodes r (invLine p) = omega arith
 noted-nodes r (edgesLine n) = omega arith
 noted-nodes r (edgeLine e) = omega arith
 noted-nodes r (composeLine c) = omega arith
+
+-- one variable more
+variables-last : (vs : List Range) (os : List (Option ℕ)) (x : Range) (o : Option ℕ) → length os ≡ length vs → variableLines (vs ++ x ∷ []) (os ++ o ∷ []) ≡ variableLines vs os ++ variableLine x o ∷ []
+unfolding variableLines
+variables-last [] [] x o n = refl
+variables-last [] (p ∷ os) x o n = absurd (omega arith)
+variables-last (v ∷ vs) [] x o n = absurd (omega arith)
+variables-last (v ∷ vs) (p ∷ os) x o n = ap (λ (l : List Entry). variableLine v p ∷ l) (variables-last vs os x o (omega arith))
+
+flat-last : {A B : Type 0} (f : A → List B) (l : List A) (x : A) → flatMap f (l ++ x ∷ []) ≡ flatMap f l ++ f x
+unfolding flatMap
+flat-last f [] x = append-nil (f x)
+flat-last f (y ∷ l) x = ap (λ (k : List _). f y ++ k) (flat-last f l x) ∙ sym (append-assoc (f y) (flatMap f l) (f x))
+
+-- What going on asks of a line: that its range is lawful, if it has one, and that its nodes do not make too many. A line
+-- that breaks no row meets it.
+abbrev Ranging : Entry → Type 0
+Ranging (formatLine n) = Unit {0}
+Ranging (actionsLine n) = Unit {0}
+Ranging (variablesLine n) = Unit {0}
+Ranging (variableLine x o) = LawfulRange x
+Ranging (automataLine n) = Unit {0}
+Ranging (syncLine list) = Unit {0}
+Ranging (locationsLine n) = Unit {0}
+Ranging (initLine p) = Unit {0}
+Ranging (invLine p) = Unit {0}
+Ranging (edgesLine n) = Unit {0}
+Ranging (edgeLine e) = Unit {0}
+Ranging (composeLine c) = Unit {0}
+
+pub record Fair (r : Reading) (e : Entry) : Type 0 where
+  pub ranging : Ranging e
+  pub few : r .nodes + nodesOf e ≤ maxNodes
+
+ranging-of : (r : Reading) (e : Entry) → faultOf r e ≡ none → Ranging e
+unfolding lacks
+ranging-of r (formatLine n) f = tt
+ranging-of r (actionsLine n) f = tt
+ranging-of r (variablesLine n) f = tt
+ranging-of r (variableLine x o) f = variable-line r x o .0 (ap lacks f) .0
+ranging-of r (automataLine n) f = tt
+ranging-of r (syncLine list) f = tt
+ranging-of r (locationsLine n) f = tt
+ranging-of r (initLine p) f = tt
+ranging-of r (invLine p) f = tt
+ranging-of r (edgesLine n) f = tt
+ranging-of r (edgeLine e) f = tt
+ranging-of r (composeLine c) f = tt
+
+pub fair : (r : Reading) (e : Entry) → r .nodes ≤ maxNodes → faultOf r e ≡ none → Fair r e
+fair r e l f = record { ranging = ranging-of r e f; few = few-nodes r e l f }
+
+-- After a line, the variables read so far stand in the table: one more at a variable's line, which stands just behind the others.
+module _ (t : List ℕ) where
+  pub declared-more : (r : Reading) (x : Range) (o : Option ℕ) (at : ℕ) (rest : List ℕ) → at ≡ 3 + 3 * variableCount r → drop at t ≡ lineWords (variableLine x o) ++ rest → LawfulRange x → Declared t r → Declared t (noted r (variableLine x o))
+  unfolding noted withModel variableCount lineWords
+  declared-more r x o at rest p w l h =
+      record {
+        lawful = λ y m. either y (List·Memᴰ·append-cases vs m);
+        owners-are = omega (arith, h .owners-are, length-append vs (x ∷ []), length-append os (o ∷ []));
+        words = rw (longer, take-add n 3 (drop 3 t), h .words, three, variables-last vs os x o (h .owners-are), flat-last lineWords (variableLines vs os) (variableLine x o));
+      }
+    where
+      vs : List Range
+      vs = r .model .variables
+
+      os : List (Option ℕ)
+      os = r .model .owners
+
+      n : ℕ
+      n = 3 * length vs
+
+      either : (y : Range) → List·Memᴰ y vs ⊎ List·Memᴰ y (x ∷ []) → LawfulRange y
+      either y (inl m) = h .lawful y m
+      either y (inr m) = rw (List·Memᴰ·eq-of-singleton m) l
+
+      longer : 3 * length (vs ++ x ∷ []) ≡ n + 3
+      longer = omega (arith, length-append vs (x ∷ []))
+
+      three : take 3 (drop n (drop 3 t)) ≡ lineWords (variableLine x o)
+      three = unfold lineWords in rw (drop-drop n 3 t, ← p, w)
+
+  declared-after : (r : Reading) (e : Entry) (at : ℕ) (rest : List ℕ) → Placed (codeOf (keyOf e)) at (variableCount r) → Ranging e → drop at t ≡ lineWords e ++ rest → Declared t r → Declared t (noted r e)
+  unfolding noted withModel withAutomata withPred withNodes variableCount keyOf codeOf
+  declared-after r (formatLine n) at rest p f w h = record { lawful = h .lawful; owners-are = h .owners-are; words = h .words }
+  declared-after r (actionsLine n) at rest p f w h = record { lawful = h .lawful; owners-are = h .owners-are; words = h .words }
+  declared-after r (variablesLine n) at rest p f w h = h
+  declared-after r (variableLine x o) at rest p f w h = declared-more r x o at rest p w f h
+  declared-after r (automataLine n) at rest p f w h = h
+  declared-after r (syncLine list) at rest p f w h = record { lawful = h .lawful; owners-are = h .owners-are; words = h .words }
+  declared-after r (locationsLine n) at rest p f w h = h
+  declared-after r (initLine q) at rest p f w h = record { lawful = h .lawful; owners-are = h .owners-are; words = h .words }
+  declared-after r (invLine q) at rest p f w h = record { lawful = h .lawful; owners-are = h .owners-are; words = h .words }
+  declared-after r (edgesLine n) at rest p f w h = h
+  declared-after r (edgeLine e) at rest p f w h = record { lawful = h .lawful; owners-are = h .owners-are; words = h .words }
+  declared-after r (composeLine c) at rest p f w h = record { lawful = h .lawful; owners-are = h .owners-are; words = h .words }
 
 -- What holds before each round: n lines have been read, which said r, and the scan s has kept account of them.
 pub record Going (t : List ℕ) (n : ℕ) (s : Scan) (r : Reading) : Type 0 where
@@ -197,7 +250,7 @@ pub record Going (t : List ℕ) (n : ℕ) (s : Scan) (r : Reading) : Type 0 wher
   pub inside : s .at ≤ length t
 
 pub going-first : (t : List ℕ) → Going t 0 scanFirst atFirst
-unfolding scanFirst atFirst variableCount flatMap
+unfolding scanFirst atFirst variableCount flatMap variableLines
 going-first t =
     record {
       counted = counted-first;
@@ -205,24 +258,23 @@ going-first t =
       begun = begun-first;
       format = format-first;
       few = omega arith;
-      declared = record { lawful = λ x m. absurd (List·Memᴰ·not-nil m); words = refl };
+      declared = record { lawful = λ x m. absurd (List·Memᴰ·not-nil m); owners-are = refl; words = refl };
       placed = (refl, refl);
       inside = omega arith;
     }
 
-pub going-after : (t : List ℕ) (n : ℕ) (s : Scan) (r : Reading) (e : Entry) (ks : List LineKey) (rest : List ℕ) → n < mostCount → keysDue (s .due) ≡ keyOf e ∷ ks → faultOf r e ≡ none → drop (s .at) t ≡ lineWords e ++ rest → Going t n s r → Going t (n + 1) (scanAfter s (numberOf e) (nodesOf e) (s .at + length (lineWords e))) (noted r e)
+pub going-after : (t : List ℕ) (n : ℕ) (s : Scan) (r : Reading) (e : Entry) (ks : List LineKey) (rest : List ℕ) → n < mostCount → keysDue (s .due) ≡ keyOf e ∷ ks → Fair r e → drop (s .at) t ≡ lineWords e ++ rest → Going t n s r → Going t (n + 1) (scanAfter s (numberOf e) (nodesOf e) (s .at + length (lineWords e))) (noted r e)
 unfolding scanAfter dueAfter
 going-after t n s r e ks rest l q f w g =
     let key = due-key (s .due) (keyOf e) ks q in
-    let few = few-nodes r e (g .few) f in
-    let room = paced-room n (s .counts) (nodesOf e) l (omega (arith, g .counted .nodes)) (g .paced) in
+    let room = paced-room n (s .counts) (nodesOf e) l (omega (arith, f .few, g .counted .nodes)) (g .paced) in
     record {
       counted = rw key (counted-after r (s .counts) e (g .counted) room (begun-at (s .due) r e ks q (g .begun)));
       paced = paced-after n (s .counts) (s .due .key) (numberOf e) (nodesOf e) (g .paced);
       begun = begun-after (s .due) r e ks q (g .begun);
       format = format-after (s .due) r (g .format) e ks q;
-      few = omega (arith, noted-nodes r e);
-      declared = declared-after t r e (s .at) rest (rw key at (g .placed)) f w (g .declared);
+      few = omega (arith, f .few, noted-nodes r e);
+      declared = declared-after t r e (s .at) rest (rw key at (g .placed)) (f .ranging) w (g .declared);
       placed = subst (λ (k : Key). Placed (dueAfterKey k (s .due) (numberOf e) .key) (s .at + length (lineWords e)) (variableCount (noted r e))) (sym key) (placed-after e (s .due) r (s .at) (rw key at (g .placed)));
       inside = omega (arith, g .inside, ap (length {A = ℕ}) w, length-drop (s .at) t, length-append (lineWords e) rest);
     }
@@ -269,7 +321,7 @@ module _ (t : List ℕ) (line : ℕ → Key → Counts → Line) (exact : LineEx
           let q = due-line d (keyOf x) (key ∙ ap codeOf (sym (a .keyed))) in
           let s′ = scanAfter s (numberOf x) (nodesOf x) (s .at + length (lineWords x)) in
           let same : scanAfter s number nodes next ≡ s′ = rw (a .numbered, a .counted, ← a .ends) in
-          let g′ = going-after t n s r x (laterDue d) (drop next t) (omega arith) q (a .unbroken) (a .words) g in
+          let g′ = going-after t n s r x (laterDue d) (drop next t) (omega arith) q (fair r x (g .few) (a .unbroken)) (a .words) g in
           let h′ = ap (scanned line fuel) (sym same) ∙ sym (scanned-sound line fuel s number nodes next (ap isEnd key ∙ no-end k) e) ∙ h in
           let f : Found t (noted r x) (keysDue (dueAfter d (numberOf x))) (s .at + length (lineWords x)) to = on s′ (noted r x) g′ h′ in
           rw (due-line d k key) (found-line t r k (laterDue d) (s .at) number nodes next to a (rw (due-after d r (g .format) x (laterDue d) q, ← a .ends) at f))
@@ -297,7 +349,7 @@ module _ (t : List ℕ) (line : ℕ → Key → Counts → Line) (exact : LineEx
       let sound = exact .complete r (s .counts) e at more (g .counted) (g .declared) ok w′ in
       let step = scanned-sound line fuel s (numberOf e) (nodesOf e) (at + size) (ap isEnd key ∙ no-end (keyOf e)) (ap (λ (j : Key). line at j (s .counts)) key ∙ sound) in
       let v = sym (drop-drop size at t) ∙ ap (λ (x : List ℕ). drop size x) w′ ∙ drop-append-seam (lineWords e) more in
-      let onward = scan-complete es (thenDue (r .model .format) e ++ ks) fuel (n + 1) (scanAfter s (numberOf e) (nodesOf e) (at + size)) (noted r e) m rest (omega arith) (going-after t n s r e ks more (omega arith) q′ ok w′ g) (due-after (s .due) r (g .format) e ks q′) (f .1) (and-right (lacks (faultOf r e)) (withinLimits (noted r e) es) b) v (omega arith) in
+      let onward = scan-complete es (thenDue (r .model .format) e ++ ks) fuel (n + 1) (scanAfter s (numberOf e) (nodesOf e) (at + size)) (noted r e) m rest (omega arith) (going-after t n s r e ks more (omega arith) q′ (fair r e (g .few) ok) w′ g) (due-after (s .due) r (g .format) e ks q′) (f .1) (and-right (lacks (faultOf r e)) (withinLimits (noted r e) es) b) v (omega arith) in
       (onward .0, step ∙ onward .1, onward .2)
 
   -- the answer, by what the rounds come to
@@ -315,18 +367,20 @@ module _ (t : List ℕ) (line : ℕ → Key → Counts → Line) (exact : LineEx
       from-scan (some at) e h =
           let f : Found t atFirst dueAtFirst 0 at = rw due-first at (scan-sound (tableWords + 1) 0 scanFirst atFirst at (omega arith) (going-first t) e) in
           let m = f .model in
-          let same = lines-follow (f .entries) m (f .follows) in
+          let followed = lines-follow (f .entries) m (f .follows) in
+          let same = followed .0 in
           let cut : t ≡ sheetWords m ++ drop at t = rw (← same) (f .words) in
           let zeros = zeros-are (drop at t) (sym (scanned-gives (some at) e) ∙ h) in
           let count : length (drop at t) ≡ tableWords - length (sheetWords m) = omega (arith, ap (length {A = ℕ}) cut, length-append (sheetWords m) (drop at t)) in
-          (m, rw (← same) (f .within), cut ∙ ap (λ (l : List ℕ). sheetWords m ++ l) (zeros ∙ ap (λ (n : ℕ). replicate n 0) count))
+          (m, and-intro (of-eq _ _ (followed .1)) (rw (← same) (f .within)), cut ∙ ap (λ (l : List ℕ). sheetWords m ++ l) (zeros ∙ ap (λ (n : ℕ). replicate n 0) count))
 
       to-scan : (m : Model) × (limits m ≡ true) × (t ≡ tableOf m) → scannedSheet line t ≡ true
       to-scan h =
           let m = h .0 in
           let zeros = tableWords - length (sheetWords m) in
-          let few = lines-few m (lawful-is m .0 (h .1)) in
-          let c = scan-complete (lines m) dueAtFirst (tableWords + 1) 0 scanFirst atFirst m (replicate zeros 0) (omega arith) (going-first t) due-first (follow-lines m) (h .1) (h .2) (omega arith) in
+          let lawful = lawful-is m .0 (h .1) in
+          let few = lines-few m lawful in
+          let c = scan-complete (lines m) dueAtFirst (tableWords + 1) 0 scanFirst atFirst m (replicate zeros 0) (omega arith) (going-first t) due-first (follow-lines m (lawful .owners-are)) (and-right (eqb (length (m .owners)) (length (m .variables))) _ (h .1)) (h .2) (omega arith) in
           scanned-gives (some (c .0)) (c .1) ∙ ap (every (λ w. eqb w 0)) (c .2) ∙ are-zeros zeros
 
 -- and so it passes the first 16,384 words of a table exactly if row 19 does not refuse the table

@@ -1,23 +1,25 @@
 -- Each way out of the code of src/one_line.rt.
 use Prim.Native.Nat.{ℕ, _+_, _-_, _≤_, _<_}
-use mathlib.Core.Path.{_≡_, refl, sym, _∙_, ap}
-use mathlib.Core.Bool.{Bool, true, false, not, _&&_}
+use mathlib.Core.Path.{_≡_, refl, sym, _∙_, ap, ap₂}
+use mathlib.Core.Bool.{Bool, true, false, not, _&&_, _||_}
 use mathlib.Core.List.{List}
 use native.Mathlib.Omega.{arith}
-use lib.ListN.{length, getD}
-use lib.Dec.{leb, ltb}
+use lib.ListN.{length, getD, take, drop}
+use lib.Dec.{eqb, leb, ltb}
 use borrow.Author.Tests.{lt-ltb, le-ltb, le-leb, lt-leb, not-true, not-false}
 use Rattle.model.specs.Bounds.{firstFormat, lastFormat, maxEdges, lastBiased}
 use Rattle.model.specs.Limits.{rises}
 use Rattle.model.specs.Table.{setOf}
-use Rattle.model.proofs.Tests.{and-intro, and-no-right}
+use Rattle.model.proofs.Tests.{and-intro, and-no-right, or-left, or-right, or-none}
 use Rattle.line_order.specs.declared.Key.{Key}
 use Rattle.line_order.specs.declared.Key.the-variants.{Format, Actions, Variables, Variable, Automata, Sync, Locations, Init, Inv, Edges, Edge, Compose, End}
 use Rattle.line_order.specs.declared.Counts.{Counts}
 use Rattle.line_order.specs.Counts.{capped}
 use Rattle.table_line.specs.declared.Line.{Line}
 use Rattle.table_line.specs.declared.Line.the-variants.{Sound, Bad}
-use Rattle.table_line.specs.Line.{numberAt, variableAt, syncAt, predicateAt, locationAt, edgesAt, endsSound, edgeAt, composeAt, lineAt}
+use Rattle.table_line.specs.Line.{when, numberAt, ownerSound, variableSound, variableAt, rangesIn, automataAt, syncAt, predicateAt, locationAt, edgesAt, endsSound, ownsAt, owning, edgeAt, composeAt, lineAt}
+use Rattle.table_writes.specs.Sets.{allVariables, restOf}
+use Rattle.table_owners.specs.Owners.{beyondIn, foreignIn}
 use Rattle.table_line.proofs.PredicateCode.{when-true, when-false, no-left}
 
 -- `number`
@@ -41,35 +43,71 @@ module _ (t : List ℕ) (at least most : ℕ) where
 
 pub ruleset number-laws = (number-end, number-low, number-high, number-good)
 
+-- `variable_sound`
+pub variable-by : (f low high w : ℕ) → (leb high 2000000000 && (leb low high && (leb w 16 && (eqb w 0 || leb 3 f)))) ≡ variableSound f low high w
+unfolding variableSound ownerSound
+variable-by f low high w = refl
+
 -- `variable`
-module _ (t : List ℕ) (at : ℕ) where
-  abbrev low : ℕ
-  low = getD t at 0
+module _ (t : List ℕ) (at f : ℕ) where
+  abbrev fine : Bool
+  fine = variableSound f (getD t at 0) (getD t (at + 1) 0) (getD t (at + 2) 0)
 
-  abbrev high : ℕ
-  high = getD t (at + 1) 0
-
-  pub variable-end : length t ≤ at → Bad ≡ variableAt t at
+  pub variable-end : length t ≤ at → Bad ≡ variableAt t at f
   unfolding variableAt
-  variable-end h = when-false _ _ (no-left (ltb (at + 1) (length t)) (leb high lastBiased && leb low high) (le-ltb (at + 1) (length t) (omega arith)))
+  variable-end h = when-false _ _ (no-left (ltb (at + 2) (length t)) fine (le-ltb (at + 2) (length t) (omega arith)))
 
-  pub variable-short : length t ≤ at + 1 → Bad ≡ variableAt t at
+  pub variable-short : length t - at ≤ 2 → Bad ≡ variableAt t at f
   unfolding variableAt
-  variable-short h = when-false _ _ (no-left (ltb (at + 1) (length t)) (leb high lastBiased && leb low high) (le-ltb (at + 1) (length t) h))
+  variable-short h = when-false _ _ (no-left (ltb (at + 2) (length t)) fine (le-ltb (at + 2) (length t) (omega arith)))
 
-  pub variable-high : lastBiased < high → Bad ≡ variableAt t at
-  unfolding variableAt
-  variable-high l = when-false _ _ (and-no-right (ltb (at + 1) (length t)) (leb high lastBiased && leb low high) (no-left (leb high lastBiased) (leb low high) (lt-leb high lastBiased l)))
+  module _ (o : ℕ) (ho : o ≡ getD t (at + 2) 0) (b : Bool) (hb : b ≡ variableSound f (getD t at 0) (getD t (at + 1) 0) o) where
+    same-fine : fine ≡ b
+    unfolding variableSound
+    same-fine = ap (variableSound f (getD t at 0) (getD t (at + 1) 0)) (sym ho) ∙ sym hb
 
-  pub variable-order : high < low → Bad ≡ variableAt t at
-  unfolding variableAt
-  variable-order l = when-false _ _ (and-no-right (ltb (at + 1) (length t)) (leb high lastBiased && leb low high) (and-no-right (leb high lastBiased) (leb low high) (lt-leb low high l)))
+    pub variable-by-sound : 2 < length t - at → (r : Line) → r ≡ when b (Sound 0 0 (at + 3)) → r ≡ variableAt t at f
+    unfolding variableAt when
+    variable-by-sound h r e = e ∙ rw (lt-ltb (at + 2) (length t) (omega arith), same-fine)
 
-  pub variable-good : at + 1 < length t → high ≤ lastBiased → low ≤ high → Sound 0 0 (at + 2) ≡ variableAt t at
-  unfolding variableAt
-  variable-good h l m = when-true _ _ (and-intro (lt-ltb (at + 1) (length t) h) (and-intro (le-leb high lastBiased l) (le-leb low high m)))
+pub ruleset variable-laws = (variable-end, variable-short, variable-by-sound)
 
-pub ruleset variable-laws = (variable-end, variable-short, variable-high, variable-order, variable-good)
+-- `if_sound`
+module _ (b : Bool) (n : ℕ) where
+  pub sound-is : b ≡ true → Sound 0 0 n ≡ when b (Sound 0 0 n)
+  unfolding when
+  sound-is h = rw h
+
+  pub sound-not : b ≡ false → Bad ≡ when b (Sound 0 0 n)
+  unfolding when
+  sound-not h = rw h
+
+pub ruleset sound-laws = (sound-is, sound-not)
+
+-- `automata`
+module _ (t : List ℕ) (at : ℕ) (c : Counts) where
+  pub automata-end : length t ≤ at → Bad ≡ automataAt t at c
+  unfolding automataAt
+  automata-end h = go (not (beyondIn (rangesIn t (c .variables)) (getD t at 0))) (number-end t at 1 16 h)
+    where
+      go : (b : Bool) {l : Line} → Bad ≡ l → Bad ≡ when b l
+      go true e = unfold when in e
+      go false e = unfold when in refl
+
+  module _ (n : ℕ) (hn : n ≡ getD t at 0) (ws : List ℕ) (hw : ws ≡ rangesIn t (c .variables)) (b : Bool) (hb : b ≡ beyondIn ws n) where
+    same-beyond : beyondIn (rangesIn t (c .variables)) (getD t at 0) ≡ b
+    unfolding beyondIn
+    same-beyond = ap₂ beyondIn (sym hw) (sym hn) ∙ sym hb
+
+    pub automata-beyond : b ≡ true → Bad ≡ automataAt t at c
+    unfolding automataAt
+    automata-beyond h = when-false _ _ (ap not (same-beyond ∙ h))
+
+    pub automata-good : b ≡ false → (r : Line) → r ≡ numberAt t at 1 16 → r ≡ automataAt t at c
+    unfolding automataAt
+    automata-good h r e = e ∙ when-true _ _ (ap not (same-beyond ∙ h))
+
+pub ruleset automata-laws = (automata-end, automata-beyond, automata-good)
 
 -- `sync`
 module _ (t : List ℕ) (at a : ℕ) where
@@ -143,11 +181,46 @@ module _ (t : List ℕ) (at : ℕ) (c : Counts) where
     unfolding edgeAt
     edge-unsound h = when-false _ _ (and-no-right (ltb (at + 2) (length t)) both (same-ends ∙ not-true q h))
 
-    pub edge-good : 2 < length t - at → not q ≡ false → (r : Line) → r ≡ predicateAt t (at + 3) c → r ≡ edgeAt t at c
-    unfolding edgeAt
-    edge-good l h r hr = hr ∙ when-true _ _ (and-intro (lt-ltb (at + 2) (length t) (omega arith)) (same-ends ∙ not-false q h))
+    pub edge-good : 2 < length t - at → not q ≡ false → (p r : Line) → p ≡ predicateAt t (at + 3) c → r ≡ owning t c (at + 3) p → r ≡ edgeAt t at c
+    unfolding edgeAt owning
+    edge-good l h p r hp hr = hr ∙ ap (owning t c (at + 3)) hp ∙ when-true _ _ (and-intro (lt-ltb (at + 2) (length t) (omega arith)) (same-ends ∙ not-false q h))
 
 pub ruleset edge-laws = (edge-end, edge-short, edge-unsound, edge-good)
+
+-- `owned`
+module _ (t : List ℕ) (at : ℕ) (c : Counts) (l : Line) where
+  pub owned-bad : l ≡ Bad → Bad ≡ owning t c at l
+  unfolding owning
+  owned-bad h = rw h
+
+  module _ (number nodes next : ℕ) (h : l ≡ Sound number nodes next) where
+    same-line : {b : Bool} → ownsAt t c at nodes ≡ b → owning t c at l ≡ when b l
+    unfolding owning
+    same-line e = rw (h, e)
+
+    pub owned-early : c .format < 3 → Sound number nodes next ≡ owning t c at l
+    unfolding ownsAt
+    owned-early f = sym h ∙ sym (same-line (or-left _ (lt-ltb (c .format) 3 f)) ∙ unfold when in refl)
+
+    module _ (late : 3 ≤ c .format) where
+      pub owned-end : length t ≤ at → Bad ≡ owning t c at l
+      unfolding ownsAt
+      owned-end e = sym (same-line (or-none (le-ltb (c .format) 3 late) (no-left (ltb at (length t)) _ (le-ltb at (length t) e))) ∙ unfold when in refl)
+
+      module _ (rest : ℕ) (hr : rest ≡ restOf allVariables (take nodes (drop (at + 1) t))) (ws : List ℕ) (hw : ws ≡ rangesIn t (c .variables)) (b : Bool) (hb : b ≡ foreignIn ws (c .automata) rest) where
+        same-foreign : foreignIn (rangesIn t (c .variables)) (c .automata) (restOf allVariables (take nodes (drop (at + 1) t))) ≡ b
+        unfolding foreignIn
+        same-foreign = ap₂ (λ (x : List ℕ) (y : ℕ). foreignIn x (c .automata) y) (sym hw) (sym hr) ∙ sym hb
+
+        pub owned-foreign : b ≡ true → Bad ≡ owning t c at l
+        unfolding ownsAt
+        owned-foreign e = sym (same-line (or-none (le-ltb (c .format) 3 late) (and-no-right (ltb at (length t)) _ (ap not (same-foreign ∙ e)))) ∙ unfold when in refl)
+
+        pub owned-good : at < length t → b ≡ false → Sound number nodes next ≡ owning t c at l
+        unfolding ownsAt
+        owned-good i e = sym h ∙ sym (same-line (or-right (ltb (c .format) 3) (and-intro (lt-ltb at (length t) i) (ap not (same-foreign ∙ e)))) ∙ unfold when in refl)
+
+pub ruleset owned-laws = (owned-bad, owned-early, owned-end, owned-foreign, owned-good)
 
 -- `line`
 module _ (t : List ℕ) (at : ℕ) (c : Counts) (k : Key) where
@@ -163,11 +236,11 @@ module _ (t : List ℕ) (at : ℕ) (c : Counts) (k : Key) where
   unfolding lineAt
   line-variables h r e = rw h e
 
-  pub line-variable : k ≡ Variable → (r : Line) → r ≡ variableAt t at → r ≡ lineAt t at k c
+  pub line-variable : k ≡ Variable → (r : Line) → r ≡ variableAt t at (c .format) → r ≡ lineAt t at k c
   unfolding lineAt
   line-variable h r e = rw h e
 
-  pub line-automata : k ≡ Automata → (r : Line) → r ≡ numberAt t at 1 16 → r ≡ lineAt t at k c
+  pub line-automata : k ≡ Automata → (r : Line) → r ≡ automataAt t at c → r ≡ lineAt t at k c
   unfolding lineAt
   line-automata h r e = rw h e
 

@@ -72,7 +72,7 @@ tree-capped A (leaf k) h = refl
 
 -- so the rows say the same of the line where there are no more
 abbrev fewer : Reading → Reading
-fewer r = withModel r (r .model .format) (capped (r .model .actions)) (r .model .variables) (r .model .automata) (r .model .tree)
+fewer r = withModel r (r .model .format) (capped (r .model .actions)) (r .model .variables) (r .model .owners) (r .model .automata) (r .model .tree)
 
 capped-fault : (r : Reading) (c : Tree) → faultOf (fewer r) (composeLine c) ≡ faultOf r (composeLine c)
 unfolding faultOf numbersInRange contentFault startsFault variableCount withModel broken
@@ -88,6 +88,7 @@ module _ (t : List ℕ) (r : Reading) (c : Counts) (k : Counted r c) (d : Declar
   unfolding withNodes variableCount locationCount
   counted-with total l =
       record {
+        format = k .format;
         actions = k .actions;
         variables = k .variables;
         automata = k .automata;
@@ -98,7 +99,7 @@ module _ (t : List ℕ) (r : Reading) (c : Counts) (k : Counted r c) (d : Declar
 
   declared-with : (total : ℕ) → Declared t (withNodes r total)
   unfolding withNodes variableCount
-  declared-with total = record { lawful = d .lawful; words = d .words }
+  declared-with total = record { lawful = d .lawful; owners-are = d .owners-are; words = d .words }
 
   -- these P stand from `at` on and break no row, and the answer is their nodes, with `total` before them, and the place after them
   record StartsAt (ps : List Pred) (at total number nodes next : ℕ) : Type 0 where

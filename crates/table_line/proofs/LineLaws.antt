@@ -8,19 +8,19 @@ use native.Mathlib.Omega.{arith}
 use lib.ListN.{length, drop}
 use lib.Dec.{ltb}
 use Rattle.model.specs.Basic.{every, lacks}
-use Rattle.model.specs.Bounds.{firstFormat, lastFormat, maxActions, maxVariables, maxAutomata, maxLocations}
+use Rattle.model.specs.Bounds.{firstFormat, lastFormat, maxActions, maxVariables, maxLocations}
 use Rattle.model.specs.Lines.{Key as LineKey, format, actions, variables, variable, automata, sync, locations, init, inv, edges, edge, compose, Entry, formatLine, actionsLine, variablesLine, variableLine, automataLine, syncLine, locationsLine, initLine, invLine, edgesLine, edgeLine, composeLine, keyOf, Reading}
 use Rattle.model.specs.Limits.{numbersInRange, contentFault, faultOf}
 use Rattle.model.specs.Table.{setWords, lineWords}
 use Rattle.model.proofs.Decode.{none-lacks}
-use Rattle.model.proofs.LimitLines.{format-line, actions-line, variables-line, automata-line, locations-line}
+use Rattle.model.proofs.LimitLines.{format-line, actions-line, variables-line, locations-line}
 use Rattle.line_order.specs.declared.Counts.{Counts}
 use Rattle.line_order.specs.Due.{codeOf, numberOf}
 use Rattle.line_order.specs.Counts.{nodesOf, Counted}
 use Rattle.table_line.specs.declared.Line.the-variants.{Sound}
 use Rattle.table_line.specs.Exact.{Declared, LineAt, LineExact}
 use Rattle.table_line.specs.Line.{word, lineAt}
-use Rattle.table_line.proofs.NumberLines.{head-of, line-at, number-sound, number-of, edges-sound, edges-of, variable-sound, variable-of, sync-sound, sync-of}
+use Rattle.table_line.proofs.NumberLines.{head-of, line-at, number-sound, number-of, edges-sound, edges-of, variable-sound, variable-of, automata-sound, automata-of, sync-sound, sync-of}
 use Rattle.table_line.proofs.PredicateLines.{init-sound, inv-sound, state-of, edge-sound, edge-of}
 use Rattle.table_line.proofs.CompositionLines.{compose-sound, compose-of}
 
@@ -38,10 +38,8 @@ module _ (t : List ℕ) where
     sound-line variables number nodes next h =
         let s = number-sound t at 0 maxVariables number nodes next h in
         line-at t r (variablesLine (word t at)) at number nodes next _ (none-lacks _ (variables-line r _ .1 (s .2))) (head-of t at (s .0)) (s .3)
-    sound-line variable number nodes next h = variable-sound t r at number nodes next h
-    sound-line automata number nodes next h =
-        let s = number-sound t at 1 maxAutomata number nodes next h in
-        line-at t r (automataLine (word t at)) at number nodes next _ (none-lacks _ (automata-line r _ .1 (s .1, s .2))) (head-of t at (s .0)) (s .3)
+    sound-line variable number nodes next h = variable-sound t r c k at number nodes next h
+    sound-line automata number nodes next h = automata-sound t r c k at d number nodes next h
     sound-line sync number nodes next h = sync-sound t r c k at fit number nodes next h
     sound-line locations number nodes next h =
         let s = number-sound t at 1 maxLocations number nodes next h in
@@ -57,8 +55,8 @@ module _ (t : List ℕ) where
     complete-line (formatLine n) rest g w = let l = format-line r n .0 (ap lacks g) in number-of t at firstFormat lastFormat n rest w (l .0) (l .1)
     complete-line (actionsLine n) rest g w = number-of t at 0 maxActions n rest w (omega arith) (actions-line r n .0 (ap lacks g))
     complete-line (variablesLine n) rest g w = number-of t at 0 maxVariables n rest w (omega arith) (variables-line r n .0 (ap lacks g))
-    complete-line (variableLine x) rest g w = variable-of t r at x rest g w
-    complete-line (automataLine n) rest g w = let l = automata-line r n .0 (ap lacks g) in number-of t at 1 maxAutomata n rest w (l .0) (l .1)
+    complete-line (variableLine x o) rest g w = variable-of t r c k at x o rest g w
+    complete-line (automataLine n) rest g w = automata-of t r c k at d n rest g w
     complete-line (syncLine list) rest g w = sync-of t r c k at list rest g w
     complete-line (locationsLine n) rest g w = let l = locations-line r n .0 (ap lacks g) in number-of t at 1 maxLocations n rest w (l .0) (l .1)
     complete-line (initLine p) rest g w = state-of t r c k d at p rest g w

@@ -1,28 +1,28 @@
 -- Words that stand at a place of a table, and the lines of numbers, ranges and sets.
-use Prim.Native.Nat.{ℕ, suc, _+_, _-_, _*_, _/_, _%_, _≤_, _<_}
+use Prim.Native.Nat.{ℕ, zero, suc, _+_, _-_, _*_, _/_, _%_, _≤_, _<_}
 use mathlib.Core.Path.{_≡_, refl, sym, ap, _∙_}
-use mathlib.Core.Bool.{Bool, true, false, not, cond, _&&_, true≢false}
+use mathlib.Core.Bool.{Bool, true, false, not, cond, _&&_, _||_, true≢false}
 use mathlib.Core.List.{List, [], _∷_, _++_}
-use mathlib.Core.Option.{Option, none}
+use mathlib.Core.Option.{Option, none, some}
 use native.Mathlib.Omega.{arith}
 use native.Mathlib.Numerals.{add-one}
-use borrow.Author.Tests.{leb-true, leb-false, le-leb, lt-ltb, ltb-true, ltb-false, eqb-true, not-false}
+use borrow.Author.Tests.{leb-true, leb-false, le-leb, lt-leb, lt-ltb, ltb-true, ltb-false, eqb-true, ne-eqb, not-true, not-false}
 use lib.IntN.{ℤ, pos, negsuc}
 use lib.Signed.{leZ}
 use lib.ListN.{length, drop, length-drop}
 use lib.Seq.{drop-cons}
 use lib.Dec.{eqb, leb, ltb}
-use Rattle.model.specs.Basic.{between, every, lacks}
-use Rattle.model.specs.Bounds.{maxActions, maxEdges, leastNumber, greatestNumber, bias, lastBiased}
+use Rattle.model.specs.Basic.{between, every, exists, lacks}
+use Rattle.model.specs.Bounds.{maxActions, maxAutomata, lastAutomaton, maxEdges, leastNumber, greatestNumber, bias, lastBiased, ownersFormat}
 use Rattle.model.specs.Predicate.{Range, range}
-use Rattle.model.specs.Lines.{Entry, actionsLine, variableLine, syncLine, edgesLine, keyOf, Reading, noted, withModel}
-use Rattle.model.specs.Limits.{inRange, rises, broken, numbersInRange, contentFault, faultOf}
+use Rattle.model.specs.Lines.{Entry, actionsLine, variableLine, automataLine, syncLine, edgesLine, keyOf, Reading, noted, withModel}
+use Rattle.model.specs.Limits.{inRange, ownerInRange, isEarly, isBeyond, rises, broken, numbersInRange, contentFault, faultOf}
 use Rattle.model.specs.Lawful.{LawfulRange}
-use Rattle.model.specs.Table.{biased, unbiased, lowBits, highBits, setWords, setOf, lineWords}
-use Rattle.model.proofs.Tests.{and-intro, and-left, and-right, every-at}
+use Rattle.model.specs.Table.{biased, unbiased, lowBits, highBits, setWords, setOf, ownerWord, ownerFrom, lineWords}
+use Rattle.model.proofs.Tests.{and-intro, and-left, and-right, or-right, or-other, every-at}
 use Rattle.model.proofs.Bits.{rises-cons, set-back}
 use Rattle.model.proofs.Decode.{unbroken, none-lacks}
-use Rattle.model.proofs.LimitLines.{variable-line, sync-line, edges-line}
+use Rattle.model.proofs.LimitLines.{variable-line, automata-line, Said, sync-line, edges-line}
 use Rattle.line_order.specs.declared.Counts.{Counts}
 use Rattle.line_order.specs.Due.{numberOf}
 use Rattle.line_order.specs.Counts.{nodesOf, Counted}
@@ -33,8 +33,10 @@ use Rattle.line_order.specs.Counts.{capped}
 use Rattle.line_order.proofs.CappedLaws.{capped-few, rises-capped}
 use Rattle.table_line.specs.declared.Line.{Line}
 use Rattle.table_line.specs.declared.Line.the-variants.{Sound}
-use Rattle.table_line.specs.Exact.{LineAt}
-use Rattle.table_line.specs.Line.{when, word, numberAt, variableAt, syncAt, edgesAt}
+use Rattle.table_line.specs.Exact.{Declared, LineAt}
+use Rattle.table_owners.specs.Owners.{beyondIn}
+use Rattle.table_owners.proofs.OwnerLaws.{beyond-is}
+use Rattle.table_line.specs.Line.{when, word, numberAt, variableAt, syncAt, edgesAt, ownerSound, variableSound, rangesIn, automataAt}
 
 -- a line that is sound if a test holds
 pub when-sound : (b : Bool) (l : Line) (number nodes next : ℕ) → when b l ≡ Sound number nodes next → (b ≡ true) × (l ≡ Sound number nodes next)
@@ -147,32 +149,83 @@ two-of t at a b rest e = let f = first-of t at a (b ∷ rest) e in (f, first-of 
 pub two-there : (t : List ℕ) (at : ℕ) → at + 1 < length t → drop at t ≡ word t at ∷ word t (at + 1) ∷ drop (at + 1 + 1) t
 two-there t at l = head-of t at (omega arith) ∙ ap (λ (s : List ℕ). word t at ∷ s) (head-of t (at + 1) l)
 
-module _ (t : List ℕ) (r : Reading) (at : ℕ) where
-  -- a range
-  pub variable-sound : (number nodes next : ℕ) → variableAt t at ≡ Sound number nodes next → LineAt t r (keyOf (variableLine (range (unbiased (word t at)) (unbiased (word t (at + 1)))))) at number nodes next
-  unfolding variableAt numberOf nodesOf lineWords range
+-- three words at a place
+pub three-there : (t : List ℕ) (at : ℕ) → at + 2 < length t → drop at t ≡ word t at ∷ word t (at + 1) ∷ word t (at + 2) ∷ drop (at + 3) t
+three-there t at l =
+    let two : at + 1 + 1 ≡ at + 2 = omega arith in
+    let three : at + 2 + 1 ≡ at + 3 = omega arith in
+    two-there t at (omega arith) ∙ ap (λ (s : List ℕ). word t at ∷ word t (at + 1) ∷ s) (rw (two, ← three) (head-of t (at + 2) l))
+
+-- an owner's word says an owner, and back
+owner-said : (f w : ℕ) → ownerSound f w ≡ true → Said f (ownerFrom w) × (ownerWord (ownerFrom w) ≡ w)
+unfolding ownerSound ownerFrom ownerWord ownerInRange isEarly
+owner-said f zero h = ((refl, refl), refl)
+owner-said f (suc j) h =
+    let few = leb-true (suc j) maxAutomata (and-left (leb (suc j) maxAutomata) _ h) in
+    let late = leb-true ownersFormat f (or-other (and-right (leb (suc j) maxAutomata) _ h) (ne-eqb (suc j) 0 (λ e. absurd (omega arith)))) in
+    ((le-leb j lastAutomaton (omega arith), lt-leb (suc f) ownersFormat (omega arith)), refl)
+
+said-owner : (f : ℕ) (o : Option ℕ) → Said f o → ownerSound f (ownerWord o) ≡ true
+unfolding ownerSound ownerWord ownerInRange isEarly
+said-owner f none h = refl
+said-owner f (some j) h =
+    let few = leb-true j lastAutomaton (h .0) in
+    let late = leb-false (suc f) ownersFormat (h .1) in
+    and-intro (le-leb (suc j) maxAutomata (omega arith)) (or-right (eqb (suc j) 0) (le-leb ownersFormat f (omega arith)))
+
+module _ (t : List ℕ) (r : Reading) (c : Counts) (k : Counted r c) (at : ℕ) where
+  -- a range and an owner
+  pub variable-sound : (number nodes next : ℕ) → variableAt t at (c .format) ≡ Sound number nodes next → LineAt t r (keyOf (variableLine (range (unbiased (word t at)) (unbiased (word t (at + 1)))) (ownerFrom (word t (at + 2))))) at number nodes next
+  unfolding variableAt variableSound numberOf nodesOf lineWords range
   variable-sound number nodes next h =
       let a = word t at in
       let b = word t (at + 1) in
+      let w = word t (at + 2) in
       let s = when-sound _ _ number nodes next h in
-      let inside = ltb-true (at + 1) (length t) (and-left (ltb (at + 1) (length t)) (leb b lastBiased && leb a b) (s .0)) in
-      let tests = and-right (ltb (at + 1) (length t)) (leb b lastBiased && leb a b) (s .0) in
-      let few = leb-true b lastBiased (and-left (leb b lastBiased) (leb a b) tests) in
-      let up = leb-true a b (and-right (leb b lastBiased) (leb a b) tests) in
+      let inside = ltb-true (at + 2) (length t) (and-left (ltb (at + 2) (length t)) (leb b lastBiased && (leb a b && ownerSound (c .format) w)) (s .0)) in
+      let tests = and-right (ltb (at + 2) (length t)) (leb b lastBiased && (leb a b && ownerSound (c .format) w)) (s .0) in
+      let few = leb-true b lastBiased (and-left (leb b lastBiased) (leb a b && ownerSound (c .format) w) tests) in
+      let more = and-right (leb b lastBiased) (leb a b && ownerSound (c .format) w) tests in
+      let up = leb-true a b (and-left (leb a b) (ownerSound (c .format) w) more) in
+      let owner = owner-said (r .model .format) w (rw (← k .format) (and-right (leb a b) (ownerSound (c .format) w) more)) in
       let low = number-word a (omega arith) in
       let high = number-word b few in
       let lawful : LawfulRange (range (unbiased a) (unbiased b)) = record { low = low .1; high = high .1; ordered = unbiased-le a b up } in
-      line-at t r (variableLine (range (unbiased a) (unbiased b))) at number nodes next (drop (at + 1 + 1) t) (none-lacks _ (variable-line r _ .1 lawful)) (two-there t at inside ∙ rw (low .0, high .0)) (s .1)
+      line-at t r (variableLine (range (unbiased a) (unbiased b)) (ownerFrom w)) at number nodes next (drop (at + 3) t) (none-lacks _ (variable-line r _ _ .1 (lawful, owner .0))) (three-there t at inside ∙ rw (low .0, high .0, owner .1)) (s .1)
 
-  pub variable-of : (x : Range) (rest : List ℕ) → faultOf r (variableLine x) ≡ none → drop at t ≡ biased (x .low) ∷ biased (x .high) ∷ rest → variableAt t at ≡ Sound 0 0 (at + 2)
-  unfolding variableAt lacks
-  variable-of x rest g e =
-      let l = variable-line r x .0 (ap lacks g) in
-      let f = two-of t at (biased (x .low)) (biased (x .high)) rest e in
-      rw (f .0 .is, f .1 .is)
+  pub variable-of : (x : Range) (o : Option ℕ) (rest : List ℕ) → faultOf r (variableLine x o) ≡ none → drop at t ≡ biased (x .low) ∷ biased (x .high) ∷ ownerWord o ∷ rest → variableAt t at (c .format) ≡ Sound 0 0 (at + 3)
+  unfolding variableAt variableSound lacks
+  variable-of x o rest g e =
+      let l = variable-line r x o .0 (ap lacks g) in
+      let f = two-of t at (biased (x .low)) (biased (x .high)) (ownerWord o ∷ rest) e in
+      let two : at + 1 + 1 ≡ at + 2 = omega arith in
+      let w = first-of t (at + 2) (ownerWord o) rest (rw (← two) (f .1 .then)) in
+      rw (f .0 .is, f .1 .is, w .is, k .format)
       (when-true _
-      (and-intro (lt-ltb (at + 1) (length t) (f .1 .below))
-      (and-intro (le-leb (biased (x .high)) lastBiased (biased-small (x .high) (l .high))) (le-leb (biased (x .low)) (biased (x .high)) (biased-le (x .low) (x .high) (l .ordered))))))
+      (and-intro (lt-ltb (at + 2) (length t) (w .below))
+      (and-intro (le-leb (biased (x .high)) lastBiased (biased-small (x .high) (l .0 .high)))
+      (and-intro (le-leb (biased (x .low)) (biased (x .high)) (biased-le (x .low) (x .high) (l .0 .ordered))) (said-owner (r .model .format) o (l .1))))))
+
+  -- how many automata
+  module _ (d : Declared t r) where
+    beyond-read : (n : ℕ) → beyondIn (rangesIn t (c .variables)) n ≡ exists (isBeyond n) (r .model .owners)
+    unfolding rangesIn
+    beyond-read n = rw (k .variables, d .words) (beyond-is (r .model .variables) (r .model .owners) (d .owners-are) n)
+
+    pub automata-sound : (number nodes next : ℕ) → automataAt t at c ≡ Sound number nodes next → LineAt t r (keyOf (automataLine (word t at))) at number nodes next
+    unfolding automataAt numberOf nodesOf lineWords
+    automata-sound number nodes next h =
+        let b = when-sound _ _ number nodes next h in
+        let s = number-sound t at 1 maxAutomata number nodes next (b .1) in
+        let none-beyond = sym (beyond-read (word t at)) ∙ not-true _ (b .0) in
+        line-at t r (automataLine (word t at)) at number nodes next _ (none-lacks _ (automata-line r _ .1 (s .1, s .2, none-beyond))) (head-of t at (s .0)) (s .3)
+
+    pub automata-of : (n : ℕ) (rest : List ℕ) → faultOf r (automataLine n) ≡ none → drop at t ≡ n ∷ rest → automataAt t at c ≡ Sound n 0 (at + 1)
+    unfolding automataAt lacks
+    automata-of n rest g e =
+        let l = automata-line r n .0 (ap lacks g) in
+        let f = first-of t at n rest e in
+        when-true _ (ap not (ap (beyondIn (rangesIn t (c .variables))) (f .is) ∙ beyond-read n ∙ l .2)) ∙ number-of t at 1 maxAutomata n rest e (l .0) (l .1)
 
 -- a list that rises up to 63 holds nothing above it: so says row 5's own law, of a reading with so many actions
 rises-few : (r : Reading) (A : ℕ) (list : List ℕ) → A ≤ maxActions → rises A 0 list ≡ true → every (λ k. leb k maxActions) list ≡ true

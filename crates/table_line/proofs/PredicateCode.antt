@@ -38,16 +38,16 @@ module _ (t : List ℕ) (n : ℕ) where
   unfolding rangesIn
   ranges-short h =
       let l : length t ≤ 3 = omega arith in
-      rw (drop-of-length-le t l, take-nil {A = ℕ} (2 * n))
+      rw (drop-of-length-le t l, take-nil {A = ℕ} (3 * n))
 
-  pub ranges-few : 3 ≤ length t → (length t - 3) / 2 < n → take (length t - 3) (drop 3 t) ≡ rangesIn t n
+  pub ranges-few : 3 ≤ length t → (length t - 3) / 3 < n → take (length t - 3) (drop 3 t) ≡ rangesIn t n
   unfolding rangesIn
-  ranges-few h l = take-all (length t - 3) (drop 3 t) (omega (arith, length-drop 3 t)) ∙ sym (take-all (2 * n) (drop 3 t) (omega (arith, length-drop 3 t)))
+  ranges-few h l = take-all (length t - 3) (drop 3 t) (omega (arith, length-drop 3 t)) ∙ sym (take-all (3 * n) (drop 3 t) (omega (arith, length-drop 3 t)))
 
-  pub ranges-all : take (3 + 2 * n - 3) (drop 3 t) ≡ rangesIn t n
+  pub ranges-all : take (3 + 3 * n - 3) (drop 3 t) ≡ rangesIn t n
   unfolding rangesIn
   ranges-all =
-      let e : 3 + 2 * n - 3 ≡ 2 * n = omega arith in
+      let e : 3 + 3 * n - 3 ≡ 3 * n = omega arith in
       ap (λ (i : ℕ). take i (drop 3 t)) e
 
 pub ruleset ranges-laws = (ranges-short, ranges-few, ranges-all)

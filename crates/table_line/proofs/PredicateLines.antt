@@ -1,23 +1,23 @@
 -- A predicate at a place of a table, and the lines with one: `init`, `inv` and `edge`.
 use Prim.Native.Nat.{ℕ, suc, _+_, _-_, _≤_, _<_}
 use mathlib.Core.Path.{_≡_, refl, sym, ap, ap₂, _∙_}
-use mathlib.Core.Bool.{true, false, not, _&&_, and-eq-true-iff}
+use mathlib.Core.Bool.{Bool, true, false, not, _&&_, _||_, and-eq-true-iff}
 use mathlib.Core.List.{List, _∷_, _++_, map, List·Memᴰ}
 use mathlib.Core.Option.{none}
 use native.Mathlib.Omega.{arith}
 use borrow.Author.Tests.{leb-true, leb-false, le-leb, lt-leb, lt-ltb, le-ltb, ltb-true, ltb-false, eqb-true, eq-eqb, not-true, not-false}
-use lib.ListN.{length, take, drop, length-append, length-drop, length-map, take-append-drop}
+use lib.ListN.{length, getD, take, drop, length-append, length-drop, length-map, take-append-drop}
 use lib.Seq.{drop-drop, take-at}
 use lib.Dec.{leb, ltb}
-use Rattle.model.specs.Basic.{every, lacks}
-use Rattle.model.specs.Bounds.{maxActions, maxDepth, maxNodes, lastLocation}
-use Rattle.model.specs.Predicate.{Pred, Range, Word, words, depth, nodeCount, allStay, namesOutside, namesNew}
+use Rattle.model.specs.Basic.{every, exists, lacks}
+use Rattle.model.specs.Bounds.{maxActions, maxDepth, maxNodes, lastLocation, ownersFormat}
+use Rattle.model.specs.Predicate.{Pred, Range, Word, words, depth, nodeCount, allStay, namesOutside, namesNew, written}
 use Rattle.model.specs.Model.{Edge}
 use Rattle.model.specs.Lines.{init, inv, edge, initLine, invLine, edgeLine, keyOf, Reading}
-use Rattle.model.specs.Limits.{inRange, numbersInRange, isTooDeep, exceedsSpan, passesNodes, variableCount, locationCount, isAstray, predFault, contentFault, faultOf}
+use Rattle.model.specs.Limits.{inRange, numbersInRange, isTooDeep, exceedsSpan, passesNodes, variableCount, locationCount, isAstray, isOwner, writesForeign, isForeign, predFault, contentFault, faultOf}
 use Rattle.model.specs.Lawful.{LawfulRange, LawfulPred, LawfulStart}
 use Rattle.model.specs.Table.{code, wordOf, predWords, lineWords}
-use Rattle.model.proofs.Tests.{and-intro, and-left, and-right, or-none, or-none-left, or-none-right}
+use Rattle.model.proofs.Tests.{and-intro, and-left, and-right, or-left, or-right, or-other, or-none, or-none-left, or-none-right}
 use Rattle.model.proofs.Decode.{unbroken, none-lacks, words-back}
 use Rattle.model.proofs.LimitLines.{state-line}
 use Rattle.line_order.specs.declared.Counts.{Counts}
@@ -28,16 +28,20 @@ use Rattle.table_predicate.specs.Walk.{declaredOf, walkAt}
 use Rattle.table_predicate.specs.Scan.{isCoded}
 use Rattle.table_predicate.proofs.ScanLaws.{coded-words, words-coded}
 use Rattle.table_predicate.proofs.WalkLaws.{declared-back, walk-of, walk-back}
-use Rattle.table_line.specs.declared.Line.the-variants.{Sound}
+use Rattle.table_line.specs.declared.Line.the-variants.{Sound, Bad}
+use Rattle.table_line.specs.declared.Line.{Line}
+use Rattle.table_writes.specs.Sets.{allVariables, restOf}
+use Rattle.table_owners.specs.Owners.{foreignIn}
+use Rattle.table_owners.proofs.OwnerLaws.{foreign-is}
 use Rattle.table_line.specs.Exact.{Declared, LineAt}
-use Rattle.table_line.specs.Line.{word, rangesIn, walkedTo, nodesSound, predicateAt, locationAt, endsSound, edgeAt}
+use Rattle.table_line.specs.Line.{word, rangesIn, walkedTo, nodesSound, predicateAt, locationAt, endsSound, ownsAt, owning, edgeAt}
 use Rattle.table_line.proofs.NumberLines.{when-sound, when-true, mended, first-of, head-of, two-of, two-there, line-at}
 
 module _ (t : List ℕ) (r : Reading) (c : Counts) (k : Counted r c) (d : Declared t r) where
   -- the declared ranges are those that have been read
   pub declared-are : declaredOf (rangesIn t (c .variables)) ≡ r .model .variables
   unfolding rangesIn lineWords
-  declared-are = rw (k .variables, d .words) (declared-back (r .model .variables) (d .lawful))
+  declared-are = rw (k .variables, d .words) (declared-back (r .model .variables) (r .model .owners) (d .lawful))
 
   pub declared-lawful : (x : Range) → List·Memᴰ x (declaredOf (rangesIn t (c .variables))) → LawfulRange x
   declared-lawful = rw declared-are (d .lawful)
@@ -225,18 +229,19 @@ module _ (t : List ℕ) (r : Reading) (c : Counts) (k : Counted r c) (d : Declar
       (and-intro (lt-ltb from (c .locations) (omega (arith, e .3, k .locations)))
       (and-intro (le-leb action (c .actions) (omega (arith, e .4, k .actions))) (lt-ltb to (c .locations) (omega (arith, e .5, k .locations)))))
 
-  edge-mended : (e : Edge) → Ends (e .from) (e .action) (e .to) → LawfulPred (r .model .variables) (e .update) → r .nodes + nodeCount (e .update) ≤ maxNodes → faultOf r (edgeLine e) ≡ none
+  edge-mended : (e : Edge) → Ends (e .from) (e .action) (e .to) → LawfulPred (r .model .variables) (e .update) → r .nodes + nodeCount (e .update) ≤ maxNodes → isForeign r (written (e .update)) ≡ false → faultOf r (edgeLine e) ≡ none
   unfolding faultOf numbersInRange contentFault predFault isTooDeep exceedsSpan passesNodes isAstray nodeCount variableCount
-  edge-mended e h l few =
+  edge-mended e h l few own =
       mended 3 (ap not (and-intro (le-leb (e .from) lastLocation (h .0)) (and-intro (le-leb (e .action) maxActions (h .1)) (and-intro (le-leb (e .to) lastLocation (h .2)) (l .ranged)))))
       (mended 7 (l .named)
       (mended 9 (le-ltb maxDepth (depth (e .update)) (l .shallow))
       (mended 10 (ap not (l .spanned))
       (mended 11 (le-ltb maxNodes (r .nodes + length (words (e .update))) few)
       (mended 12 (or-none (lt-leb (locationCount r) (e .from) (h .3)) (or-none (le-ltb (r .model .actions) (e .action) (h .4)) (lt-leb (locationCount r) (e .to) (h .5))))
-      refl)))))
+      (mended 51 own
+      refl))))))
 
-  edge-facts : (e : Edge) → faultOf r (edgeLine e) ≡ none → Ends (e .from) (e .action) (e .to) × LawfulPred (r .model .variables) (e .update) × (r .nodes + nodeCount (e .update) ≤ maxNodes)
+  edge-facts : (e : Edge) → faultOf r (edgeLine e) ≡ none → Ends (e .from) (e .action) (e .to) × LawfulPred (r .model .variables) (e .update) × (r .nodes + nodeCount (e .update) ≤ maxNodes) × (isForeign r (written (e .update)) ≡ false)
   unfolding faultOf numbersInRange contentFault predFault isTooDeep exceedsSpan passesNodes isAstray nodeCount variableCount
   edge-facts e g =
       let row3 = unbroken 3 _ _ g in
@@ -244,7 +249,8 @@ module _ (t : List ℕ) (r : Reading) (c : Counts) (k : Counted r c) (d : Declar
       let row9 = unbroken 9 _ _ (row7 .1) in
       let row10 = unbroken 10 _ _ (row9 .1) in
       let row11 = unbroken 11 _ _ (row10 .1) in
-      let row12 = unbroken 12 _ _ (row11 .1) .0 in
+      let later-rows = unbroken 12 _ _ (row11 .1) in
+      let row12 = later-rows .0 in
       let ranged = numbersInRange (edgeLine e) in
       let n = simp and-eq-true-iff at (not-false ranged (row3 .0)) in
       let later = or-none-right (leb (locationCount r) (e .from)) _ row12 in (
@@ -258,7 +264,46 @@ module _ (t : List ℕ) (r : Reading) (c : Counts) (k : Counted r c) (d : Declar
         ),
         record { ranged = n .1 .1 .1; named = row7 .0; shallow = ltb-false maxDepth (depth (e .update)) (row9 .0); spanned = not-false _ (row10 .0) },
         ltb-false maxNodes (r .nodes + length (words (e .update))) (row11 .0),
+        unbroken 51 _ _ (later-rows .1) .0,
       )
+
+  -- row 51: an edge's automaton owns what it writes
+  foreign-read : (p : Pred) → every inRange (words p) ≡ true → foreignIn (rangesIn t (c .variables)) (c .automata) (restOf allVariables (map code (words p))) ≡ exists (λ i. not (isOwner (length (r .model .automata)) (getD (r .model .owners) i none))) (written p)
+  unfolding rangesIn
+  foreign-read p ranged = rw (k .variables, d .words, k .automata) (foreign-is (r .model .variables) (r .model .owners) (d .owners-are) (length (r .model .automata)) p ranged)
+
+  module _ (at : ℕ) (p : Pred) (ranged : every inRange (words p) ≡ true) (e : take (nodeCount p) (drop (at + 1) t) ≡ map code (words p)) where
+    owns-back : ownsAt t c at (nodeCount p) ≡ true → isForeign r (written p) ≡ false
+    unfolding ownsAt isForeign writesForeign
+    owns-back h = go (leb ownersFormat (r .model .format)) refl
+      where
+        go : (b : Bool) → leb ownersFormat (r .model .format) ≡ b → (b && exists (λ i. not (isOwner (length (r .model .automata)) (getD (r .model .owners) i none))) (written p)) ≡ false
+        go true f =
+            let late = le-ltb (c .format) ownersFormat (omega (arith, leb-true ownersFormat (r .model .format) f, k .format)) in
+            let own = not-true _ (and-right (ltb at (length t)) _ (or-other h late)) in
+            sym (foreign-read p ranged) ∙ ap (λ (l : List ℕ). foreignIn (rangesIn t (c .variables)) (c .automata) (restOf allVariables l)) (sym e) ∙ own
+        go false f = refl
+
+    owns-of : at < length t → isForeign r (written p) ≡ false → ownsAt t c at (nodeCount p) ≡ true
+    unfolding ownsAt isForeign writesForeign
+    owns-of i h = go (leb ownersFormat (r .model .format)) refl h
+      where
+        go : (b : Bool) → leb ownersFormat (r .model .format) ≡ b → (b && exists (λ i. not (isOwner (length (r .model .automata)) (getD (r .model .owners) i none))) (written p)) ≡ false
+            → (ltb (c .format) ownersFormat || (ltb at (length t) && not (foreignIn (rangesIn t (c .variables)) (c .automata) (restOf allVariables (take (nodeCount p) (drop (at + 1) t)))))) ≡ true
+        go true f h =
+            let own : foreignIn (rangesIn t (c .variables)) (c .automata) (restOf allVariables (take (nodeCount p) (drop (at + 1) t))) ≡ false =
+            ap (λ (l : List ℕ). foreignIn (rangesIn t (c .variables)) (c .automata) (restOf allVariables l)) e ∙ foreign-read p ranged ∙ h in
+            or-right (ltb (c .format) ownersFormat) (and-intro (lt-ltb at (length t) i) (ap not own))
+        go false f h = or-left _ (lt-ltb (c .format) ownersFormat (omega (arith, leb-false ownersFormat (r .model .format) f, k .format)))
+
+  -- a line that passes was one before, and its row 51 was asked
+  owning-sound : (at number nodes next : ℕ) (l : Line) → owning t c at l ≡ Sound number nodes next → (l ≡ Sound number nodes next) × (ownsAt t c at nodes ≡ true)
+  unfolding owning
+  owning-sound at number nodes next (Sound a b n) h =
+      let s = when-sound _ _ number nodes next h in
+      let same : b ≡ nodes = cc in
+      (s .1, rw (← same) (s .0))
+  owning-sound at number nodes next Bad h = let z : _≡_ {A = ℕ} 0 1 = cc in absurd (omega arith)
 
   module _ (at : ℕ) where
     pub edge-sound : (number nodes next : ℕ) → edgeAt t at c ≡ Sound number nodes next → LineAt t r edge at number nodes next
@@ -270,19 +315,23 @@ module _ (t : List ℕ) (r : Reading) (c : Counts) (k : Counted r c) (d : Declar
         let s = when-sound _ _ number nodes next h in
         let inside = ltb-true (at + 2) (length t) (and-left (ltb (at + 2) (length t)) (endsSound c from action to) (s .0)) in
         let ends = ends-back from action to (and-right (ltb (at + 2) (length t)) (endsSound c from action to) (s .0)) in
-        let b = predicate-back (at + 3) number nodes next (s .1) in
+        let o = owning-sound (at + 3) number nodes next (predicateAt t (at + 3) c) (s .1) in
+        let b = predicate-back (at + 3) number nodes next (o .0) in
         let p = b .0 .nodes .pred in
         let size = b .0 .nodes .count in
+        let counted : word t (at + 3) ≡ nodes = cc in
+        let slice : take (nodeCount p) (drop (at + 3 + 1) t) ≡ map code (words p) = rw size (b .0 .nodes .coded) in
+        let own = owns-back (at + 3) p (b .0 .nodes .lawful .ranged) slice (rw (size, counted) (o .1)) in
         let two : at + 1 + 1 ≡ at + 2 = omega arith in
         let three : at + 2 + 1 ≡ at + 3 = omega arith in
         let last : drop (at + 1 + 1) t ≡ to ∷ drop (at + 3) t = rw (two, ← three) (head-of t (at + 2) inside) in
         let there = two-there t at (omega arith) ∙ ap (λ (l : List ℕ). from ∷ action ∷ l) (last ∙ ap (λ (l : List ℕ). to ∷ l) (b .0 .there)) in
         let end : at + suc (suc (suc (length (predWords p)))) ≡ at + 3 + 1 + word t (at + 3) = omega (arith, pred-long (at + 3) p) in
         line-at t r (edgeLine (record { from = from; action = action; to = to; update = p })) at number nodes next _
-        (edge-mended _ ends (b .0 .nodes .lawful) (b .0 .nodes .few)) there (ap₂ (λ (m n : ℕ). Sound 0 m n) size end ∙ b .1)
+        (edge-mended _ ends (b .0 .nodes .lawful) (b .0 .nodes .few) own) there (ap₂ (λ (m n : ℕ). Sound 0 m n) size end ∙ b .1)
 
     pub edge-of : (e : Edge) (rest : List ℕ) → faultOf r (edgeLine e) ≡ none → drop at t ≡ lineWords (edgeLine e) ++ rest → edgeAt t at c ≡ Sound 0 (nodeCount (e .update)) (at + length (lineWords (edgeLine e)))
-    unfolding edgeAt lineWords
+    unfolding edgeAt owning lineWords predWords nodeCount
     edge-of e rest g w =
         let p = e .update in
         let facts = edge-facts e g in
@@ -291,6 +340,9 @@ module _ (t : List ℕ) (r : Reading) (c : Counts) (k : Counted r c) (d : Declar
         let three : at + 2 + 1 ≡ at + 3 = omega arith in
         let last = first-of t (at + 2) (e .to) (predWords p ++ rest) (rw (← two) (f .1 .then)) in
         let s = predicate-of (at + 3) p rest (facts .1) (facts .2) (rw (← three) (last .then)) in
+        let count = first-of t (at + 3) (nodeCount p) (map code (words p) ++ rest) (rw (← three) (last .then)) in
+        let slice : take (nodeCount p) (drop (at + 3 + 1) t) ≡ map code (words p) = ap (take (nodeCount p)) (count .then) ∙ take-at (map code (words p)) rest (nodeCount p) (length-map (words p) code) in
+        let own = owns-of (at + 3) p (facts .1 .ranged) slice (count .below) (facts .3) in
         let end : at + 3 + 1 + nodeCount p ≡ at + suc (suc (suc (length (predWords p)))) = omega (arith, pred-long (at + 3) p) in
         rw (f .0 .is, f .1 .is, last .is) (when-true _ (and-intro (lt-ltb (at + 2) (length t) (last .below)) (ends-of (e .from) (e .action) (e .to) (facts .0))))
-        ∙ s .sound ∙ ap (λ (n : ℕ). Sound 0 (nodeCount p) n) end
+        ∙ ap (owning t c (at + 3)) (s .sound) ∙ when-true _ own ∙ ap (λ (n : ℕ). Sound 0 (nodeCount p) n) end

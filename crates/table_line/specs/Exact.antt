@@ -2,13 +2,13 @@
 use Prim.Native.Nat.{ℕ, _+_, _*_, _≤_}
 use mathlib.Core.Path.{_≡_}
 use mathlib.Core.Option.{none}
-use mathlib.Core.List.{List, [], _∷_, _++_, flatMap, List·Memᴰ}
+use mathlib.Core.List.{List, _++_, flatMap, List·Memᴰ}
 use lib.ListN.{length, take, drop}
 use Rattle.model.specs.Predicate.{Range}
-use Rattle.model.specs.Lines.{Key as LineKey, Entry, keyOf, Reading}
+use Rattle.model.specs.Lines.{Key as LineKey, Entry, keyOf, variableLines, Reading}
 use Rattle.model.specs.Limits.{variableCount, faultOf}
 use Rattle.model.specs.Lawful.{LawfulRange}
-use Rattle.model.specs.Table.{biased, lineWords}
+use Rattle.model.specs.Table.{lineWords}
 use Rattle.line_order.specs.declared.Key.{Key}
 use Rattle.line_order.specs.declared.Counts.{Counts}
 use Rattle.line_order.specs.Due.{codeOf, numberOf}
@@ -16,13 +16,13 @@ use Rattle.line_order.specs.Counts.{nodesOf, Counted}
 use Rattle.table_line.specs.declared.Line.{Line}
 use Rattle.table_line.specs.declared.Line.the-variants.{Sound, Bad}
 
--- The ranges read so far are lawful and stand in the table from word 3 on, so that they can be read there again.
-abbrev pub rangeWords : Range → List ℕ
-rangeWords x = biased (x .low) ∷ biased (x .high) ∷ []
-
+-- The variables read so far have lawful ranges, and an owner or none each, and stand in the table from word 3 on, so
+-- that they can be read there again.
 pub record Declared (t : List ℕ) (r : Reading) : Type 0 where
   pub lawful : (x : Range) → List·Memᴰ x (r .model .variables) → LawfulRange x
-  pub words : take (2 * variableCount r) (drop 3 t) ≡ flatMap rangeWords (r .model .variables)
+  pub owners-are : length (r .model .owners) ≡ length (r .model .variables)
+  pub words : take (3 * variableCount r) (drop 3 t) ≡
+      flatMap lineWords (variableLines (r .model .variables) (r .model .owners))
 
 -- The words of t from `at` up to `next` are those of a line with the key k, which has this number and so many nodes and
 -- breaks no row.

@@ -1,12 +1,12 @@
 -- What the words of one line say, on any words: `lineAt`. That it is exact is the law line-exact.
 use Prim.Native.Nat.{ℕ, zero, suc, _+_, _-_, _*_}
-use mathlib.Core.Bool.{Bool, true, false, not, cond, _&&_}
+use mathlib.Core.Bool.{Bool, true, false, not, _&&_, _||_}
 use mathlib.Core.List.{List, map}
 use lib.ListN.{length, getD, take, drop}
 use lib.Dec.{eqb, leb, ltb}
 use Rattle.model.specs.Basic.{every}
 use Rattle.model.specs.Bounds.{firstFormat, lastFormat, maxActions, maxVariables, maxAutomata, maxLocations, maxEdges}
-use Rattle.model.specs.Bounds.{maxNodes, lastLocation, lastBiased}
+use Rattle.model.specs.Bounds.{maxNodes, lastLocation, lastBiased, ownersFormat}
 use Rattle.model.specs.Predicate.{namesOutside, namesNew}
 use Rattle.model.specs.Limits.{rises}
 use Rattle.model.specs.Table.{wordOf, setOf}
@@ -15,6 +15,8 @@ use Rattle.line_order.specs.declared.Key.the-variants.{Format, Actions, Variabl
 use Rattle.line_order.specs.declared.Key.the-variants.{Init, Inv, Edges, Edge, Compose, End}
 use Rattle.line_order.specs.declared.Counts.{Counts}
 use Rattle.line_order.specs.Counts.{withNodes, capped}
+use Rattle.table_writes.specs.Sets.{allVariables, restOf}
+use Rattle.table_owners.specs.Owners.{beyondIn, foreignIn}
 use Rattle.table_predicate.specs.declared.Walked.{Walked}
 use Rattle.table_predicate.specs.Walk.{walkAt}
 use Rattle.table_predicate.specs.Scan.{isCoded}
@@ -39,6 +41,13 @@ endsSound c from action to =
     (leb from lastLocation && (leb action maxActions && leb to lastLocation)) &&
     (ltb from (c .locations) && (leb action (c .actions) && ltb to (c .locations)))
 
+-- an owner's word: nobody's, or from the format with owners on one that an automaton can have
+unfoldable pub ownerSound : (format word : ℕ) → Bool
+ownerSound f w = leb w maxAutomata && (eqb w 0 || leb ownersFormat f)
+
+unfoldable pub variableSound : (format low high owner : ℕ) → Bool
+variableSound f low high owner = leb high lastBiased && (leb low high && ownerSound f owner)
+
 -- on behind a predicate, with its nodes and the place after it
 unfoldable pub behindPred : (ℕ → ℕ → Line) → Line → Line
 behindPred go (Sound number nodes next) = go nodes next
@@ -53,18 +62,21 @@ module _ (t : List ℕ) where
   numberAt at least most =
       when (ltb at (length t) && (leb least (word at) && leb (word at) most)) (Sound (word at) 0 (at + 1))
 
-  unfoldable pub variableAt : (at : ℕ) → Line
-  variableAt at =
-      when (ltb (at + 1) (length t) && (leb (word (at + 1)) lastBiased && leb (word at) (word (at + 1))))
-      (Sound 0 0 (at + 2))
+  unfoldable pub variableAt : (at format : ℕ) → Line
+  variableAt at f =
+      when (ltb (at + 2) (length t) && variableSound f (word at) (word (at + 1)) (word (at + 2))) (Sound 0 0 (at + 3))
 
   unfoldable pub syncAt : (at A : ℕ) → Line
   syncAt at A =
       when (ltb (at + 1) (length t) && rises (capped A) 0 (setOf (word at) (word (at + 1)))) (Sound 0 0 (at + 2))
 
-  -- the words of the first ranges, so many
+  -- the words of the first variables, so many
   unfoldable pub rangesIn : (vs : ℕ) → List ℕ
-  rangesIn vs = take (2 * vs) (drop 3 t)
+  rangesIn vs = take (3 * vs) (drop 3 t)
+
+  -- the number of automata: row 50 too
+  unfoldable pub automataAt : (at : ℕ) → Counts → Line
+  automataAt at c = when (not (beyondIn (rangesIn (c .variables)) (word at))) (numberAt at 1 maxAutomata)
 
   -- n nodes from `start` on: rows 3, 7, 6 with 9 and 10, and 11
   unfoldable pub nodesSound : Counts → (start n : ℕ) → Bool
@@ -86,9 +98,21 @@ module _ (t : List ℕ) where
   unfoldable pub edgesAt : (at : ℕ) → Counts → Line
   edgesAt at c = when (ltb at (length t) && leb (c .edges + word at) maxEdges) (Sound (word at) 0 (at + 1))
 
+  -- row 51, from the format with owners on, of an edge whose update stands at a place and has so many nodes
+  unfoldable pub ownsAt : Counts → (at nodes : ℕ) → Bool
+  ownsAt c at nodes =
+      ltb (c .format) ownersFormat ||
+      (ltb at (length t) &&
+      not (foreignIn (rangesIn (c .variables)) (c .automata) (restOf allVariables (take nodes (drop (at + 1) t)))))
+
+  unfoldable pub owning : Counts → (at : ℕ) → Line → Line
+  owning c at (Sound number nodes next) = when (ownsAt c at nodes) (Sound number nodes next)
+  owning c at Bad = Bad
+
   unfoldable pub edgeAt : (at : ℕ) → Counts → Line
   edgeAt at c =
-      when (ltb (at + 2) (length t) && endsSound c (word at) (word (at + 1)) (word (at + 2))) (predicateAt (at + 3) c)
+      when (ltb (at + 2) (length t) && endsSound c (word at) (word (at + 1)) (word (at + 2)))
+      (owning c (at + 3) (predicateAt (at + 3) c))
 
   -- so many P from `at` on, each as an init line has it, if those before them have `total` nodes
   unfoldable pub startsFrom : Counts → (count at total : ℕ) → Line
@@ -113,8 +137,8 @@ module _ (t : List ℕ) where
   lineAt at Format c = numberAt at firstFormat lastFormat
   lineAt at Actions c = numberAt at 0 maxActions
   lineAt at Variables c = numberAt at 0 maxVariables
-  lineAt at Variable c = variableAt at
-  lineAt at Automata c = numberAt at 1 maxAutomata
+  lineAt at Variable c = variableAt at (c .format)
+  lineAt at Automata c = automataAt at c
   lineAt at Sync c = syncAt at (c .actions)
   lineAt at Locations c = numberAt at 1 maxLocations
   lineAt at Init c = locationAt at c

@@ -6,7 +6,9 @@ use line_order::Counts;
 use line_order::Key;
 use model::Model;
 ghost use mathlib.Core.Path.{_≡_};
-ghost use Rattle.table_line.specs.Line.{numberAt, variableAt, syncAt, edgesAt, endsSound, edgeAt, lineAt};
+ghost use Rattle.table_line.specs.Line.{numberAt, variableSound, variableAt, automataAt, syncAt, edgesAt};
+ghost use Rattle.table_line.specs.declared.Line.the-variants.{Sound};
+ghost use Rattle.table_line.specs.Line.{when, endsSound, owning, edgeAt, lineAt};
 
 // A number from least to most.
 fn number(t: &[u32], at: usize, least: usize, most: usize) -> Line
@@ -25,25 +27,55 @@ fn number(t: &[u32], at: usize, least: usize, most: usize) -> Line
     Line::Sound(n, 0, at + 1)
 }
 
-// A range, both ends with the bias.
-fn variable(t: &[u32], at: usize) -> Line
-    ensures { λ r. ⌜ r ≡ variableAt (now (t .entry)) at ⌝ }
+// A range, both ends with the bias; and an owner's word: nobody's, or from the format with owners on one that an
+// automaton can have.
+fn variable_sound(format: usize, low: u32, high: u32, owner: usize) -> bool
+    ensures { λ r. ⌜ r ≡ variableSound format low high owner ⌝ }
+{
+    (high <= Model::LAST_BIASED)
+        & ((low <= high)
+            & ((owner <= Model::AUTOMATA) & ((owner == 0) | (Model::OWNERS_FORMAT <= format))))
+}
+
+// A line that has no number and ends before `next`, if it is sound.
+fn if_sound(sound: bool, next: usize) -> Line
+    ensures { λ r. ⌜ r ≡ when sound (Sound 0 0 next) ⌝ }
+{
+    if sound {
+        Line::Sound(0, 0, next)
+    } else {
+        Line::Bad
+    }
+}
+
+fn variable(t: &[u32], at: usize, format: usize) -> Line
+    ensures { λ r. ⌜ r ≡ variableAt (now (t .entry)) at format ⌝ }
 {
     if t.len() <= at {
         return Line::Bad;
     }
-    if t.len() <= at + 1 {
+    if t.len() - at <= 2 {
         return Line::Bad;
     }
     let low = t[at];
     let high = t[at + 1];
-    if Model::LAST_BIASED < high {
+    let owner = arithmetic::index(t[at + 2]);
+    if_sound(variable_sound(format, low, high, owner), at + 3)
+}
+
+// How many automata: row 50.
+fn automata(t: &[u32], at: usize, counts: Counts) -> Line
+    ensures { λ r. ⌜ r ≡ automataAt (now (t .entry)) at counts ⌝ }
+{
+    if t.len() <= at {
         return Line::Bad;
     }
-    if high < low {
+    let n = arithmetic::index(t[at]);
+    let v = counts.variables;
+    if table_owners::beyond(predicates::ranges(t, v), n) {
         return Line::Bad;
     }
-    Line::Sound(0, 0, at + 2)
+    number(t, at, 1, Model::AUTOMATA)
 }
 
 // A synchronising set.
@@ -90,7 +122,30 @@ fn ends_sound(counts: Counts, from: usize, action: usize, to: usize) -> bool
         & ((from < l) & ((action <= a) & (to < l)))
 }
 
-// An edge: its ends, and its update.
+// Row 51 of an edge whose update stands at a place, and was read as this line.
+fn owned(t: &[u32], at: usize, counts: Counts, line: Line) -> Line
+    ensures { λ r. ⌜ r ≡ owning (now (t .entry)) counts at line ⌝ }
+{
+    let Line::Sound(number, nodes, next) = line else {
+        return Line::Bad;
+    };
+    let format = counts.format;
+    if format < Model::OWNERS_FORMAT {
+        return Line::Sound(number, nodes, next);
+    }
+    if t.len() <= at {
+        return Line::Bad;
+    }
+    let rest = table_writes::unwritten(t, at + 1, nodes);
+    let v = counts.variables;
+    let n = counts.automata;
+    if table_owners::foreign(predicates::ranges(t, v), n, rest) {
+        return Line::Bad;
+    }
+    Line::Sound(number, nodes, next)
+}
+
+// An edge: its ends, its update, and that its automaton owns what it writes.
 fn edge(t: &[u32], at: usize, counts: Counts) -> Line
     ensures { λ r. ⌜ r ≡ edgeAt (now (t .entry)) at counts ⌝ }
 {
@@ -106,7 +161,8 @@ fn edge(t: &[u32], at: usize, counts: Counts) -> Line
     if !ends_sound(counts, from, action, to) {
         return Line::Bad;
     }
-    predicates::predicate(t, at + 3, counts)
+    let line = predicates::predicate(t, at + 3, counts);
+    owned(t, at + 3, counts, line)
 }
 
 // The line with this key whose words begin at `at`.
@@ -117,8 +173,11 @@ pub fn read(t: &[u32], at: usize, key: Key, counts: Counts) -> Line
         Key::Format => number(t, at, Model::FIRST_FORMAT, Model::LAST_FORMAT),
         Key::Actions => number(t, at, 0, Model::LAST_ACTION),
         Key::Variables => number(t, at, 0, Model::VARIABLES),
-        Key::Variable => variable(t, at),
-        Key::Automata => number(t, at, 1, Model::AUTOMATA),
+        Key::Variable => {
+            let f = counts.format;
+            variable(t, at, f)
+        }
+        Key::Automata => automata(t, at, counts),
         Key::Sync => {
             let a = counts.actions;
             sync(t, at, a)

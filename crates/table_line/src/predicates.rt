@@ -7,17 +7,17 @@ ghost use mathlib.Core.Path.{_≡_};
 ghost use Prim.Native.Nat.{_+_};
 ghost use Rattle.table_line.specs.Line.{rangesIn, walkedTo, nodesSound, predicateAt, locationAt};
 
-// The words of the first ranges, which stand from word 3 on, as far as they are there.
+// The words of the first variables, which stand from word 3 on, as far as they are there.
 pub fn ranges(t: &[u32], variables: usize) -> &[u32]
     ensures { λ r. ⌜ now r ≡ rangesIn (now (t .entry)) variables ⌝ }
 {
     if t.len() < 3 {
         return &t[..0];
     }
-    if (t.len() - 3) / 2 < variables {
+    if (t.len() - 3) / 3 < variables {
         return &t[3..];
     }
-    &t[3..3 + 2 * variables]
+    &t[3..3 + 3 * variables]
 }
 
 // The walk over n nodes from `start` on went well and ended after them.

@@ -7,7 +7,7 @@ use native.Mathlib.Numerals.{sub-one}
 use lib.ListN.{length, getD, List·getD-eq-default}
 use borrow.Author.Tests.{le-leb, lt-leb}
 use Rattle.table_places.specs.AtMost.{atMost}
-use Rattle.table_places.specs.Outline.{reach, nodesPlace, afterPredicate, edgeFrom, edgeAction, edgeTo, updatePlace, setLow, setHigh, locationCount, firstLocation, firstEdge, locationAt, edgeAt, edgesAt, afterAutomaton, actionsIn, variablesIn, rangeAt, lowAt, highAt, countAt, automataIn, firstAutomaton}
+use Rattle.table_places.specs.Outline.{reach, nodesPlace, afterPredicate, ownerAt, edgeFrom, edgeAction, edgeTo, updatePlace, setLow, setHigh, locationCount, firstLocation, firstEdge, locationAt, edgeAt, edgesAt, afterAutomaton, actionsIn, variablesIn, rangeAt, lowAt, highAt, countAt, automataIn, firstAutomaton}
 
 -- `at_most`
 module _ (most n : ℕ) where
@@ -55,9 +55,9 @@ module _ (t : List ℕ) (r : ℕ) where
   unfolding firstAutomaton
   first-automaton-is c e f = rw (f, e)
 
-  pub range-is : (k a b : ℕ) → a ≡ reach t 0 3 → b ≡ reach t a k → r ≡ reach t b k → r ≡ rangeAt t k
+  pub range-is : (k a b c : ℕ) → a ≡ reach t 0 3 → b ≡ reach t a k → c ≡ reach t b k → r ≡ reach t c k → r ≡ rangeAt t k
   unfolding rangeAt
-  range-is k a b e f g = rw (g, f, e)
+  range-is k a b c e f g h = rw (h, g, f, e)
 
   module _ (at : ℕ) where
     module _ (e : r ≡ getD t at 0) where
@@ -87,6 +87,10 @@ module _ (t : List ℕ) (r : ℕ) where
       edge-action-is = rw (e, f)
 
     module _ (a : ℕ) (f : a ≡ reach t at 2) (e : r ≡ getD t a 0) where
+      pub owner-is : r ≡ ownerAt t at
+      unfolding ownerAt
+      owner-is = rw (e, f)
+
       pub location-count-is : r ≡ locationCount t at
       unfolding locationCount
       location-count-is = rw (e, f)
@@ -111,7 +115,7 @@ module _ (t : List ℕ) (r : ℕ) where
     unfolding updatePlace
     update-is e = e
 
-pub ruleset part-laws = (actions-is, variables-is, automata-is, first-automaton-is, range-is, low-is, set-low-is, edge-from-is, high-is, set-high-is, edge-action-is, location-count-is, edge-to-is, first-edge-is, nodes-is, first-location-is, update-is)
+pub ruleset part-laws = (actions-is, variables-is, automata-is, first-automaton-is, range-is, low-is, set-low-is, edge-from-is, high-is, owner-is, set-high-is, edge-action-is, location-count-is, edge-to-is, first-edge-is, nodes-is, first-location-is, update-is)
 
 -- `after_predicate`
 pub predicate-is : (t : List ℕ) (at a n r : ℕ) → a ≡ nodesPlace t at → n ≡ getD t at 0 → r ≡ reach t a n → r ≡ afterPredicate t at

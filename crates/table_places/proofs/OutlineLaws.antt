@@ -2,6 +2,7 @@
 use mathlib.Core.Path.{_≡_, refl, sym, ap, _∙_}
 use mathlib.Core.Bool.{Bool, true, false}
 use mathlib.Core.List.{List, [], _∷_, _++_, append-assoc, append-nil, map, flatMap}
+use mathlib.Core.Option.{Option}
 use Prim.Native.Nat.{ℕ, zero, suc, _+_, _-_, _≤_}
 use native.Mathlib.Omega.{arith}
 use lib.ListN.{length, getD, drop, drop-of-length-le, length-map, replicate}
@@ -11,9 +12,9 @@ use borrow.Author.Tests.{leb-true, leb-false, le-leb}
 use Rattle.model.specs.Bounds.{tableWords}
 use Rattle.model.specs.Predicate.{Pred, Range, words, nodeCount}
 use Rattle.model.specs.Model.{Location, Edge, Automaton, Model}
-use Rattle.model.specs.Lines.{Entry, variableLine, edgeLine, edgesLine, automataLine, composeLine, locationLines, automatonLines, lines}
-use Rattle.model.specs.Table.{code, biased, lowBits, highBits, setWords, predWords, lineWords, sheetWords, tableOf}
-use Rattle.table_places.specs.Outline.{reach, nodesPlace, afterPredicate, edgeFrom, edgeAction, edgeTo, updatePlace, setLow, setHigh, locationCount, firstLocation, firstEdge, locationAt, edgeAt, edgesAt, afterAutomaton, actionsIn, variablesIn, rangeAt, lowAt, highAt, countAt, automataIn, firstAutomaton, passed, automatonAt, treeAt}
+use Rattle.model.specs.Lines.{Entry, variableLine, variableLines, edgeLine, edgesLine, automataLine, composeLine, locationLines, automatonLines, lines}
+use Rattle.model.specs.Table.{code, biased, lowBits, highBits, setWords, predWords, ownerWord, lineWords, sheetWords, tableOf}
+use Rattle.table_places.specs.Outline.{reach, nodesPlace, afterPredicate, ownerAt, edgeFrom, edgeAction, edgeTo, updatePlace, setLow, setHigh, locationCount, firstLocation, firstEdge, locationAt, edgeAt, edgesAt, afterAutomaton, actionsIn, variablesIn, rangeAt, lowAt, highAt, countAt, automataIn, firstAutomaton, passed, automatonAt, treeAt}
 
 -- a step within the table is a sum
 pub reach-is : (t : List ℕ) (at n : ℕ) → at + n ≤ length t → reach t at n ≡ at + n
@@ -199,18 +200,25 @@ passed-at t rest (x ∷ xs) at (suc k) h e =
     e ∙ ap (λ (l : List ℕ). l ++ rest) (words-append (automatonLines x) (flatMap automatonLines xs)) ∙ append-assoc (wordsOf (automatonLines x)) others rest in
     passed-at t rest xs (afterAutomaton t at) k (omega arith) (after-automaton t (others ++ rest) x at f)
 
--- two words a variable
-pub ranges-from : (vs : List Range) (k : ℕ) (rest : List ℕ) → k ≤ length vs
-    → drop (k + k) (wordsOf (map variableLine vs) ++ rest) ≡ wordsOf (map variableLine (drop k vs)) ++ rest
-unfolding flatMap lineWords
-ranges-from vs zero rest h = refl
-ranges-from [] (suc k) rest h = absurd (omega arith)
-ranges-from (v ∷ vs) (suc k) rest h =
-    let e : suc k + suc k ≡ suc (suc (k + k)) = omega arith in
-    rw e (ranges-from vs k rest (omega arith))
+pub drop-nothing : {A : Type 0} (k : ℕ) → drop {A = A} k [] ≡ []
+drop-nothing zero = refl
+drop-nothing (suc k) = refl
 
--- the range that stands at a place
-module _ (t rest : List ℕ) (v : Range) (at : ℕ) (e : drop at t ≡ lineWords (variableLine v) ++ rest) where
+-- three words a variable
+pub ranges-from : (vs : List Range) (os : List (Option ℕ)) (k : ℕ) (rest : List ℕ) → k ≤ length vs
+    → drop (k + k + k) (wordsOf (variableLines vs os) ++ rest) ≡ wordsOf (variableLines (drop k vs) (drop k os)) ++ rest
+unfolding flatMap lineWords variableLines
+ranges-from vs os zero rest h = refl
+ranges-from [] os (suc k) rest h = absurd (omega arith)
+ranges-from (v ∷ vs) [] (suc k) rest h =
+    let e : suc k + suc k + suc k ≡ suc (suc (suc (k + k + k))) = omega arith in
+    rw e (ranges-from vs [] k rest (omega arith) ∙ ap (λ (l : List (Option ℕ)). wordsOf (variableLines (drop k vs) l) ++ rest) (drop-nothing k))
+ranges-from (v ∷ vs) (o ∷ os) (suc k) rest h =
+    let e : suc k + suc k + suc k ≡ suc (suc (suc (k + k + k))) = omega arith in
+    rw e (ranges-from vs os k rest (omega arith))
+
+-- the variable that stands at a place
+module _ (t rest : List ℕ) (v : Range) (o : Option ℕ) (at : ℕ) (e : drop at t ≡ lineWords (variableLine v o) ++ rest) where
   pub range-low : lowAt t at ≡ biased (v .low)
   unfolding lowAt lineWords
   range-low = read t at (biased (v .low)) _ e
@@ -219,12 +227,16 @@ module _ (t rest : List ℕ) (v : Range) (at : ℕ) (e : drop at t ≡ lineWords
   unfolding highAt lineWords
   range-high = read t (reach t at 1) (biased (v .high)) _ (reached t at 1 (biased (v .low) ∷ []) _ e refl)
 
+  pub owner-there : ownerAt t at ≡ ownerWord o
+  unfolding ownerAt lineWords
+  owner-there = read t (reach t at 2) (ownerWord o) _ (reached t at 2 (biased (v .low) ∷ biased (v .high) ∷ []) _ e refl)
+
 -- a sheet
 module _ (t rest : List ℕ) (m : Model) (e : t ≡ sheetWords m ++ rest) where
-  pub sheet-parts : drop 0 t ≡ m .format ∷ m .actions ∷ length (m .variables) ∷ (wordsOf (map variableLine (m .variables)) ++ (length (m .automata) ∷ (automatonWords (m .automata) ++ (lineWords (composeLine (m .tree)) ++ rest))))
+  pub sheet-parts : drop 0 t ≡ m .format ∷ m .actions ∷ length (m .variables) ∷ (wordsOf (variableLines (m .variables) (m .owners)) ++ (length (m .automata) ∷ (automatonWords (m .automata) ++ (lineWords (composeLine (m .tree)) ++ rest))))
   unfolding sheetWords lines flatMap lineWords
   sheet-parts =
-      let vs = map variableLine (m .variables) in
+      let vs = variableLines (m .variables) (m .owners) in
       let xs = flatMap automatonLines (m .automata) in
       let c = lineWords (composeLine (m .tree)) in
       let others = automataLine (length (m .automata)) ∷ (xs ++ composeLine (m .tree) ∷ []) in
@@ -247,22 +259,26 @@ module _ (t rest : List ℕ) (m : Model) (e : t ≡ sheetWords m ++ rest) where
   abbrev pub afterRanges : List ℕ
   afterRanges = length (m .automata) ∷ (automatonWords (m .automata) ++ (lineWords (composeLine (m .tree)) ++ rest))
 
-  -- range k
-  pub range-at : (k : ℕ) → k ≤ length (m .variables) → drop (rangeAt t k) t ≡ wordsOf (map variableLine (drop k (m .variables))) ++ afterRanges
+  -- variable k
+  pub range-at : (k : ℕ) → k ≤ length (m .variables) → drop (rangeAt t k) t ≡ wordsOf (variableLines (drop k (m .variables)) (drop k (m .owners))) ++ afterRanges
   unfolding rangeAt
   range-at k h =
       let vs = m .variables in
-      let first : drop (reach t 0 3) t ≡ wordsOf (map variableLine vs) ++ afterRanges =
+      let a = reach t 0 3 in
+      let b = reach t a k in
+      let first : drop (reach t 0 3) t ≡ wordsOf (variableLines vs (m .owners)) ++ afterRanges =
       reached t 0 3 (m .format ∷ m .actions ∷ length vs ∷ []) _ sheet-parts refl in
-      reach-drop t (reach t (reach t 0 3) k) k ∙ ap (drop k) (reach-drop t (reach t 0 3) k) ∙ drop-drop k k (drop (reach t 0 3) t) ∙
-      ap (drop (k + k)) first ∙ ranges-from vs k afterRanges h
+      let second : drop b t ≡ drop k (drop (reach t 0 3) t) = reach-drop t a k in
+      reach-drop t (reach t b k) k ∙ ap (drop k) (reach-drop t b k ∙ ap (drop k) second) ∙
+      ap (drop k) (drop-drop k k (drop a t)) ∙ drop-drop k (k + k) (drop a t) ∙
+      ap (drop (k + k + k)) first ∙ ranges-from vs (m .owners) k afterRanges h
 
   pub count-at : drop (countAt t) t ≡ afterRanges
-  unfolding countAt flatMap
+  unfolding countAt flatMap variableLines
   count-at =
       let n = length (m .variables) in
       let whole : length (m .variables) ≤ n = omega arith in
-      rw variables-in (range-at n whole ∙ ap (λ (l : List Range). wordsOf (map variableLine l) ++ afterRanges) (drop-of-length-le (m .variables) whole))
+      rw variables-in (range-at n whole ∙ ap (λ (l : List Range). wordsOf (variableLines l (drop n (m .owners))) ++ afterRanges) (drop-of-length-le (m .variables) whole))
 
   pub automata-in : automataIn t ≡ length (m .automata)
   unfolding automataIn

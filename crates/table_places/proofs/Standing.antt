@@ -1,18 +1,20 @@
 -- What stands at the place of one part; and no place is past the table's end.
-use mathlib.Core.Path.{_≡_, refl, ap, _∙_}
+use mathlib.Core.Path.{_≡_, refl, sym, ap, _∙_}
 use mathlib.Core.List.{List, [], _∷_, _++_, append-assoc, map, flatMap}
+use mathlib.Core.Option as O
+use mathlib.Core.Option.{Option}
 use Prim.Native.Nat.{ℕ, zero, suc, _≤_, _<_}
 use native.Mathlib.Omega.{arith}
 use lib.ListN.{length, getD, take, drop}
 use lib.Seq.{drop-cons, take-at}
 use Rattle.model.specs.Composition.{Tree, treeSize}
 use Rattle.model.specs.Predicate.{Range}
-use Rattle.model.specs.Model.{Location, Edge, Automaton, Model, nowhere, nobody, automaton}
-use Rattle.model.specs.Lines.{variableLine, edgeLine, composeLine, locationLines, automatonLines}
+use Rattle.model.specs.Model.{Location, Edge, Automaton, Model, nowhere, nobody, automaton, ownerOf}
+use Rattle.model.specs.Lines.{Entry, variableLine, variableLines, edgeLine, composeLine, locationLines, automatonLines}
 use Rattle.model.specs.Table.{predWords, startWords, lineWords, sheetWords}
 use Rattle.table_tree.specs.Nodes.{treeWords}
 use Rattle.table_places.specs.Outline.{reach, nodesPlace, afterPredicate, updatePlace, locationCount, firstLocation, firstEdge, locationAt, edgeAt, edgesAt, afterAutomaton, variablesIn, rangeAt, countAt, automataIn, firstAutomaton, passed, automatonAt, treeAt}
-use Rattle.table_places.proofs.OutlineLaws.{reach-inside, reached, afterRanges, range-at, tree-at, after-predicate, words-append, wordsOf, locationWords, edgeWords, automatonWords, location-at, edge-at, automaton-at}
+use Rattle.table_places.proofs.OutlineLaws.{drop-nothing, reach-inside, reached, afterRanges, range-at, tree-at, after-predicate, words-append, wordsOf, locationWords, edgeWords, automatonWords, location-at, edge-at, automaton-at}
 
 -- location j, of a list
 module _ (t rest : List ℕ) (ls : List Location) (at j : ℕ) (h : j < length ls) (e : drop at t ≡ locationWords ls ++ rest) where
@@ -52,15 +54,24 @@ automaton-stands t rest m k h e =
     automaton-at t rest m e k l ∙ ap (λ (xs : List Automaton). automatonWords xs ++ after) (drop-cons (m .automata) k nobody h) ∙
     ap (λ (ws : List ℕ). ws ++ after) (words-append x (flatMap automatonLines others)) ∙ append-assoc (wordsOf x) (automatonWords others) after
 
--- the range of variable k
+-- variable k, and those after it
+variables-drop : (vs : List Range) (os : List (Option ℕ)) (k : ℕ) (d : Range) → k < length vs
+    → variableLines (drop k vs) (drop k os) ≡ variableLine (getD vs k d) (getD os k O.none) ∷ variableLines (drop (suc k) vs) (drop (suc k) os)
+unfolding variableLines
+variables-drop [] os k d h = absurd (omega arith)
+variables-drop (v ∷ vs) [] zero d h = refl
+variables-drop (v ∷ vs) [] (suc k) d h = ap (variableLines (drop k vs)) (sym (drop-nothing k)) ∙ variables-drop vs [] k d (omega arith)
+variables-drop (v ∷ vs) (o ∷ os) zero d h = refl
+variables-drop (v ∷ vs) (o ∷ os) (suc k) d h = variables-drop vs os k d (omega arith)
+
+-- the words of variable k
 pub range-stands : (t rest : List ℕ) (m : Model) (k : ℕ) (d : Range) → k < length (m .variables) → (e : t ≡ sheetWords m ++ rest)
-    → drop (rangeAt t k) t ≡ lineWords (variableLine (getD (m .variables) k d)) ++ (wordsOf (map variableLine (drop (suc k) (m .variables))) ++ afterRanges t rest m e)
+    → drop (rangeAt t k) t ≡ lineWords (variableLine (getD (m .variables) k d) (ownerOf m k)) ++ (wordsOf (variableLines (drop (suc k) (m .variables)) (drop (suc k) (m .owners))) ++ afterRanges t rest m e)
 unfolding flatMap
 range-stands t rest m k d h e =
-    let vs = m .variables in
     let l : k ≤ length (m .variables) = omega arith in
-    range-at t rest m e k l ∙ ap (λ (r : List Range). wordsOf (map variableLine r) ++ afterRanges t rest m e) (drop-cons vs k d h) ∙
-    append-assoc (lineWords (variableLine (getD vs k d))) (wordsOf (map variableLine (drop (suc k) vs))) (afterRanges t rest m e)
+    range-at t rest m e k l ∙ ap (λ (r : List Entry). wordsOf r ++ afterRanges t rest m e) (variables-drop (m .variables) (m .owners) k d h) ∙
+    append-assoc (lineWords (variableLine (getD (m .variables) k d) (ownerOf m k))) (wordsOf (variableLines (drop (suc k) (m .variables)) (drop (suc k) (m .owners)))) (afterRanges t rest m e)
 
 -- the nodes of the tree that stands at a place: behind them stand its start conditions
 module _ (t rest : List ℕ) (c : Tree) (at : ℕ) (e : drop at t ≡ lineWords (composeLine c) ++ rest) where
@@ -102,7 +113,7 @@ module _ (t : List ℕ) where
 
   pub count-inside : countAt t ≤ length t
   unfolding countAt rangeAt
-  count-inside = reach-inside t (reach t (reach t 0 3) (variablesIn t)) (variablesIn t)
+  count-inside = reach-inside t (reach t (reach t (reach t 0 3) (variablesIn t)) (variablesIn t)) (variablesIn t)
 
   passed-inside : (at k : ℕ) → at ≤ length t → passed t at k ≤ length t
   unfolding passed

@@ -71,15 +71,18 @@ actionsIn t = getD t 1 0
 unfoldable pub variablesIn : (t : List ℕ) → ℕ
 variablesIn t = getD t 2 0
 
--- the range of variable k: after three words, and two for each variable before it; its LO and HI, by its place
+-- variable k: after three words, and three for each variable before it; its LO, HI and owner, by its place
 unfoldable pub rangeAt : (t : List ℕ) (k : ℕ) → ℕ
-rangeAt t k = reach t (reach t (reach t 0 3) k) k
+rangeAt t k = reach t (reach t (reach t (reach t 0 3) k) k) k
 
 unfoldable pub lowAt : (t : List ℕ) (at : ℕ) → ℕ
 lowAt t at = getD t at 0
 
 unfoldable pub highAt : (t : List ℕ) (at : ℕ) → ℕ
 highAt t at = getD t (reach t at 1) 0
+
+unfoldable pub ownerAt : (t : List ℕ) (at : ℕ) → ℕ
+ownerAt t at = getD t (reach t at 2) 0
 
 -- the number of automata: after all ranges; N; and the first automaton
 unfoldable pub countAt : (t : List ℕ) → ℕ

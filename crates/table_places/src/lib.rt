@@ -22,6 +22,7 @@ pub use parts::high;
 pub use parts::location_count;
 pub use parts::low;
 pub use parts::nodes_at;
+pub use parts::owner;
 pub use parts::range_at;
 pub use parts::set_high;
 pub use parts::set_low;
@@ -121,7 +122,7 @@ pub fn edges_at(t: &[u32], at: usize) -> usize
     location_at(t, parts::first_location(t, at), locations)
 }
 
-// Where the number of automata stands: after the ranges.
+// Where the number of automata stands: after the variables.
 pub fn count_at(t: &[u32]) -> usize
     ensures { λ r. ⌜ r ≡ countAt (now (t .entry)) ⌝ }
 {

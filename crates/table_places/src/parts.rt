@@ -2,8 +2,8 @@
 // alone.
 ghost use mathlib.Core.Path.{_≡_};
 ghost use Rattle.table_places.specs.Outline.{actionsIn, variablesIn, automataIn, firstAutomaton, rangeAt, lowAt};
-ghost use Rattle.table_places.specs.Outline.{highAt, setLow, setHigh, locationCount, firstLocation, firstEdge};
-ghost use Rattle.table_places.specs.Outline.{edgeFrom, edgeAction, edgeTo, updatePlace, nodesPlace};
+ghost use Rattle.table_places.specs.Outline.{highAt, ownerAt, setLow, setHigh, locationCount, firstLocation};
+ghost use Rattle.table_places.specs.Outline.{firstEdge, edgeFrom, edgeAction, edgeTo, updatePlace, nodesPlace};
 
 // A.
 pub fn actions(t: &[u32]) -> usize
@@ -33,11 +33,12 @@ pub fn first_automaton(t: &[u32]) -> usize
     crate::step(t, crate::count_at(t), 1)
 }
 
-// Where the range of variable k stands: two words for each variable before it.
+// Where variable k stands, its range first: three words for each variable before it.
 pub fn range_at(t: &[u32], k: usize) -> usize
     ensures { λ r. ⌜ r ≡ rangeAt (now (t .entry)) k ⌝ }
 {
-    crate::step(t, crate::step(t, crate::step(t, 0, 3), k), k)
+    let a = crate::step(t, crate::step(t, 0, 3), k);
+    crate::step(t, crate::step(t, a, k), k)
 }
 
 // LO and HI of the range at a place, biased.
@@ -51,6 +52,13 @@ pub fn high(t: &[u32], at: usize) -> u32
     ensures { λ r. ⌜ r ≡ highAt (now (t .entry)) at ⌝ }
 {
     crate::word32(t, crate::step(t, at, 1))
+}
+
+// The owner of the variable at a place: 0 for nobody, K + 1 for automaton K.
+pub fn owner(t: &[u32], at: usize) -> u32
+    ensures { λ r. ⌜ r ≡ ownerAt (now (t .entry)) at ⌝ }
+{
+    crate::word32(t, crate::step(t, at, 2))
 }
 
 // The two words of the set of the automaton at a place.

@@ -62,23 +62,25 @@ module _ (words : List ℕ) (w : Walked) where
       go true e = rw (lt-ltb (w .next) (length words) l, entered)
       go false e = absurd (true≢false (sym e))
 
--- a declared range, by its two words
-pub range-at : (ws : List ℕ) (k : ℕ) (d : Range) → k < length ws / 2 → range (unbiased (getD ws (2 * k) 0)) (unbiased (getD ws (2 * k + 1) 0)) ≡ getD (declaredOf ws) k d
+-- a declared range, by its variable's words
+pub range-at : (ws : List ℕ) (k : ℕ) (d : Range) → k < length ws / 3 → range (unbiased (getD ws (3 * k) 0)) (unbiased (getD ws (3 * k + 1) 0)) ≡ getD (declaredOf ws) k d
 unfolding declaredOf
 range-at [] k d h = absurd (omega arith)
 range-at (a ∷ []) k d h = absurd (omega arith)
-range-at (a ∷ b ∷ ws) zero d h = refl
-range-at (a ∷ b ∷ ws) (suc k) d h =
-    let e : 2 * suc k ≡ suc (suc (2 * k)) = omega arith in
-    let f : suc (suc (2 * k)) + 1 ≡ suc (suc (2 * k + 1)) = omega arith in
+range-at (a ∷ b ∷ []) k d h = absurd (omega arith)
+range-at (a ∷ b ∷ c ∷ ws) zero d h = refl
+range-at (a ∷ b ∷ c ∷ ws) (suc k) d h =
+    let e : 3 * suc k ≡ suc (suc (suc (3 * k))) = omega arith in
+    let f : suc (suc (suc (3 * k))) + 1 ≡ suc (suc (suc (3 * k + 1))) = omega arith in
     rw (e, f) (range-at ws k d (omega arith))
 
-pub range-none : (ws : List ℕ) (k : ℕ) (d : Range) → length ws / 2 ≤ k → d ≡ getD (declaredOf ws) k d
+pub range-none : (ws : List ℕ) (k : ℕ) (d : Range) → length ws / 3 ≤ k → d ≡ getD (declaredOf ws) k d
 unfolding declaredOf
 range-none [] k d h = refl
 range-none (a ∷ []) k d h = refl
-range-none (a ∷ b ∷ ws) zero d h = absurd (omega arith)
-range-none (a ∷ b ∷ ws) (suc k) d h = range-none ws k d (omega arith)
+range-none (a ∷ b ∷ []) k d h = refl
+range-none (a ∷ b ∷ c ∷ ws) zero d h = absurd (omega arith)
+range-none (a ∷ b ∷ c ∷ ws) (suc k) d h = range-none ws k d (omega arith)
 
 -- all nodes but `eq` and `le`
 abbrev uncompared : List Node

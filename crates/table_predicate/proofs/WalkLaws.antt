@@ -2,12 +2,13 @@
 use mathlib.Core.Path.{_≡_, refl, ap, ap₂}
 use mathlib.Core.Bool.{true, false, not}
 use mathlib.Core.List.{List, [], _∷_, map, flatMap, List·Memᴰ, List·Memᴰ·head, List·Memᴰ·tail}
+use mathlib.Core.Option.{Option}
 use Prim.Native.Nat.{ℕ, _+_, _<_, _≤_}
 use lib.ListN.{take, drop}
 use Rattle.model.specs.Basic.{every}
 use Rattle.model.specs.Bounds.{maxDepth}
 use Rattle.model.specs.Predicate.{Pred, Word, words, nodeCount, depth, Range, range, allStay}
-use Rattle.model.specs.Lines.{variableLine}
+use Rattle.model.specs.Lines.{variableLines}
 use Rattle.model.specs.Limits.{inRange}
 use Rattle.model.specs.Lawful.{LawfulRange}
 use Rattle.model.specs.Table.{code, wordOf, lineWords}
@@ -19,13 +20,17 @@ use Rattle.table_predicate.proofs.Forward.{went-p}
 use Rattle.table_predicate.proofs.Back.{back-p}
 
 -- and ranges from the words of their lines
-pub declared-back : (l : List Range) → ((x : Range) → List·Memᴰ x l → LawfulRange x) → declaredOf (flatMap (λ x. lineWords (variableLine x)) l) ≡ l
-unfolding declaredOf lineWords range flatMap
-declared-back [] h = refl
-declared-back (x ∷ l) h =
+pub declared-back : (l : List Range) (os : List (Option ℕ)) → ((x : Range) → List·Memᴰ x l → LawfulRange x) → declaredOf (flatMap lineWords (variableLines l os)) ≡ l
+unfolding declaredOf lineWords range flatMap variableLines
+declared-back [] os h = refl
+declared-back (x ∷ l) [] h =
     let r = h x (List·Memᴰ·head refl) in
     rw (number-back (x .low) (r .low), number-back (x .high) (r .high))
-    (ap (λ (s : List Range). x ∷ s) (declared-back l (λ y i. h y (List·Memᴰ·tail i))))
+    (ap (λ (s : List Range). x ∷ s) (declared-back l [] (λ y i. h y (List·Memᴰ·tail i))))
+declared-back (x ∷ l) (o ∷ os) h =
+    let r = h x (List·Memᴰ·head refl) in
+    rw (number-back (x .low) (r .low), number-back (x .high) (r .high))
+    (ap (λ (s : List Range). x ∷ s) (declared-back l os (λ y i. h y (List·Memᴰ·tail i))))
 
 -- p's words stand at a place, at most as deep as they may, and the walk came past them
 pub record Stands (ws ranges : List ℕ) (at : ℕ) (p : Pred) : Type 0 where

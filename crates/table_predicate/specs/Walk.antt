@@ -18,11 +18,12 @@ use Rattle.table_predicate.specs.declared.Walked.{Walked}
 use Rattle.table_predicate.specs.declared.Entered.{Entered}
 use Rattle.table_predicate.specs.declared.Reach.{Reach}
 
--- the ranges that table words say, two words each
+-- the ranges that the words of variables say: three words each, of which the last is for the owner
 unfoldable pub declaredOf : List ℕ → List Range
 declaredOf [] = []
 declaredOf (a ∷ []) = []
-declaredOf (a ∷ b ∷ ws) = range (unbiased a) (unbiased b) ∷ declaredOf ws
+declaredOf (a ∷ b ∷ []) = []
+declaredOf (a ∷ b ∷ c ∷ ws) = range (unbiased a) (unbiased b) ∷ declaredOf ws
 
 -- a walk that has not ended, at a place
 abbrev pub sound : (deep leaves : Bool) (next : ℕ) → Walked

@@ -132,13 +132,13 @@ fn number(walk: Walked, argument: u32) -> Reach
 fn variable(walk: Walked, ranges: &[u32], k: usize) -> Reach
     ensures { λ r. ⌜ r ≡ reached walk (getD (declaredOf (now (ranges .entry))) k (range (pos 0) (pos 0))) ⌝ }
 {
-    if ranges.len() / 2 <= k {
+    if ranges.len() / 3 <= k {
         return reached(walk, 0, 0);
     }
     reached(
         walk,
-        arithmetic::unbias(ranges[2 * k]),
-        arithmetic::unbias(ranges[2 * k + 1]),
+        arithmetic::unbias(ranges[3 * k]),
+        arithmetic::unbias(ranges[3 * k + 1]),
     )
 }
 
@@ -268,7 +268,7 @@ fn expression(words: &[u32], walk: Walked, left: usize, ranges: &[u32]) -> Reach
 }
 
 // Walks the predicate whose node words stand from `at` on. `ranges` has the variables' declared ranges as table words:
-// LO and HI of variable K are the words 2K and 2K + 1.
+// LO and HI of variable K are the words 3K and 3K + 1, and word 3K + 2 is for its owner.
 pub fn walk(words: &[u32], at: usize, ranges: &[u32]) -> Walked
     ensures { λ r. ⌜ r ≡ walkAt (now (words .entry)) (now (ranges .entry)) at ⌝ }
 {

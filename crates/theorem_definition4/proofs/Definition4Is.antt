@@ -20,7 +20,7 @@ use Rattle.model.specs.Limits.{rises, treeRises, broken, limits}
 use Rattle.model.specs.Lawful.{Lawful}
 use Rattle.model.specs.Table.{modelOf, row18, row19, unopened, opened, openTable}
 use Rattle.model.specs.Moves.{moves}
-use Rattle.model.specs.Linear.{pointerRange, pointer, atLocations, atAutomata, mergedInit, mergedInv, mergedEdge, edgesWithRepeats, mergedEdges, mergedCount, linear, row31, row32, row33, row34, mergeFault}
+use Rattle.model.specs.Linear.{pointerRange, mergedOwner, pointer, atLocations, atAutomata, mergedInit, mergedInv, mergedEdge, edgesWithRepeats, mergedEdges, mergedCount, linear, row31, row32, row33, row34, mergeFault}
 use Rattle.model.proofs.Tests.{and-left, and-right, or-cases, lt-of, eq-of, eq-self, of-eq, exists-intro, exists-elim}
 use Rattle.model.proofs.Lists.{keep-in, keep-out}
 use Rattle.model.proofs.Bits.{rises-cons}
@@ -29,6 +29,7 @@ use Rattle.model.proofs.TableLaws.{model-given, opened-model}
 use Rattle.model.proofs.LimitsLaws.{lawful-is}
 use Rattle.model.proofs.Numbered.{Numbered, numbered, size-is}
 use Rattle.model.proofs.Merged.{automaton-at}
+use Rattle.model.proofs.Owners.{member-in, variable-owner, pointer-owner, owners-length, pointer-owned, pointer-unowned}
 use Rattle.model.specs.Equal.{sameEdge}
 use Rattle.model.proofs.Once.{once-out, once-in, once-first}
 use Rattle.model.proofs.EqualLaws.{same-edge-is}
@@ -42,7 +43,7 @@ use Rattle.format.specs.Merger.{unmerged, merged, mergeModel, mergeAnswer}
 use Rattle.format.proofs.Given.{reader-exact}
 use Rattle.format.proofs.TextRuns.{no-merge}
 use Rattle.theorem_definition4.specs.Table3.{Position, Transition, rule-17, rule-18-left, rule-18-right, rule-19, rule-21, transition-ini}
-use Rattle.theorem_definition4.specs.Definition4.{pointerTo, choices, clauses, edgeFor, Fresh, NoneTwice, none-twice, not-again, IsLinearization, breaks, firstRow}
+use Rattle.theorem_definition4.specs.Definition4.{pointerTo, choices, clauses, edgeFor, Fresh, Owned, NoneTwice, none-twice, not-again, IsLinearization, breaks, firstRow}
 use Rattle.theorem_definition4.proofs.Positions.{positions, positions-length, edge-is}
 use Rattle.theorem_definition4.proofs.Table3Is.{wilds-to, conditions-are, setOf, syncs-to, syncs-are, labels-own, transitions-are, valuesOf, leads-are}
 
@@ -74,6 +75,19 @@ fresh-is m lawful = record {
   updates = λ x i e j. record { unnamed = lawful .automata x i .edges e j .update .named };
   starts = λ p i. record { unnamed = lawful .starts p i .pred .named };
 }
+
+-- request (k): the owners in the merged sheet
+owned-is : (m : Model) → Lawful m → Owned m (linear m) (length (m .automata))
+unfolding linear pointer mergedOwner
+owned-is m lawful =
+    let n = lawful .owners-are in
+    record {
+      as-many = owners-length m n;
+      owned = λ k i l e. variable-owner m n k l ∙ ap mergedOwner e;
+      unowned = λ k l e. variable-owner m n k l ∙ ap mergedOwner e;
+      pointers = λ i l f. pointer-owner m n i l ∙ pointer-owned (m .format) f;
+      pointers-before = λ i l f. pointer-owner m n i l ∙ pointer-unowned (m .format) f;
+    }
 
 -- the numbers that are counted up
 pub counted-in : (a n count : ℕ) → n ≤ a → a < n + count → List·Memᴰ a (countUp n count)
@@ -180,10 +194,6 @@ in-member : (a : ℕ) {ks : List ℕ} → List·Memᴰ a ks → member a ks ≡ 
 unfolding member
 in-member a h = exists-intro (eqb a) h (eq-self a)
 
-member-in : (a : ℕ) (ks : List ℕ) → member a ks ≡ true → List·Memᴰ a ks
-unfolding member
-member-in a ks h = let (b, i, e) = exists-elim (eqb a) ks h in Memᴰ·cast (eq-of a b e) i
-
 -- so a composition's set holds actions of 1 to A only
 set-bounded : (m : Model) → Lawful m → (a : ℕ) (c : Tree) → treeRises (m .actions) c ≡ true → inSet m a c ≡ true → (0 < a) × (a ≤ m .actions)
 unfolding treeRises inSet
@@ -239,6 +249,7 @@ linear-is m lawful = record {
   format = refl;
   actions = refl;
   variables = ap (λ rs. m .variables ++ rs) (sym (pointers-are (λ l. l .init) (m .automata)));
+  owners = subst (Owned m (linear m)) (sym (length-map (m .automata) (valuesOf (λ l. l .init)))) (owned-is m lawful);
   fresh = fresh-is m lawful;
   automaton = record { sync = keep (λ a. inSet m a (m .tree)) (countUp 1 (m .actions)); locations = record { init = mergedInit m; inv = mergedInv m } ∷ []; edges = mergedEdges m };
   x = record { init = mergedInit m; inv = mergedInv m };

@@ -1,21 +1,25 @@
 -- A linearization is the merged automaton, but for the order of its edges and how often each stands there.
 use mathlib.Core.Path.{_≡_, refl, sym, ap, ap₂, _∙_, subst}
-use mathlib.Core.Bool.{true, _&&_}
+use mathlib.Core.Bool.{Bool, true, false, _&&_}
 use mathlib.Core.List.{List, [], _∷_, _++_, map, List·Memᴰ, List·Memᴰ·head, List·Memᴰ·tail, List·Memᴰ·cases-cons, List·Memᴰ·not-nil}
 use mathlib.Core.Logic.{_↔_, _⊎_, inl, inr}
-use Prim.Native.Nat.{ℕ, _<_}
+use mathlib.Core.Option.{Option, none, some}
+use Prim.Native.Nat.{ℕ, _+_, _-_, _<_}
 use native.Mathlib.Omega.{arith}
+use borrow.Author.Tests.{ltb-false}
 use lib.ListN.{length}
+use lib.Seq.{ext-getD}
 use lib.Dec.{eqb, leb, ltb}
 use Rattle.model.specs.Basic.{member}
+use Rattle.model.specs.Bounds.{ownersFormat}
 use Rattle.model.specs.Predicate.{all, preds}
-use Rattle.model.specs.Model.{Model, Location, Edge, Automaton}
+use Rattle.model.specs.Model.{Model, Location, Edge, Automaton, ownerOf}
 use Rattle.model.specs.Limits.{rises}
 use Rattle.model.specs.Lawful.{Lawful}
 use Rattle.model.specs.Linear.{linear}
-use Rattle.model.proofs.Tests.{and-right, eq-self, exists-intro}
+use Rattle.model.proofs.Tests.{and-right, lt-of, eq-self, exists-intro}
 use Rattle.model.proofs.Bits.{rises-cons}
-use Rattle.theorem_definition4.specs.Definition4.{pointerTo, clauses, IsLinearization}
+use Rattle.theorem_definition4.specs.Definition4.{pointerTo, clauses, Owned, IsLinearization}
 use Rattle.theorem_definition4.proofs.Table3Is.{leads-one, conditions-are, syncs-one}
 use Rattle.theorem_definition4.proofs.Definition4Is.{rises-in, linear-is}
 
@@ -62,11 +66,38 @@ rising-same A last (k ∷ ks) (j ∷ js) r s f g =
 location-same : (x y : Location) → x .init ≡ y .init → x .inv ≡ y .inv → x ≡ y
 location-same x y p q = ap₂ (λ u w. record { init = u; inv = w }) p q
 
+-- who owns a variable is settled, and so the owners are the same
+owner-same : (m l k : Model) (n : ℕ) → Owned m l n → Owned m k n → (i : ℕ) → i < length (m .variables) + n → ownerOf l i ≡ ownerOf k i
+owner-same m l k n p q i h = go (ltb i v) refl
+  where
+    v : ℕ
+    v = length (m .variables)
+
+    variable : i < v → (o : Option ℕ) → ownerOf m i ≡ o → ownerOf l i ≡ ownerOf k i
+    variable b none e = p .unowned i b e ∙ sym (q .unowned i b e)
+    variable b (some j) e = p .owned i j b e ∙ sym (q .owned i j b e)
+
+    pointer : (j : ℕ) → j < n → (c : Bool) → ltb (m .format) ownersFormat ≡ c → ownerOf l (v + j) ≡ ownerOf k (v + j)
+    pointer j b true e = let f = lt-of (m .format) ownersFormat e in p .pointers-before j b f ∙ sym (q .pointers-before j b f)
+    pointer j b false e = let f = ltb-false (m .format) ownersFormat e in p .pointers j b f ∙ sym (q .pointers j b f)
+
+    go : (c : Bool) → ltb i v ≡ c → ownerOf l i ≡ ownerOf k i
+    go true e = variable (lt-of i v e) (ownerOf m i) refl
+    go false e =
+        let f = ltb-false i v e in
+        let there : v + (i - v) ≡ i = omega arith in
+        subst (λ j. ownerOf l j ≡ ownerOf k j) there (pointer (i - v) (omega arith) (ltb (m .format) ownersFormat) refl)
+
+owners-same : (m l k : Model) (n : ℕ) → Owned m l n → Owned m k n → l .owners ≡ k .owners
+owners-same m l k n p q =
+    ext-getD none (l .owners) (k .owners) (p .as-many ∙ sym (q .as-many)) (λ i h. owner-same m l k n p q i (subst (λ s. i < s) (p .as-many) h))
+
 -- what two linearizations of one model share: all but the list of edges, and of this the set
 pub record SameAutomaton (l k : Model) : Type 0 where
   pub format : l .format ≡ k .format
   pub actions : l .actions ≡ k .actions
   pub variables : l .variables ≡ k .variables
+  pub owners : l .owners ≡ k .owners
   pub tree : l .tree ≡ k .tree
   pub one : Automaton
   pub other : Automaton
@@ -88,6 +119,7 @@ linearizations-same m l k p q =
       format = p .format ∙ sym (q .format);
       actions = p .actions ∙ sym (q .actions);
       variables = p .variables ∙ ap (λ fs. m .variables ++ map pointerTo fs) same-fs ∙ sym (q .variables);
+      owners = owners-same m l k (length (q .fs)) (subst (λ fs. Owned m l (length fs)) same-fs (p .owners)) (q .owners);
       tree = p .tree ∙ sym (q .tree);
       one = p .automaton;
       other = q .automaton;

@@ -5,12 +5,13 @@ use mathlib.Core.Bool.{Bool, true, false}
 use mathlib.Core.List.{List, [], _∷_, _++_, map, List·Memᴰ}
 use mathlib.Core.Option.{Option, none, some}
 use mathlib.Core.Logic.{_↔_}
-use Prim.Native.Nat.{ℕ, suc, pred, _+_}
+use Prim.Native.Nat.{ℕ, suc, pred, _+_, _≤_, _<_}
 use lib.IntN.{pos}
 use lib.ListN.{length}
+use Rattle.model.specs.Bounds.{ownersFormat}
 use Rattle.model.specs.Predicate.{Pred, all, imp, eq, num, old, new, preds, words, namesOutside, Range, range}
 use Rattle.model.specs.Composition.{leaf, starts}
-use Rattle.model.specs.Model.{Model, Location, Edge, Automaton}
+use Rattle.model.specs.Model.{Model, Location, Edge, Automaton, ownerOf}
 use Rattle.model.specs.Limits.{rises, broken}
 use Rattle.model.specs.Table.{modelOf, row18, row19}
 use Rattle.model.specs.Linear.{linear, row31, row32, row33, row34}
@@ -60,6 +61,15 @@ pub record Fresh (m : Model) : Type 0 where
       → Unnamed m (e .update)
   pub starts : (p : Pred) → List·Memᴰ p (starts (m .tree)) → Unnamed m p
 
+-- Request (k), which Definition 4 knows nothing of: who owns the variables of l. The merged automaton, automaton 0 of
+-- l, owns what an automaton of m owns and, from format 3 on, the n pointers; nobody owns the others.
+pub record Owned (m l : Model) (n : ℕ) : Type 0 where
+  pub as-many : length (l .owners) ≡ length (m .variables) + n
+  pub owned : (k i : ℕ) → k < length (m .variables) → ownerOf m k ≡ some i → ownerOf l k ≡ some 0
+  pub unowned : (k : ℕ) → k < length (m .variables) → ownerOf m k ≡ none → ownerOf l k ≡ none
+  pub pointers : (i : ℕ) → i < n → ownersFormat ≤ m .format → ownerOf l (length (m .variables) + i) ≡ some 0
+  pub pointers-before : (i : ℕ) → i < n → m .format < ownersFormat → ownerOf l (length (m .variables) + i) ≡ none
+
 -- a list in which no edge stands twice
 pub data NoneTwice : List Edge → Type 0 where
   none-twice : NoneTwice []
@@ -80,11 +90,12 @@ pub record IsLinearization (m l : Model) : Type 0 where
   pub leads-gs : Leads m (λ x. x .inv) (m .tree) gs
   pub leads-A : Syncs m (m .tree) A
   pub as-many : length fs ≡ length xs
-  -- a sheet declares its format, its actions and its variables: the composition's, and behind these the pointers ls,
-  -- n of them, and none of them in FV(p)
+  -- a sheet declares its format, its actions, its variables and their owners: the composition's, and behind these the
+  -- pointers ls, n of them, and none of them in FV(p)
   pub format : l .format ≡ m .format
   pub actions : l .actions ≡ m .actions
   pub variables : l .variables ≡ m .variables ++ map pointerTo fs
+  pub owners : Owned m l (length fs)
   pub fresh : Fresh m
   -- one automaton, which is the whole composition, with one location x
   pub automaton : Automaton

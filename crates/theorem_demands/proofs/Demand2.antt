@@ -3,7 +3,7 @@ use Prim.Native.Nat.{ℕ, _≤_}
 use mathlib.Core.Path.{_≡_, refl, sym, ap, _∙_, subst, subst₂}
 use mathlib.Core.List.{List, [], _∷_, _++_, head-eq-of-cons-eq}
 use mathlib.Core.Bool.{true}
-use mathlib.Core.Option.{none}
+use mathlib.Core.Option.{Option, none}
 use mathlib.Core.Logic.{_↔_}
 use native.Mathlib.Omega.{arith}
 use lib.ListN.{length, take, drop}
@@ -182,13 +182,14 @@ automaton-same x y p q r =
     ∙ ap (λ (es : List Edge). record { sync = y .sync; locations = y .locations; edges = es }) r
 
 model-same : (l k : Model) → l .format ≡ k .format → l .actions ≡ k .actions → l .variables ≡ k .variables
-    → l .automata ≡ k .automata → l .tree ≡ k .tree → l ≡ k
-model-same l k f p q r s =
-    ap (λ (n : ℕ). sheet n (l .actions) (l .variables) (l .automata) (l .tree)) f
-    ∙ ap (λ (a : ℕ). sheet (k .format) a (l .variables) (l .automata) (l .tree)) p
-    ∙ ap (λ (vs : List Range). sheet (k .format) (k .actions) vs (l .automata) (l .tree)) q
-    ∙ ap (λ (xs : List Automaton). sheet (k .format) (k .actions) (k .variables) xs (l .tree)) r
-    ∙ ap (λ (c : Tree). sheet (k .format) (k .actions) (k .variables) (k .automata) c) s
+    → l .owners ≡ k .owners → l .automata ≡ k .automata → l .tree ≡ k .tree → l ≡ k
+model-same l k f p q o r s =
+    ap (λ (n : ℕ). sheet n (l .actions) (l .variables) (l .owners) (l .automata) (l .tree)) f
+    ∙ ap (λ (a : ℕ). sheet (k .format) a (l .variables) (l .owners) (l .automata) (l .tree)) p
+    ∙ ap (λ (vs : List Range). sheet (k .format) (k .actions) vs (l .owners) (l .automata) (l .tree)) q
+    ∙ ap (λ (os : List (Option ℕ)). sheet (k .format) (k .actions) (k .variables) os (l .automata) (l .tree)) o
+    ∙ ap (λ (xs : List Automaton). sheet (k .format) (k .actions) (k .variables) (k .owners) xs (l .tree)) r
+    ∙ ap (λ (c : Tree). sheet (k .format) (k .actions) (k .variables) (k .owners) (k .automata) c) s
 
 one-merged : (m : Model) (text text' : Bytes) (edges edges' : ℕ) → IsMergedText m text edges
     → IsMergedText m text' edges' → (text ≡ text') × (edges ≡ edges')
@@ -201,7 +202,7 @@ one-merged m text text' edges edges' i j =
     (ap (λ (x : Automaton). x .sync) p ∙ s .sync ∙ ap (λ (x : Automaton). x .sync) (sym q))
     (ap (λ (x : Automaton). x .locations) p ∙ s .locations ∙ ap (λ (x : Automaton). x .locations) (sym q))
     e in
-    let l : i .sheet ≡ j .sheet = model-same _ _ (s .format) (s .actions) (s .variables) (i .one ∙ ap (λ (x : Automaton). x ∷ []) a ∙ sym (j .one)) (s .tree) in
+    let l : i .sheet ≡ j .sheet = model-same _ _ (s .format) (s .actions) (s .variables) (s .owners) (i .one ∙ ap (λ (x : Automaton). x ∷ []) a ∙ sym (j .one)) (s .tree) in
     (i .spelled ∙ ap textOf l ∙ sym (j .spelled), i .counted ∙ ap length e ∙ sym (j .counted))
 
 pub demand-2 : ReadsAndWritesExactly

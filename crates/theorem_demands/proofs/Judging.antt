@@ -13,7 +13,7 @@ use Rattle.model.specs.Limits.{broken}
 use Rattle.model.specs.Lawful.{Lawful}
 use Rattle.model.specs.Table.{unopened, opened, openTable}
 use Rattle.model.specs.Rules.{Phase, start, running, State, reached, changed, Step, Environment}
-use Rattle.model.specs.Judge.{Answer, marked, yes, no, refused, phaseOf, row21, row22, row23, row24, settled, stepHolds, judgeTo, judgeStep, judgeEnvironment, judgeAt, stepAnswer, environmentAnswer}
+use Rattle.model.specs.Judge.{Answer, marked, yes, no, refused, phaseOf, row21, row22, row23, row24, environmentHolds, stepHolds, judgeTo, judgeStep, judgeEnvironment, judgeAt, stepAnswer, environmentAnswer}
 use Rattle.model.proofs.LimitsLaws.{lawful-is}
 use Rattle.model.proofs.TableJudge.{stateAt}
 use Rattle.model.proofs.ByRules.{refused-marked, refused-yes, step-by-rules, environment-by-rules, no-marked, no-yes}
@@ -243,7 +243,7 @@ module _ (t : List ℕ) (phase : ℕ) (locations : List ℕ) (values values' : L
   unfolding environmentAnswer environmentRows own change-others judgeEnvironment row21 row22 row23
   change-decided =
       judge-decided t phase locations values (λ m s. judgeEnvironment m s values') SaysChange change-others
-      (λ m p. three _ _ _ _ (change-says (settled m (stateAt p locations values) (changed (stateAt p locations values) values'))))
+      (λ m p. three _ _ _ _ (change-says (environmentHolds m (stateAt p locations values) (changed (stateAt p locations values) values'))))
 
   change-rise : risesFrom 0 (tableRows changeOwn t) ≡ true
   change-rise = table-rise changeOwn t (λ m. unfold environmentRows risesFrom in refl)

@@ -16,7 +16,7 @@ use Rattle.model.specs.Rules.{reached}
 use Rattle.model.specs.Linear.{linear, mergedEdges, row31, row33, row34}
 use Rattle.model.specs.Judge.{row21, row22, row23, row24}
 use Rattle.format.specs.Bytes.{Bytes}
-use Rattle.format.specs.Spelling.{textOf}
+use Rattle.format.specs.Spelling.{nothing, textOf}
 use Rattle.format.specs.Reader.{accepted, linesOf, readAnswer}
 use Rattle.format.specs.Writer.{row35}
 use Rattle.format.specs.Refused.{Conditions, Smallest, Stops}
@@ -27,7 +27,7 @@ pub data FirstFault (text : Bytes) (table : ℕ) : (row line : ℕ) → Type 0 w
   by-18 : table < tableWords → FirstFault text table 18 0
   by-1 : tableWords ≤ table → maxBytes < length text → FirstFault text table 1 0
   by-line : {row line : ℕ} → tableWords ≤ table → length text ≤ maxBytes
-      → Stops none atFirst dueAtFirst (linesOf text) row line
+      → Stops nothing atFirst dueAtFirst (linesOf text) row line
       → FirstFault text table row line
 
 -- The others try 18, 19, then their own rows. These are about the sheet whose table it is; a table of row 19 has none.

@@ -5,3 +5,4 @@ pub mod Refused
 pub mod Starts
 pub mod Writes
 pub mod Wide
+pub mod Owners

@@ -105,10 +105,10 @@ oven-cases = refl
 
 -- the oven's table, docs/TABLE.md
 pub oven-table : same (tableOfText oven) (
-    1 ∷ 2 ∷ 1 ∷ 1000000000 ∷ 1000000001 ∷ 2 ∷
+    1 ∷ 2 ∷ 1 ∷ 1000000000 ∷ 1000000001 ∷ 0 ∷ 2 ∷
     2 ∷ 0 ∷ 2 ∷ 1 ∷ 0 ∷ 1 ∷ 0 ∷ 1 ∷ 1 ∷ 3 ∷ 4 ∷ 7 ∷ 3147483648 ∷ 1 ∷ 0 ∷ 1 ∷ 1 ∷ 1 ∷ 0 ∷
     2 ∷ 0 ∷ 1 ∷ 1 ∷ 0 ∷ 1 ∷ 0 ∷ 2 ∷ 0 ∷ 1 ∷ 0 ∷ 3 ∷ 4 ∷ 8 ∷ 3147483648 ∷ 0 ∷ 2 ∷ 0 ∷ 3 ∷ 4 ∷ 8 ∷ 3147483649 ∷
-    3 ∷ 0 ∷ 2 ∷ 3 ∷ 0 ∷ replicate 16332 0) ≡ true
+    3 ∷ 0 ∷ 2 ∷ 3 ∷ 0 ∷ replicate 16331 0) ≡ true
 unfolding computing tableOfText
 oven-table = refl
 

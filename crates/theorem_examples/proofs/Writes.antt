@@ -47,8 +47,9 @@ listCases =
     -- format 1 is as it was; a list there is no line that is due
     prints oven ovenMerged ∷
     refuses (ovenListed (bytes "format=1") []) 2 14 ∷
-    -- there is no format 3
-    refuses (ovenListed (bytes "format=3") []) 3 1 ∷
+    -- in format 3 an owner is due behind the variable; there is no format 4
+    refuses (ovenListed (bytes "format=3") []) 2 5 ∷
+    refuses (ovenListed (bytes "format=4") []) 3 1 ∷
     []
 
 pub list-cases : failing 0 listCases ≡ []

@@ -22,13 +22,13 @@ use Rattle.model.proofs.Pointers.{takers-quiet}
 use Rattle.model.proofs.Tests.{or-none-left}
 use Rattle.model.proofs.Written.{written-ascends}
 use Rattle.format.specs.Bytes.{Bytes, LF}
-use Rattle.format.specs.Spelling.{writesKey, textOfList, lineText, listBehind, listText, entryText, textOf}
+use Rattle.format.specs.Spelling.{writesKey, textOfList, lineText, behind, behindText, entryText, textOf}
 use Rattle.format.specs.Reader.{accepted, readAnswer}
 use Rattle.format.proofs.Given.{reader-exact}
 use Rattle.theorem_lists.specs.Lists.{ListsExact}
 
 list-behind : (e : Edge) → entryText 2 (edgeLine e) ≡ lineText (edgeLine e) ++ (writesKey ++ (textOfList (written (e .update)) ++ LF ∷ []))
-unfolding entryText listBehind listText
+unfolding entryText behind behindText
 list-behind e = refl
 
 -- an edge of the sheet

@@ -1,5 +1,6 @@
--- The merged sheet of a sheet in another format is the merged sheet in that format, and the same row refuses it.
-use Prim.Native.Nat.{ℕ, suc}
+-- The merged sheet of a sheet in another format without owners is the merged sheet in that format, and the same row
+-- refuses it.
+use Prim.Native.Nat.{ℕ, suc, _<_}
 use mathlib.Core.Path.{_≡_, refl, ap, ap₂, fun-ext}
 use mathlib.Core.List.{List, [], _∷_, _++_, map, flatMap}
 use Rattle.model.specs.Basic.{keep, once, sum, countUp}
@@ -10,7 +11,9 @@ use Rattle.model.specs.Equal.{sameEdge}
 use Rattle.model.specs.Rules.{Taker}
 use Rattle.model.specs.Moves.{distinctCount}
 use Rattle.model.specs.Linear.{pointer, atLocations, atAutomata, mergedInit, mergedInv, pointerMoves, mergedEdge, edgesWithRepeats, mergedEdges, mergedCount, linear, mergedPreds, row31, row32, row33, row34, mergeFault}
+use Rattle.model.specs.Bounds.{ownersFormat}
 use Rattle.model.proofs.Lists.{keep-ext}
+use Rattle.model.proofs.Owners.{pointer-unowned}
 use Rattle.theorem_lists.specs.Lists.{inFormat}
 use Rattle.theorem_lists.proofs.SameSheet.{set-same, moves-same}
 
@@ -51,9 +54,9 @@ module _ (f : ℕ) (m : Model) where
   sets-same : keep (λ a. inSet (inFormat f m) a (m .tree)) (countUp 1 (m .actions)) ≡ keep (λ a. inSet m a (m .tree)) (countUp 1 (m .actions))
   sets-same = keep-ext _ _ (countUp 1 (m .actions)) (λ a i. set-same f m a (m .tree))
 
-  pub linear-same : linear (inFormat f m) ≡ inFormat f (linear m)
+  pub linear-same : f < ownersFormat → m .format < ownersFormat → linear (inFormat f m) ≡ inFormat f (linear m)
   unfolding linear inFormat
-  linear-same = rw (init-same, inv-same, sets-same, edges-same)
+  linear-same late early = rw (init-same, inv-same, sets-same, edges-same, pointer-unowned f late, pointer-unowned (m .format) early)
 
   -- the rows
   counts-same : (a : ℕ) (c : Tree) → distinctCount (inFormat f m) a c ≡ distinctCount m a c

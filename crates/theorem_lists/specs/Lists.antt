@@ -38,6 +38,7 @@ inFormat f m =
       format = f;
       actions = m .actions;
       variables = m .variables;
+      owners = m .owners;
       automata = m .automata;
       tree = m .tree;
     }

@@ -11,11 +11,11 @@ use Rattle.model.specs.Model.{Model, inSet}
 use Rattle.model.specs.Limits.{broken}
 use Rattle.model.specs.Lawful.{Lawful}
 use Rattle.model.specs.Rules.{State, reached, changed, Step, Environment}
-use Rattle.model.specs.Judge.{Answer, marked, yes, no, refused, row21, row22, row23, row24, settled, stepHolds, judgeTo, judgeEnvironment, StepPasses, EnvironmentPasses}
+use Rattle.model.specs.Judge.{Answer, marked, yes, no, refused, row21, row22, row23, row24, environmentHolds, stepHolds, judgeTo, judgeEnvironment, StepPasses, EnvironmentPasses}
 use Rattle.model.specs.Runs.{IsState, Proposal, toStep, toEnvironment, proposed, modelJudge, goes}
 use Rattle.model.proofs.Alike.{goes-state}
 use Rattle.model.proofs.Tests.{or-none-right, or-self}
-use Rattle.model.proofs.ByRules.{holds-step, step-holds, settled-environment, environment-settled}
+use Rattle.model.proofs.ByRules.{holds-step, step-holds, holds-environment, environment-holds}
 use Rattle.theorem_runs.specs.Demand.{lacksAction, firstRow, ByRules, by-row, step-yes, step-no, environment-yes, environment-no}
 
 -- the rows in their order, as the judges ask them and as firstRow does, by whether each holds
@@ -43,7 +43,7 @@ still-22 m s values = or-self _
 -- what a judge says when no row refuses
 unfoldable rest : Model → State → Proposal → Answer
 rest m s (toStep a locations values) = cond (stepHolds m s a (reached locations values)) (marked (inSet m a (m .tree))) no
-rest m s (toEnvironment values) = cond (settled m s (changed s values)) yes no
+rest m s (toEnvironment values) = cond (environmentHolds m s (changed s values)) yes no
 
 -- both judges ask the rows so
 rows-first : (m : Model) (s : State) (p : Proposal)
@@ -78,11 +78,11 @@ rules-say m lawful s (toStep a locations values) e = go (stepHolds m s a t) refl
     go : (b : Bool) → stepHolds m s a t ≡ b → ByRules m s (toStep a locations values) (cond b (marked (inSet m a (m .tree))) no)
     go true h = step-yes e (holds-step m (lawful .tree .in-order) s a t refl h)
     go false h = step-no e (λ mark q. true≢false (sym (step-holds m (lawful .tree .in-order) s a t q) ∙ h))
-rules-say m lawful s (toEnvironment values) e = go (settled m s (changed s values)) refl
+rules-say m lawful s (toEnvironment values) e = go (environmentHolds m s (changed s values)) refl
   where
-    go : (b : Bool) → settled m s (changed s values) ≡ b → ByRules m s (toEnvironment values) (cond b yes no)
-    go true h = environment-yes e (settled-environment m (lawful .tree .in-order) s values h)
-    go false h = environment-no e (λ q. true≢false (sym (environment-settled m (lawful .tree .in-order) s values q) ∙ h))
+    go : (b : Bool) → environmentHolds m s (changed s values) ≡ b → ByRules m s (toEnvironment values) (cond b yes no)
+    go true h = environment-yes e (holds-environment m (lawful .tree .in-order) s values h)
+    go false h = environment-no e (λ q. true≢false (sym (environment-holds m (lawful .tree .in-order) s values q) ∙ h))
 
 -- a judge's answer is the one that the rows and the rules give
 pub answer-by-rules : (m : Model) → Lawful m → (s : State) (p : Proposal) → ByRules m s p (modelJudge m s p)

@@ -68,7 +68,7 @@ module _ (m : Model) (es fs : List Edge) (among : (e : Edge) → List·Memᴰ e 
   steps-too s a t mark q = record { takers = q .takers; moves = moves-too (q .moves); ended = q .ended; frame = q .frame; marked = q .marked ∙ set-same a (leaf 0) }
 
   environments-too : (s : State) (values : List ℤ) → Environment one s values → Environment other s values
-  environments-too s values h = record { still = rests-too (h .still) }
+  environments-too s values h = record { still = rests-too (h .still); owned = h .owned }
 
 module _ (m : Model) (lawful : Lawful m) where
   repeated : (e : Edge) → List·Memᴰ e (mergedEdges m) → List·Memᴰ e (edgesWithRepeats m)

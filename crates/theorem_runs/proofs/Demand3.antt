@@ -1,18 +1,19 @@
 -- Demand 3: an accepted text and its merged text run as one.
 use Prim.Native.Nat.{ℕ, _≤_}
-use mathlib.Core.Path.{_≡_, fun-ext, sym, ap, _∙_, subst}
-use mathlib.Core.List.{List}
+use mathlib.Core.Path.{_≡_, fun-ext, sym, ap, _∙_, subst, subst₂}
+use mathlib.Core.List.{List, _++_}
 use mathlib.Core.Option.{none}
-use lib.ListN.{length, drop}
-use Rattle.model.specs.Bounds.{tableWords}
+use lib.ListN.{length, drop, take-append-drop}
+use Rattle.model.specs.Bounds.{tableWords, ownersFormat}
 use Rattle.model.specs.Model.{Model}
 use Rattle.model.specs.Lawful.{Lawful}
-use Rattle.model.specs.Table.{opened, openTable}
+use Rattle.model.specs.Table.{tableOf, opened, openTable}
 use Rattle.model.specs.Rules.{State}
 use Rattle.model.specs.Linear.{linear, mergeFault}
 use Rattle.model.specs.Runs.{IsState, Proposal, Judge, modelJudge, tableJudge, run, RunsAlike}
 use Rattle.model.proofs.LimitsLaws.{lawful-is}
 use Rattle.model.proofs.TableJudge.{table-judge-is}
+use Rattle.model.proofs.TableLaws.{model-given, opened-model}
 use Rattle.format.specs.Bytes.{Bytes}
 use Rattle.format.specs.Reader.{accepted, readAnswer, tableAfter}
 use Rattle.format.specs.Merger.{merged, mergeAnswer}
@@ -20,6 +21,8 @@ use Rattle.format.specs.Program.{programOutput}
 use Rattle.format.proofs.Exact.{accepted-then}
 use Rattle.format.proofs.TextRuns.{table-read, runs-alike-texts, runs-alike-program}
 use Rattle.theorem_runs.specs.Demand.{ByRules, RunsAsOne}
+use Rattle.theorem_runs.specs.Owned.{Free, freeRun, ChangesAlike, OwnedRuns}
+use Rattle.theorem_runs.proofs.Owned.{FreeAlike, free-alike, changes-alike}
 use Rattle.theorem_runs.proofs.Answers.{answer-by-rules}
 use Rattle.theorem_runs.proofs.Points.{run-length, answer-is, run-state}
 use Rattle.theorem_runs.proofs.Moves.{moves-alike}
@@ -77,3 +80,37 @@ pub demand-3-program : (text : Bytes) (m : Model) (lent : List ℕ) → readAnsw
 demand-3-program text m lent reads lent' room unrefused s g =
     text-as-one text m lent reads (tableAfter (programOutput text) lent') (program-opens text m lent reads lent' room unrefused) s g
     (λ ps. runs-alike-program text m lent reads lent' room ps s g unrefused)
+
+-- a table that opens as a model judges as it does
+opened-judges : (t : List ℕ) (n : Model) → openTable t ≡ opened n → modelJudge n ≡ tableJudge t
+opened-judges t n e =
+    let given = model-given t n (opened-model t n e) in
+    let parts : tableOf n ++ drop tableWords t ≡ t = ap (λ (l : List ℕ). l ++ drop tableWords t) (sym (given .1)) ∙ take-append-drop tableWords t in
+    fun-ext λ s. fun-ext λ p. sym (table-judge-is n (given .0) (drop tableWords t) s p) ∙ ap (λ (l : List ℕ). tableJudge l s p) parts
+
+-- In format 3 the merged automaton owns its pointers: the same of every list in which an environment proposal may have any
+-- pointers.
+module _ (text : Bytes) (m : Model) (lent : List ℕ) (reads : readAnswer text (length lent) ≡ accepted m) (owned : ownersFormat ≤ m .format)
+    (table' : List ℕ) (opens' : openTable table' ≡ opened (linear m)) (judges' : modelJudge (linear m) ≡ tableJudge table') (s : State) (g : IsState m s) where
+  free-as-one : (ps : List Free) → FreeAlike m (tableJudge (tableAfter text lent)) (tableJudge table') s ps
+  free-as-one ps = subst₂ (λ (j k : Judge). FreeAlike m j k s ps) (text-judges text m lent reads) judges' (free-alike m (text-lawful text m lent reads) owned ps s g)
+
+  owned-runs : (ps : List Free) → OwnedRuns m (tableAfter text lent) table' s ps
+  owned-runs ps = record {
+    opens = text-opens text m lent reads;
+    opens-merged = opens';
+    answers = free-as-one ps .answers;
+    end = free-as-one ps .end;
+    changes = λ before after e.
+        let r = free-as-one before in
+        subst (ChangesAlike m (freeRun m (tableJudge (tableAfter text lent)) s before .end)) (sym (r .end)) (changes-alike m (text-lawful text m lent reads) owned _ (r .state));
+  }
+
+pub demand-3-owned : (text : Bytes) (m : Model) (lent : List ℕ) → readAnswer text (length lent) ≡ accepted m → ownersFormat ≤ m .format
+    → (lent' : List ℕ) → tableWords ≤ length lent'
+    → (buffer : ℕ) (text' : Bytes) (edges : ℕ) → mergeAnswer (tableAfter text lent) buffer ≡ merged text' edges
+    → (s : State) → IsState m s
+    → (ps : List Free) → OwnedRuns m (tableAfter text lent) (tableAfter text' lent') s ps
+demand-3-owned text m lent reads owned lent' room buffer text' edges merges s g =
+    let opens' = merged-opens text m lent reads lent' room buffer text' edges merges in
+    owned-runs text m lent reads owned (tableAfter text' lent') opens' (opened-judges (tableAfter text' lent') (linear m) opens') s g

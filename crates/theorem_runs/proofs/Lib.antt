@@ -3,5 +3,7 @@ pub mod Points
 pub mod Beside
 pub mod Moves
 pub mod Tables
+pub mod Owned
 pub mod Demand3
 pub mod AsBefore
+pub mod OwnersMove

@@ -1,2 +1,4 @@
 pub mod Demand
 pub mod AsBefore
+pub mod Owned
+pub mod Foreign

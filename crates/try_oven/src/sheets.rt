@@ -6,12 +6,13 @@ ghost use Rattle.model.specs.Bounds.{tableWords};
 ghost use Rattle.judge_rows.specs.States.{filled};
 
 // sheets/oven.txt: door, steam, and v0 the valve. Both share action 1.
-const OVEN: [u32; 51] = [
+const OVEN: [u32; 52] = [
     1,
     2,
     1,
     1000000000,
     1000000001,
+    0,
     2,
     2,
     0,
@@ -61,12 +62,13 @@ const OVEN: [u32; 51] = [
 ];
 
 // The same with `sync=` in the door sheet.
-const ONE_SIDED: [u32; 51] = [
+const ONE_SIDED: [u32; 52] = [
     1,
     2,
     1,
     1000000000,
     1000000001,
+    0,
     2,
     0,
     0,
@@ -116,12 +118,13 @@ const ONE_SIDED: [u32; 51] = [
 ];
 
 // The oven and a lamp sheet that shares action 1 too and goes from location 0 to 1 under it: `par par a0 a1 a2`.
-const LAMP: [u32; 70] = [
+const LAMP: [u32; 71] = [
     1,
     2,
     1,
     1000000000,
     1000000001,
+    0,
     3,
     2,
     0,

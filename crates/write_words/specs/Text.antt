@@ -7,15 +7,15 @@ use lib.ListN.{getD, take, drop}
 use Rattle.model.specs.Bounds.{tableWords}
 use Rattle.model.specs.Lines.{format, actions, variables, variable, automata, sync, locations, init, inv, edges}
 use Rattle.model.specs.Lines.{edge, compose}
-use Rattle.model.specs.Table.{unbiased}
+use Rattle.model.specs.Table.{unbiased, ownerFrom}
 use Rattle.format.specs.Bytes.{Bytes, joined, LF, space, comma}
 use Rattle.format.specs.Number.{decimal, signed}
-use Rattle.format.specs.Spelling.{spelling, writesKey}
+use Rattle.format.specs.Spelling.{spelling, writesKey, ownerKey, textOfOwner}
 use Rattle.line_order.specs.declared.Key.{Key}
 use Rattle.line_order.specs.declared.Key.the-variants.{Format, Actions, Variables, Variable, Automata, Sync}
 use Rattle.line_order.specs.declared.Key.the-variants.{Locations, Init, Inv, Edges, Edge, Compose, End}
 use Rattle.line_order.specs.declared.Due.{Due}
-use Rattle.line_order.specs.Due.{isEnd, isListed, dueFirst, dueAfter}
+use Rattle.line_order.specs.Due.{isEnd, isListed, isOwned, dueFirst, dueAfter}
 use Rattle.table_places.specs.Starts.{startsAt, firstStart}
 use Rattle.table_writes.specs.Sets.{writtenSet}
 use Rattle.write_words.specs.declared.growing.Part.{Part}
@@ -121,7 +121,7 @@ unfoldable pub sizeOf : Key → List ℕ → ℕ
 sizeOf Format ws = 1
 sizeOf Actions ws = 1
 sizeOf Variables ws = 1
-sizeOf Variable ws = 2
+sizeOf Variable ws = 3
 sizeOf Automata ws = 1
 sizeOf Sync ws = 2
 sizeOf Locations ws = 1
@@ -136,14 +136,22 @@ sizeOf End ws = 0
 unfoldable pub writesText : List ℕ → Bytes
 writesText ws = writesKey ++ membersText (writtenSet (take (getD ws 3 0) (drop 4 ws))) ++ (LF ∷ [])
 
-unfoldable pub listOf : Due → List ℕ → Bytes
-listOf d ws = elim (isListed d) [ true ↦ writesText ws | false ↦ [] ]
+-- The owner behind a variable, from the first format with owners on: its third word.
+unfoldable pub ownerText : List ℕ → Bytes
+ownerText ws = ownerKey ++ textOfOwner (ownerFrom (getD ws 2 0)) ++ (LF ∷ [])
 
--- the line that is due, and its list
+unfoldable pub behindOf : Due → List ℕ → Bytes
+behindOf d ws =
+    elim (isOwned d) [
+      | true ↦ ownerText ws
+      | false ↦ elim (isListed d) [ true ↦ writesText ws | false ↦ [] ]
+    ]
+
+-- the line that is due, and the line behind it
 unfoldable pub entryOf : Due → List ℕ → Bytes
-entryOf d ws = lineOf (d .key) ws ++ listOf d ws
+entryOf d ws = lineOf (d .key) ws ++ behindOf d ws
 
--- The lines from one that is due on, and their lists; the fuel bounds the rounds, of which the last only finds the end.
+-- The entries from one that is due on; the fuel bounds the rounds, of which the last only finds the end.
 unfoldable pub linesFrom : (fuel : ℕ) → Due → List ℕ → Bytes
 linesFrom zero d ws = []
 linesFrom (suc n) d ws =
@@ -152,6 +160,6 @@ linesFrom (suc n) d ws =
       | false ↦ entryOf d ws ++ linesFrom n (dueAfter d (getD ws 0 0)) (drop (sizeOf (d .key) ws) ws)
     ]
 
--- each line takes a word at least, and a list none, so the fuel is enough for a table
+-- each entry takes a word at least, so the fuel is enough for a table
 unfoldable pub sheetText : List ℕ → Bytes
 sheetText ws = linesFrom (tableWords + 1) dueFirst ws

@@ -1,6 +1,7 @@
 // The text that a table's words spell, whatever words they are: the table is not checked.
 mod growing;
 mod line;
+mod owner;
 mod predicate;
 mod read;
 mod sheet;

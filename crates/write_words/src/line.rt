@@ -151,7 +151,7 @@ pub(crate) fn size(key: Key, ws: &[u32]) -> usize
         Key::Format => 1,
         Key::Actions => 1,
         Key::Variables => 1,
-        Key::Variable => 2,
+        Key::Variable => 3,
         Key::Automata => 1,
         Key::Sync => 2,
         Key::Locations => 1,

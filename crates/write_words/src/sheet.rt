@@ -1,4 +1,4 @@
-// All lines, in the order in which they are due, and the lists behind them.
+// All entries, in the order in which they are due: each a line, and the line behind it, if it has one.
 use crate::line::{self};
 use crate::read::{self};
 use crate::writes::{self};
@@ -15,8 +15,8 @@ fn all_lines(table: &[u32], out: &mut [u8]) -> Written
     let mut due = Due::first();
     let mut end = Written::To(0);
     let mut at: usize = 0;
-    // Each round writes a line, which takes a word at least, and its list, which takes none. So all lines of a table
-    // are written before the rounds are over.
+    // Each round writes an entry, which takes a word at least. So all entries of a table are written before the rounds
+    // are over.
     let mut left = Model::WORDS + 1;
     while left != 0 {
         let key = due.key;

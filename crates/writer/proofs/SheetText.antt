@@ -3,22 +3,22 @@ use Prim.Native.Nat.{ℕ, zero, suc, _+_, _≤_, _<_}
 use mathlib.Core.Path.{_≡_, refl, sym, _∙_, ap, ap₂}
 use mathlib.Core.Bool.{Bool, true, false, not, _&&_}
 use mathlib.Core.List.{List, [], _∷_, _++_, flatMap, append-assoc, append-nil}
-use mathlib.Core.Option.{none, some}
+use mathlib.Core.Option.{Option, none}
 use native.Mathlib.Omega.{arith}
-use lib.Dec.{leb}
+use lib.Dec.{leb, eqb}
 use borrow.Author.Tests.{ltb-false}
 use lib.ListN.{length, getD, drop}
 use Rattle.model.specs.Basic.{lacks, between, every}
-use Rattle.model.specs.Bounds.{maxTreeNodes, leastNumber, greatestNumber, writesFormat, tableWords}
-use Rattle.model.specs.Predicate.{Pred, words, nodeCount, written}
+use Rattle.model.specs.Bounds.{maxTreeNodes, leastNumber, greatestNumber, writesFormat, ownersFormat, tableWords}
+use Rattle.model.specs.Predicate.{Pred, Range, words, nodeCount, written}
 use Rattle.model.specs.Composition.{Tree, treeSize}
 use Rattle.model.specs.Model.{Edge, Model}
 use Rattle.model.specs.Lines.{Key as LineKey, format, actions, compose, Entry, formatLine, actionsLine, variablesLine, variableLine, automataLine, syncLine, locationsLine, initLine, invLine, edgesLine, edgeLine, composeLine, keyOf, lines, dueAtFirst, thenDue, Reading, atFirst, withModel, noted}
-use Rattle.model.specs.Limits.{inRange, numbersInRange, rises, treeRises, listsFilled, isDisordered, isTooLarge, contentFault, faultOf, withinLimits, limits}
+use Rattle.model.specs.Limits.{inRange, ownerInRange, numbersInRange, rises, treeRises, listsFilled, isDisordered, isTooLarge, contentFault, faultOf, withinLimits, limits}
 use Rattle.model.specs.Lawful.{Lawful}
 use Rattle.model.specs.Table.{setWords, predWords, lineWords, sheetWords, Opened, unopened, opened, openTable}
 use Rattle.model.proofs.Tests.{and-left, and-right}
-use Rattle.model.proofs.Decode.{number-back, none-lacks, unbroken, in-range, unsaid, lists-filled, update-ranged}
+use Rattle.model.proofs.Decode.{number-back, none-lacks, unbroken, in-range, unsaid, lists-filled, update-ranged, owner-back}
 use Rattle.model.proofs.LimitLines.{starts-clear}
 use Rattle.model.proofs.Bits.{set-back}
 use Rattle.model.proofs.LinesLaws.{Follows, follow-lines, along, along-lines}
@@ -27,7 +27,7 @@ use Rattle.model.proofs.Sizes.{lines-few}
 use Rattle.table_places.proofs.Opened.{sheet-of}
 use Rattle.line_order.specs.declared.Key.{Key}
 use Rattle.line_order.specs.declared.Due.{Due}
-use Rattle.line_order.specs.Due.{isEdge, isListed, isEnd, dueFirst, dueAfterKey, dueAfter, keysDue, laterKeys, laterDue, codeOf, numberOf}
+use Rattle.line_order.specs.Due.{isEdge, isVariable, isListed, isOwned, isEnd, dueFirst, dueAfterKey, dueAfter, keysDue, laterKeys, laterDue, codeOf, numberOf}
 use Rattle.line_order.proofs.KeyLaws.{no-end}
 use Rattle.line_order.proofs.DueLaws.{due-first, format-first, format-after, due-key, due-later, due-end, due-after}
 use Rattle.model.specs.declared.Checked.{Checked}
@@ -35,10 +35,10 @@ use Rattle.model.specs.declared.Checked.the-variants.{Good, Refused}
 use Rattle.table_check.specs.Check.{answered}
 use Rattle.format.specs.Bytes.{Bytes, ledBy, joined, comma, LF}
 use Rattle.format.specs.Number.{decimal, signed}
-use Rattle.format.specs.Spelling.{spelling, textOfList, textOfPred, valueText, lineText, listBehind, listText, entryText, textOf}
+use Rattle.format.specs.Spelling.{spelling, textOfList, textOfPred, valueText, lineText, nothing, owner, list, behind, ownerSaid, textOfOwner, ownerKey, behindText, entryText, textOf}
 use Rattle.format.specs.Writer.{writeAnswer, bufferAfter}
 use Rattle.format.proofs.FitsLaws.{text-fits}
-use Rattle.write_words.specs.Text.{rangeText, fieldText, edgeText, valueOf, keyText, lineOf, sizeOf, writesText, listOf, entryOf, linesFrom, sheetText}
+use Rattle.write_words.specs.Text.{rangeText, fieldText, edgeText, valueOf, keyText, lineOf, sizeOf, writesText, ownerText, behindOf, entryOf, linesFrom, sheetText}
 use Rattle.write_words.specs.declared.WriteAnswer.{WriteAnswer}
 use Rattle.write_words.specs.declared.WriteAnswer.the-variants as W
 use Rattle.write_words.specs.Answer.{copyAnswer, roomAnswer, given, Answered}
@@ -64,14 +64,15 @@ unfolding valueOf codeOf keyOf lineWords valueText setWords numbersInRange conte
 value-text r (formatLine n) rest h = refl
 value-text r (actionsLine n) rest h = refl
 value-text r (variablesLine n) rest h = refl
-value-text r (variableLine x) rest h =
-    let z = in-range r (variableLine x) h in
+value-text r (variableLine x o) rest h =
+    let z = in-range r (variableLine x o) h in
     let low = number-back (x .low) (and-left (between leastNumber greatestNumber (x .low)) _ z) in
-    let high = number-back (x .high) (and-right (between leastNumber greatestNumber (x .low)) _ z) in
+    let ends = and-right (between leastNumber greatestNumber (x .low)) _ z in
+    let high = number-back (x .high) (and-left (between leastNumber greatestNumber (x .high)) (ownerInRange o) ends) in
     rw (low, high) (ap (λ (b : Bytes). signed (x .low) ++ (comma ∷ b)) (sym (append-nil (signed (x .high)))))
 value-text r (automataLine n) rest h = refl
-value-text r (syncLine list) rest h =
-    ap textOfList (set-back (r .model .actions) list (unsaid r (syncLine list) 5 (rises (r .model .actions) 0 list) none h refl) (in-range r (syncLine list) h))
+value-text r (syncLine l) rest h =
+    ap textOfList (set-back (r .model .actions) l (unsaid r (syncLine l) 5 (rises (r .model .actions) 0 l) none h refl) (in-range r (syncLine l) h))
 value-text r (locationsLine n) rest h = refl
 value-text r (initLine p) rest h = predicate-text p rest (in-range r (initLine p) h)
 value-text r (invLine p) rest h = predicate-text p rest (in-range r (invLine p) h)
@@ -89,9 +90,9 @@ unfolding keyText codeOf keyOf
 key-text (formatLine n) = refl
 key-text (actionsLine n) = refl
 key-text (variablesLine n) = refl
-key-text (variableLine x) = refl
+key-text (variableLine x o) = refl
 key-text (automataLine n) = refl
-key-text (syncLine list) = refl
+key-text (syncLine l) = refl
 key-text (locationsLine n) = refl
 key-text (initLine p) = refl
 key-text (invLine p) = refl
@@ -104,41 +105,57 @@ unfolding lineOf lineText
 line-text r e rest h =
     ap₂ (λ (k v : Bytes). k ++ v ++ (LF ∷ [])) (key-text e) (value-text r e rest h) ∙ append-assoc (spelling (keyOf e)) (valueText e) (LF ∷ [])
 
--- the list behind it
+-- the line behind it
+module _ (d : Due) (ws : List ℕ) where
+  behind-owned : isOwned d ≡ true → behindOf d ws ≡ ownerText ws
+  unfolding behindOf
+  behind-owned h = rw (h, behindOf)
+
+  behind-listed : isOwned d ≡ false → isListed d ≡ true → behindOf d ws ≡ writesText ws
+  unfolding behindOf
+  behind-listed h k = rw (h, behindOf, k, behindOf)
+
+  behind-nothing : isOwned d ≡ false → isListed d ≡ false → behindOf d ws ≡ []
+  unfolding behindOf
+  behind-nothing h k = rw (h, behindOf, k, behindOf)
+
+owner-text : (x : Range) (o : Option ℕ) (rest : List ℕ) → ownerText (lineWords (variableLine x o) ++ rest) ≡ behindText owner (variableLine x o)
+unfolding ownerText lineWords behindText ownerSaid
+owner-text x o rest =
+    ap (λ (p : Option ℕ). ownerKey ++ textOfOwner p ++ (LF ∷ [])) (owner-back o) ∙ append-assoc ownerKey (textOfOwner o) (LF ∷ [])
+
 module _ (d : Due) where
-  list-none : (ws : List ℕ) → isListed d ≡ false → listOf d ws ≡ []
-  unfolding listOf
-  list-none ws h = rw (h, listOf)
+  behind-variable : (x : Range) (o : Option ℕ) (rest : List ℕ) → isListed d ≡ false → (b : Bool) → isOwned d ≡ b
+      → behindOf d (lineWords (variableLine x o) ++ rest) ≡ behindText (elim b [ true ↦ owner | false ↦ nothing ]) (variableLine x o)
+  unfolding behindText
+  behind-variable x o rest l true k = behind-owned d _ k ∙ owner-text x o rest
+  behind-variable x o rest l false k = behind-nothing d _ k l
 
-  list-some : (ws : List ℕ) → isListed d ≡ true → listOf d ws ≡ writesText ws
-  unfolding listOf
-  list-some ws h = rw (h, listOf)
+  behind-edge : (r : Reading) (e : Edge) (rest : List ℕ) → faultOf r (edgeLine e) ≡ none → isOwned d ≡ false → (b : Bool) → isListed d ≡ b
+      → behindOf d (lineWords (edgeLine e) ++ rest) ≡ behindText (elim b [ true ↦ list (written (e .update)) | false ↦ nothing ]) (edgeLine e)
+  unfolding lineWords behindText
+  behind-edge r e rest h o true l = behind-listed d _ o l ∙ writes-text (e .from) (e .action) (e .to) (e .update) rest (update-ranged r e h)
+  behind-edge r e rest h o false l = behind-nothing d _ o l
 
-  list-edge : (r : Reading) (e : Edge) (rest : List ℕ) → faultOf r (edgeLine e) ≡ none → (b : Bool) → isListed d ≡ b
-      → listOf d (lineWords (edgeLine e) ++ rest) ≡ listText (elim b [ true ↦ some (written (e .update)) | false ↦ none ])
-  unfolding lineWords listText
-  list-edge r e rest h true l = list-some _ l ∙ writes-text (e .from) (e .action) (e .to) (e .update) rest (update-ranged r e h)
-  list-edge r e rest h false l = list-none _ l
-
-  list-text : (r : Reading) (e : Entry) (rest : List ℕ) → d .key ≡ codeOf (keyOf e) → faultOf r e ≡ none → listOf d (lineWords e ++ rest) ≡ listText (listBehind (d .format) e)
-  unfolding isListed isEdge codeOf keyOf listBehind listText
-  list-text r (formatLine n) rest k h = list-none _ (rw k)
-  list-text r (actionsLine n) rest k h = list-none _ (rw k)
-  list-text r (variablesLine n) rest k h = list-none _ (rw k)
-  list-text r (variableLine x) rest k h = list-none _ (rw k)
-  list-text r (automataLine n) rest k h = list-none _ (rw k)
-  list-text r (syncLine list) rest k h = list-none _ (rw k)
-  list-text r (locationsLine n) rest k h = list-none _ (rw k)
-  list-text r (initLine p) rest k h = list-none _ (rw k)
-  list-text r (invLine p) rest k h = list-none _ (rw k)
-  list-text r (edgesLine n) rest k h = list-none _ (rw k)
-  list-text r (edgeLine e) rest k h = list-edge r e rest h (leb writesFormat (d .format)) (rw k)
-  list-text r (composeLine c) rest k h = list-none _ (rw k)
+  behind-text : (r : Reading) (e : Entry) (rest : List ℕ) → d .key ≡ codeOf (keyOf e) → faultOf r e ≡ none → behindOf d (lineWords e ++ rest) ≡ behindText (behind (d .format) e) e
+  unfolding isListed isEdge isOwned isVariable codeOf keyOf behind behindText
+  behind-text r (formatLine n) rest k h = behind-nothing d _ (rw k) (rw k)
+  behind-text r (actionsLine n) rest k h = behind-nothing d _ (rw k) (rw k)
+  behind-text r (variablesLine n) rest k h = behind-nothing d _ (rw k) (rw k)
+  behind-text r (variableLine x o) rest k h = behind-variable x o rest (rw k) (leb ownersFormat (d .format)) (rw k)
+  behind-text r (automataLine n) rest k h = behind-nothing d _ (rw k) (rw k)
+  behind-text r (syncLine l) rest k h = behind-nothing d _ (rw k) (rw k)
+  behind-text r (locationsLine n) rest k h = behind-nothing d _ (rw k) (rw k)
+  behind-text r (initLine p) rest k h = behind-nothing d _ (rw k) (rw k)
+  behind-text r (invLine p) rest k h = behind-nothing d _ (rw k) (rw k)
+  behind-text r (edgesLine n) rest k h = behind-nothing d _ (rw k) (rw k)
+  behind-text r (edgeLine e) rest k h = behind-edge r e rest h (rw k) (leb writesFormat (d .format)) (rw k)
+  behind-text r (composeLine c) rest k h = behind-nothing d _ (rw k) (rw k)
 
   entry-text : (r : Reading) (e : Entry) (rest : List ℕ) → d .key ≡ codeOf (keyOf e) → faultOf r e ≡ none → entryOf d (lineWords e ++ rest) ≡ entryText (d .format) e
   unfolding entryOf entryText
   entry-text r e rest k h =
-      ap₂ (λ (a b : Bytes). a ++ b) (ap (λ (q : Key). lineOf q (lineWords e ++ rest)) k ∙ line-text r e rest h) (list-text r e rest k h)
+      ap₂ (λ (a b : Bytes). a ++ b) (ap (λ (q : Key). lineOf q (lineWords e ++ rest)) k ∙ line-text r e rest h) (behind-text r e rest k h)
 
 -- what is due after it
 due-counted : (e : Entry) (d : Due) (rest : List ℕ) → dueAfterKey (codeOf (keyOf e)) d (getD (lineWords e ++ rest) 0 0) ≡ dueAfterKey (codeOf (keyOf e)) d (numberOf e)
@@ -146,9 +163,9 @@ unfolding dueAfterKey codeOf keyOf lineWords numberOf
 due-counted (formatLine n) d rest = refl
 due-counted (actionsLine n) d rest = refl
 due-counted (variablesLine n) d rest = refl
-due-counted (variableLine x) d rest = refl
+due-counted (variableLine x o) d rest = refl
 due-counted (automataLine n) d rest = refl
-due-counted (syncLine list) d rest = refl
+due-counted (syncLine l) d rest = refl
 due-counted (locationsLine n) d rest = refl
 due-counted (initLine p) d rest = refl
 due-counted (invLine p) d rest = refl
@@ -189,9 +206,9 @@ module _ (m : Model) (d : Due) (r : Reading) (es : List Entry) (rest : List ℕ)
   after-line (formatLine n) ks k f = (rest, refl)
   after-line (actionsLine n) ks k f = (rest, refl)
   after-line (variablesLine n) ks k f = (rest, refl)
-  after-line (variableLine x) ks k f = (rest, refl)
+  after-line (variableLine x o) ks k f = (rest, refl)
   after-line (automataLine n) ks k f = (rest, refl)
-  after-line (syncLine list) ks k f = (rest, refl)
+  after-line (syncLine l) ks k f = (rest, refl)
   after-line (locationsLine n) ks k f = (rest, refl)
   after-line (initLine p) ks k f = (rest, past-predicate p (flatMap lineWords es ++ rest))
   after-line (invLine p) ks k f = (rest, past-predicate p (flatMap lineWords es ++ rest))
@@ -203,7 +220,7 @@ module _ (m : Model) (d : Due) (r : Reading) (es : List Entry) (rest : List ℕ)
 
 -- the text of a model, by the format that has been read
 text-along : (m : Model) → along entryText atFirst (lines m) ≡ textOf m
-unfolding textOf entryText listBehind
+unfolding textOf entryText behind behindText
 text-along m = along-lines entryText (λ f h n. refl) m
 
 -- all lines that follow
@@ -238,7 +255,7 @@ module _ (m : Model) (h : Lawful m) (t rest : List ℕ) (stands : t ≡ sheetWor
   sheet-text =
       let few = lines-few m h in
       ap (linesFrom (suc tableWords) dueFirst) stands ∙
-      lines-text (lines m) atFirst dueAtFirst m dueFirst format-first due-first (follow-lines m) (lawful-is m .1 h) (suc tableWords) (omega arith) rest ∙
+      lines-text (lines m) atFirst dueAtFirst m dueFirst format-first due-first (follow-lines m (h .owners-are)) (and-right (eqb (length (m .owners)) (length (m .variables))) _ (lawful-is m .1 h)) (suc tableWords) (omega arith) rest ∙
       text-along m
 
   -- and it fits

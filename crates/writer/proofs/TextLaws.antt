@@ -22,7 +22,7 @@ use Rattle.model.proofs.Decode.{word-back}
 use Rattle.model.proofs.Bits.{set-back}
 use Rattle.format.specs.Bytes.{Bytes, bytes, ledBy, joined, LF, space, 'a}
 use Rattle.format.specs.Number.{decimal}
-use Rattle.format.specs.Spelling.{spelled, spelledNode, textOfList, textOfPred, textOfTree, writesKey, listText}
+use Rattle.format.specs.Spelling.{spelled, spelledNode, textOfList, textOfPred, textOfTree, writesKey}
 use Rattle.table_places.proofs.StartLaws.{first-start}
 use Rattle.table_writes.specs.Sets.{writtenSet}
 use Rattle.table_writes.proofs.WrittenLaws.{written-set}
@@ -102,8 +102,8 @@ predicate-text p rest h =
     joined-parts space spelled (words p) (every-weaker inRange (λ w. not (isNone (spelled w))) some-word (words p) h)
 
 -- what it writes: the list behind an edge, three numbers standing before the update
-pub writes-text : (from act to : ℕ) (p : Pred) (rest : List ℕ) → every inRange (words p) ≡ true → writesText (from ∷ act ∷ to ∷ predWords p ++ rest) ≡ listText (some (written p))
-unfolding writesText predWords membersText listText
+pub writes-text : (from act to : ℕ) (p : Pred) (rest : List ℕ) → every inRange (words p) ≡ true → writesText (from ∷ act ∷ to ∷ predWords p ++ rest) ≡ writesKey ++ (textOfList (written p) ++ LF ∷ [])
+unfolding writesText predWords membersText
 writes-text from act to p rest h =
     ap (λ (l : List ℕ). writesKey ++ textOfList (keep (bit (writtenSet l)) (countUp 0 64)) ++ (LF ∷ [])) (first-nodes p rest) ∙
     ap (λ (l : List ℕ). writesKey ++ textOfList l ++ (LF ∷ [])) (written-set p h) ∙

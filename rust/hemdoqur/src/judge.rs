@@ -74,7 +74,7 @@ pub fn step(table: &[u32], from: &State, action: u32, new_locations: &[u32], new
     }
 }
 
-/// May the variables change so while every automaton is still?
+/// May the variables change so while every automaton is still? In a sheet of format 3 those that have an owner may not.
 pub fn environment(table: &[u32], from: &State, new_values: &[i32]) -> Result<bool, Refusal> {
     match Answer::of(numbers::environment(table, from.phase, from.locations, from.values, new_values)) {
         Answer::No => Ok(false),

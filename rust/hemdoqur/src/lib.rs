@@ -25,7 +25,8 @@ mod refusal;
 pub use judge::{environment, run, step, Answer, Proposals, Room, Run, State, ENVIRONMENT};
 pub use refusal::{sentence, Refusal, RunRefusal};
 
-/// The words that a table has at least.
+/// The words that a table has at least. A table belongs to the version of this crate that read it: from 4.0 on a
+/// variable has three words, so texts are read again.
 pub const TABLE_WORDS: usize = 16_384;
 /// The bytes that a text has at most, also a written or merged one.
 pub const TEXT_BYTES: usize = 65_536;

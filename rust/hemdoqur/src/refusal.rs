@@ -78,6 +78,8 @@ pub fn sentence(number: u32) -> &'static str {
         34 => "merged, the predicates have more than 4,096 nodes",
         35 => "the buffer is shorter than the text",
         44 => "the list is not that of the variables whose new value the edge mentions",
+        50 => "a variable belongs to an automaton that is not there",
+        51 => "the edge writes a variable that does not belong to its automaton",
         101 => "the list does not have a location for each automaton and a value for each variable at each action",
         102 => "there are fewer places for answers than actions",
         103 => "there are too few places for the locations or values at the end",

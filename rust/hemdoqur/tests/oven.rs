@@ -14,8 +14,8 @@ fn table() -> Vec<u32> {
 fn a_refusal_has_row_and_line_and_writes_nothing() {
     let mut table = vec![7; TABLE_WORDS];
     assert_eq!(read(b"", &mut table), Err(Refusal { row: 2, line: 1 }));
-    assert_eq!(read(b"format=3\n", &mut table), Err(Refusal { row: 3, line: 1 }));
-    assert_eq!(read(b"format=2\n", &mut table), Err(Refusal { row: 2, line: 2 }));
+    assert_eq!(read(b"format=4\n", &mut table), Err(Refusal { row: 3, line: 1 }));
+    assert_eq!(read(b"format=3\n", &mut table), Err(Refusal { row: 2, line: 2 }));
     assert_eq!(read(&vec![b'\n'; TEXT_BYTES + 1], &mut table), Err(Refusal { row: 1, line: 0 }));
     assert_eq!(read(OVEN, &mut table[1..]), Err(Refusal { row: 18, line: 0 }));
     assert!(table.iter().all(|word| *word == 7));
@@ -51,6 +51,32 @@ fn the_judges_on_that_oven() {
     assert_eq!(environment(&table, &running, &[1]), Ok(false));
     assert_eq!(step(&table, &running, 3, &[1, 0], &[0]), Err(Refusal { row: 24, line: 0 }));
     assert_eq!(environment(&table, &running, &[2]), Err(Refusal { row: 23, line: 0 }));
+}
+
+/// The oven of sheets/probes.txt: valve and lamp belong to its automata, the probes to nobody.
+#[test]
+fn only_probes_move_by_themselves() {
+    let mut table = vec![0; TABLE_WORDS];
+    let text = include_bytes!("../../../sheets/probes.txt");
+    assert_eq!(read(text, &mut table), Ok(()));
+    let from = State { phase: 1, locations: &[0, 0], values: &[1, 0, 200, 2] };
+    assert_eq!(environment(&table, &from, &[1, 0, 210, 4]), Ok(true));
+    assert_eq!(environment(&table, &from, &[0, 0, 200, 2]), Ok(false));
+    assert_eq!(environment(&table, &from, &[1, 1, 200, 2]), Ok(false));
+    assert_eq!(environment(&table, &from, &[2, 0, 200, 2]), Err(Refusal { row: 23, line: 0 }));
+    assert_eq!(step(&table, &from, 1, &[1, 0], &[0, 1, 200, 2]), Ok(Some(true)));
+    assert_eq!(step(&table, &from, 1, &[1, 0], &[0, 1, 199, 2]), Ok(None));
+}
+
+#[test]
+fn an_owner_is_there_and_writes_alone() {
+    let text = String::from_utf8_lossy(include_bytes!("../../../sheets/probes.txt"));
+    let mut table = vec![7; TABLE_WORDS];
+    let mut refusal = |from: &str, to: &str| read(text.replacen(from, to, 1).as_bytes(), &mut table).unwrap_err();
+    assert_eq!(refusal("owner=none", "owner=2"), Refusal { row: 50, line: 12 });
+    let foreign = refusal("owner=1", "owner=none").to_string();
+    assert_eq!(foreign, "row 51, line 30: the edge writes a variable that does not belong to its automaton");
+    assert!(table.iter().all(|word| *word == 7));
 }
 
 #[test]
@@ -107,7 +133,7 @@ fn the_size_of_that_oven() {
 #[test]
 fn a_refusal_is_an_error_with_a_sentence() {
     let mut table = vec![0; TABLE_WORDS];
-    let refused: Box<dyn std::error::Error> = read(b"format=3\n", &mut table).unwrap_err().into();
+    let refused: Box<dyn std::error::Error> = read(b"format=4\n", &mut table).unwrap_err().into();
     assert_eq!(refused.to_string(), "row 3, line 1: a number is misspelled or out of its range");
     assert_eq!(size(&table).unwrap_err().to_string(), "row 19: the table is not one that the reader makes");
     let short: Box<dyn std::error::Error> = RunRefusal::AnswersShort.into();

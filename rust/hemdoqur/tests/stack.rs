@@ -117,6 +117,14 @@ fn deepest_search(compose: &str) -> String {
     format!("format=1\nactions=1\nvariables=48\n{}automata=16\n{automata}compose={compose}\n", "variable=0,1\n".repeat(48))
 }
 
+/// The same in format 3: three variables belong to each automaton.
+fn owning_search(compose: &str) -> String {
+    let owned = |k: usize| format!("variable=0,1\nowner={}\n", k / 3);
+    let variables: String = (0..48).map(owned).collect();
+    let text = telling(&deepest_search(compose)).replacen("format=2", "format=3", 1);
+    text.replacen(&"variable=0,1\n".repeat(48), &variables, 1)
+}
+
 /// Edges that write as many variables as a sheet can have that is merged.
 fn most_written() -> String {
     let mentions: String = (0..47).map(|k| format!(" le n{k} 1")).collect();
@@ -139,6 +147,12 @@ fn telling(text: &str) -> String {
     lines.lines().map(told).collect()
 }
 
+/// The sheet of one automaton in format 3: each variable belongs to it.
+fn owning(text: &str) -> String {
+    let owned = |line: &str| format!("{line}\n{}", if line.starts_with("variable=") { "owner=0\n" } else { "" });
+    telling(text).replacen("format=2", "format=3", 1).lines().map(owned).collect()
+}
+
 fn good_texts() -> Vec<String> {
     let [left, right] = deep_trees();
     let mut texts = vec![sixteen("all 0", "all 0", &left), sixteen("all 0", "all 0", &right), most_merged_edges(), deepest_tree()];
@@ -149,7 +163,10 @@ fn good_texts() -> Vec<String> {
     texts.push(deepest_start(&format!("not {}eq v0 0{}", "eq if ".repeat(10), " 0 v0 0".repeat(10))));
     texts.push(most_written());
     let in_format_2: Vec<String> = texts.iter().map(|text| telling(text)).collect();
+    let in_format_3: Vec<String> = texts.iter().filter(|text| text.contains("automata=1\n")).map(|text| owning(text)).collect();
     texts.extend(in_format_2);
+    texts.extend(in_format_3);
+    texts.extend(deep_trees().iter().map(|tree| owning_search(tree)));
     texts
 }
 
@@ -205,7 +222,7 @@ fn merging() {
     let tables = tables();
     within("MERGE", move || {
         let merged = tables.iter().filter(|table| merge(table, &mut out).is_ok()).count();
-        assert_eq!(merged, 8, "in both formats: 408 edges, the deepest tree, the last start, 47 variables; others are too large");
+        assert_eq!(merged, 12, "in each format: 408 edges, the deepest tree, the last start, 47 variables; others are too large");
     });
 }
 

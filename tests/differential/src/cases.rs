@@ -1,6 +1,7 @@
 //! Sheet texts made by hand, each with the answer that the paper gives it: every row of the reader and the merger, and
 //! both sides of every limit. Names say what a text is about; where two differ in a number, a limit lies between them.
 mod lists;
+pub mod owners;
 mod spans;
 
 use crate::rounds::OVEN;
@@ -51,7 +52,6 @@ const CHANGES: &[Change] = &[
     ("byte_126", 8, "init=~", 6),
     // Row 3: how a number is spelled, and its range.
     ("format_0", 1, "format=0", 3),
-    ("format_3", 1, "format=3", 3),
     ("format_4", 1, "format=4", 3),
     ("format_leading_zero", 1, "format=02", 3),
     ("format_space", 1, "format=2 ", 3),
@@ -246,13 +246,14 @@ pub fn all() -> Vec<Case> {
     cases.extend(starts());
     cases.extend(starts_in_trees());
     cases.extend(lists::all());
+    cases.extend(owners::all());
     cases.extend(spans::all());
     cases
 }
 
 /// Proposals made by hand, after the text that they are put to.
 pub fn judged() -> Vec<Judged> {
-    [JUDGED, lists::JUDGED, spans::JUDGED].concat()
+    [JUDGED, lists::JUDGED, owners::JUDGED, spans::JUDGED].concat()
 }
 
 fn case(name: &str, text: String, refusal: Option<(u32, u32)>) -> Case {

@@ -12,7 +12,7 @@ const CALLS: [&str; 7] = ["read", "write", "merge", "step", "environment", "run"
 
 /// The paper's rows that each of them can be refused by. A list's own three faults are counted as 101 to 103.
 const ROWS: [&[RangeInclusive<u32>]; CALLS.len()] = [
-    &[1..=16, 18..=18, 44..=44],
+    &[1..=16, 18..=18, 44..=44, 50..=51],
     &[18..=19, 35..=35],
     &[18..=19, 31..=35],
     &[18..=24],

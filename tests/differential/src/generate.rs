@@ -1,10 +1,12 @@
 //! Sheets, damage, states and proposals, all drawn from a seed.
 mod damage;
+mod owners;
 mod predicates;
 mod proposals;
 mod sheets;
 
 pub use damage::*;
+pub use owners::in_format;
 pub use proposals::*;
 pub use sheets::*;
 

@@ -2,6 +2,7 @@
 use crate::calls;
 use crate::compare::Comparison;
 use crate::generate::*;
+use crate::reference::judge::{NO, REFUSED};
 use crate::reference::model::*;
 use crate::reference::{self, reader};
 use crate::runs;
@@ -58,7 +59,7 @@ pub fn round(comparison: &mut Comparison, seed: u64) {
     runs::lists(comparison, &mut random, &model, &table);
     damaged_tables(comparison, &mut random, &model, &table);
     faulty_tables(comparison, &mut random, &model);
-    in_other_format(comparison, &mut random, &model, &table);
+    in_other_formats(comparison, &mut random, &model, &table);
     let merged_text = written(comparison, &mut random, &table, true);
     let merged_table = merged_text.map(|text| merged_read(comparison, &text));
     for _ in 0..2 {
@@ -89,12 +90,14 @@ pub fn fixed(comparison: &mut Comparison) {
     runs::oven_lists(comparison, &mut random, &model, &table);
     cold_oven(comparison, &mut random, &empty);
     telling_oven(comparison, &mut random, &model, &empty);
+    owning_oven(comparison, &mut random, &model, &empty);
     long_texts(comparison, &empty);
     long_compositions(comparison, &empty);
     pairs_of_words(comparison, &empty);
     lines_with_many_faults(comparison, &empty);
     starts_with_many_faults(comparison, &empty);
     lists_with_many_faults(comparison, &empty);
+    owners_with_many_faults(comparison, &empty);
     large_values(comparison, &empty);
     longest_texts(comparison, &mut random, &empty);
 }
@@ -133,7 +136,30 @@ fn telling_oven(comparison: &mut Comparison, random: &mut Random, oven: &Model, 
     }
     let (_, table) = comparison.read(&text, empty);
     each_word(comparison, random, &model, &table, 0..4);
-    in_other_format(comparison, random, &model, &table);
+    in_other_formats(comparison, random, &model, &table);
+}
+
+/// The oven with a probe, in format 3: every small damage of its text, the words that have its format, its size and its
+/// owners, and every environment step.
+fn owning_oven(comparison: &mut Comparison, random: &mut Random, oven: &Model, empty: &[u32]) {
+    let mut model = in_format(oven, OWNERS_FORMAT).expect("the steam alone writes the valve");
+    model.ranges.push((0, 2));
+    model.owners.push(None);
+    let text = text_of(&model);
+    for damaged in every_damage(&text) {
+        comparison.read(&damaged, empty);
+    }
+    let (_, table) = comparison.read(&text, empty);
+    each_word(comparison, random, &model, &table, 0..11);
+    for (k, word) in (0..2).flat_map(|k| (0..19).map(move |word| (k, word))) {
+        let mut damaged = table.clone();
+        damaged[owner_place(k)] = word;
+        on_any_table(comparison, random, &model, &damaged);
+    }
+    in_other_formats(comparison, random, &model, &table);
+    let (answer, merged_text) = comparison.merge(&table, &vec![0; TEXT_BYTES]);
+    let merged = merged_read(comparison, merged_text.get(..calls::length(answer)).unwrap_or(&[]));
+    runs::every_environment_step(comparison, &model, &table, &merged);
 }
 
 /// Texts at the limit of bytes, and lines that nest as deep as a text can.
@@ -279,6 +305,37 @@ fn lists_with_many_faults(comparison: &mut Comparison, table: &[u32]) {
     }
 }
 
+/// A sheet with these two owners and this line for its automata, which are two; the edge of the second has this update
+/// and this list. V is 2.
+fn owned_sheet(owners: [&str; 2], automata: &str, update: &str, list: &str) -> Vec<u8> {
+    let [first, second] = owners;
+    let variables = format!("variables=2\nvariable=0,1\nowner={first}\nvariable=0,1\nowner={second}");
+    let automaton = "sync=\nlocations=1\ninit=all 0\ninv=all 0";
+    let edge = format!("edges=1\nedge=0,1,0,{update}\nwrites={list}");
+    format!("format=3\nactions=1\n{variables}\n{automata}\n{automaton}\nedges=0\n{automaton}\n{edge}\ncompose=par a0 a1\n")
+        .into_bytes()
+}
+
+/// Owners that are there, or not, or faulty; before automata of every number; and before edges that write what they
+/// own, or not.
+fn owners_with_many_faults(comparison: &mut Comparison, table: &[u32]) {
+    for first in OWNERS {
+        for second in OWNERS {
+            comparison.read(&owned_sheet([first, second], "automata=2", "eq n1 1", "1"), table);
+        }
+        for automata in ["0", "1", "2", "3", "15", "16", "17", "", "02", "1,2", "x", "2\r"] {
+            comparison.read(&owned_sheet(["none", first], &format!("automata={automata}"), "all 0", ""), table);
+        }
+    }
+    for owners in [["none", "1"], ["0", "1"], ["1", "1"], ["1", "0"], ["1", "none"], ["2", "1"], ["1", "2"]] {
+        for update in ["all 0", "eq n0 1", "le v0 n1", "all 2 eq n1 0 le n0 1", "eq v0 if le n1 v0 v1 1", "imp any 0 eq n0 1"] {
+            for list in ["", "0", "1", "0,1", "1,0", "0,0", "1,2", "2", "48", "0,"] {
+                comparison.read(&owned_sheet(owners, "automata=2", update, list), table);
+            }
+        }
+    }
+}
+
 /// A sheet with one edge by action 1; v0 is -10^9 to 10^9, v1 is 0 to 1.
 fn large_sheet(update: &str) -> Vec<u8> {
     let head = "format=1\nactions=1\nvariables=2\nvariable=-1000000000,1000000000\nvariable=0,1\nautomata=1\nsync=";
@@ -344,34 +401,67 @@ fn long_sheet(format: u32) -> Model {
     let leaves = (1..13).fold(Composition::Leaf(0), beside);
     let composition = (0..39).fold(leaves, |tree, _| Composition::Syn(sync.clone(), Box::new(tree)));
     let least = (LEAST_NUMBER as i32, LEAST_NUMBER as i32);
-    Model { format, actions: HIGHEST_ACTION as u32, ranges: vec![least; VARIABLES as usize], automata, composition }
+    let ranges = vec![least; VARIABLES as usize];
+    let owners = vec![None; ranges.len()];
+    Model { format, actions: HIGHEST_ACTION as u32, ranges, owners, automata, composition }
 }
 
-/// The sheet with the lists behind its edges, or without: its table has another first word, and all that comes of it is alike.
-fn in_other_format(comparison: &mut Comparison, random: &mut Random, model: &Model, table: &[u32]) {
-    let other = Model { format: 3 - model.format, ..model.clone() };
-    let text = if other.format == 1 { without_lists(&text_of(model)) } else { text_of(&other) };
+/// The sheet in each other format that has it.
+fn in_other_formats(comparison: &mut Comparison, random: &mut Random, model: &Model, table: &[u32]) {
+    for format in (1..=HIGHEST_FORMAT as u32).filter(|format| *format != model.format) {
+        if let Some(other) = in_format(model, format) {
+            in_other_format(comparison, random, model, table, &other);
+        }
+    }
+}
+
+/// Its table has other words for the format and the owners alone. All that comes of it is alike, but that the
+/// environment does not move what belongs to an automaton.
+fn in_other_format(comparison: &mut Comparison, random: &mut Random, model: &Model, table: &[u32], other: &Model) {
+    let lower = other.format < model.format;
+    let text = if lower { lowered(&text_of(model), other.format) } else { text_of(other) };
+    let shown = || String::from_utf8_lossy(&text).into_owned();
     let (answer, other_table) = comparison.read(&text, &vec![0; TABLE_WORDS]);
-    let same = answer == 0 && other_table[0] == other.format && other_table[1..] == table[1..];
-    comparison.law("the formats have one table but for its first word", same, || String::from_utf8_lossy(&text).into());
+    let same = answer == 0 && other_table[0] == other.format && plain_words(&other_table) == plain_words(table);
+    comparison.law("the formats have one table but for format and owners", same, shown);
     let merged = [table, &other_table].map(|table| {
         let (answer, out) = comparison.merge(table, &vec![0; TEXT_BYTES]);
-        (calls::row(answer), calls::edges(answer), without_lists(out.get(..calls::length(answer)).unwrap_or(&[])))
+        (calls::row(answer), calls::edges(answer), lowered(out.get(..calls::length(answer)).unwrap_or(&[]), 1))
     });
-    comparison.law("the formats merge alike", merged[0] == merged[1], || String::from_utf8_lossy(&text).into());
+    comparison.law("the formats merge alike", merged[0] == merged[1], shown);
     for _ in 0..4 {
         let from = state(random, model);
         let proposed = proposal(random, model, &from);
         let answers = [table, &other_table].map(|table| comparison.judge(table, &from, &proposed));
-        comparison.law("the formats are judged alike", answers[0] == answers[1], || format!("{from:?} {proposed:?}"));
+        let [owning, free] = if lower { answers } else { [answers[1], answers[0]] };
+        let owned = proposed.action.is_none() && moves(&from, &proposed, model.owned() | other.owned());
+        let expected = if owned && free < REFUSED { NO } else { free };
+        comparison.law("the formats are judged alike", owning == expected, || format!("{from:?} {proposed:?}"));
     }
 }
 
-/// A text without the lists behind its edges, and with the format that has none.
-fn without_lists(text: &[u8]) -> Vec<u8> {
-    let mut lines: Vec<&[u8]> = text.split(|byte| *byte == b'\n').filter(|line| !line.starts_with(b"writes=")).collect();
-    lines[0] = b"format=1";
+/// Whether a proposal moves one of these variables.
+fn moves(from: &State, proposed: &Proposed, variables: u64) -> bool {
+    let pairs = from.values.iter().zip(&proposed.values).enumerate();
+    pairs.filter(|(_, (old, new))| old != new).any(|(k, _)| variables >> k & 1 == 1)
+}
+
+/// A text without the lines that a lower format does not have.
+fn lowered(text: &[u8], format: u32) -> Vec<u8> {
+    let has_lists = |line: &&[u8]| format >= LISTS_FORMAT || !line.starts_with(b"writes=");
+    let has_owners = |line: &&[u8]| format >= OWNERS_FORMAT || !line.starts_with(b"owner=");
+    let first = format!("format={format}").into_bytes();
+    let mut lines: Vec<&[u8]> = text.split(|byte| *byte == b'\n').filter(has_lists).filter(has_owners).collect();
+    lines[0] = &first;
     lines.join(&b'\n')
+}
+
+/// A table's words, those for the format and the owners as in format 1.
+fn plain_words(table: &[u32]) -> Vec<u32> {
+    let mut words = table.to_vec();
+    words[0] = 1;
+    (0..table[2].min(VARIABLES as u32) as usize).for_each(|k| words[owner_place(k)] = 0);
+    words
 }
 
 fn damaged_reads(comparison: &mut Comparison, random: &mut Random, text: &[u8]) {

@@ -1,8 +1,8 @@
 //! The paper's "Runs": proposals one after the other, on a sheet's table and on the merged one, singly and as lists.
 use crate::compare::Comparison;
 use crate::generate::*;
-use crate::reference::judge::REFUSED;
-use crate::reference::model::Model;
+use crate::reference::judge::{NO, REFUSED};
+use crate::reference::model::{Automaton, Model, Range, OWNERS_FORMAT};
 use crate::reference::run::ENVIRONMENT;
 
 /// What was put to the single judges, as a list for one call, with their answers.
@@ -34,7 +34,8 @@ impl Told {
     }
 }
 
-/// A list of proposals on both tables, each run moving by its own answers; then each list in one call.
+/// A list of proposals on both tables, each run moving by its own answers; then each list in one call. The merged run
+/// is also put what the other has no word for: environment proposals that would move a pointer.
 pub fn run(comparison: &mut Comparison, random: &mut Random, model: &Model, table: &[u32], merged: Option<&[u32]>) {
     let mut here = state(random, model);
     let mut there = joined(&here);
@@ -49,6 +50,11 @@ pub fn run(comparison: &mut Comparison, random: &mut Random, model: &Model, tabl
         told_here.note(random, &proposed, answer);
         if let Some(merged) = merged.filter(|_| translates(answer)) {
             let translated = translation(&proposed, &there, model.ranges.len());
+            if let Some(strayed) = strayed(random, model, &translated, &there) {
+                let strayed_answer = comparison.judge(merged, &there, &strayed);
+                told_there.note(random, &strayed, strayed_answer);
+                alike &= strayed_answer == answer_to_strayed(model, &strayed, answer);
+            }
             let merged_answer = comparison.judge(merged, &there, &translated);
             told_there.note(random, &translated, merged_answer);
             alike &= answer == merged_answer;
@@ -86,6 +92,65 @@ fn translation(proposed: &Proposed, there: &State, variables: usize) -> Proposed
             Proposed { action: None, locations: Vec::new(), values }
         }
     }
+}
+
+/// Where owners hold the pointers still, an environment proposal may name any: the same with others, in their ranges or
+/// out of them.
+fn strayed(random: &mut Random, model: &Model, translated: &Proposed, there: &State) -> Option<Proposed> {
+    if model.format < OWNERS_FORMAT || translated.action.is_some() {
+        return None;
+    }
+    let mut strayed = translated.clone();
+    let first = model.ranges.len();
+    for _ in 0..1 + random.below(2) {
+        let i = random.below(model.automata.len());
+        let count = model.automata[i].locations.len();
+        let outside = random.pick(&[-1, count as i32, i32::MIN, i32::MAX]);
+        strayed.values[first + i] = if random.percent(20) { outside } else { random.below(count) as i32 };
+    }
+    (strayed.values[first..] != there.values[first..]).then_some(strayed)
+}
+
+/// What a proposal with other pointers must be answered with, beside this answer to the one that it strayed from.
+fn answer_to_strayed(model: &Model, strayed: &Proposed, answer: u32) -> u32 {
+    let pointers = &strayed.values[model.ranges.len()..];
+    let there = |(pointer, automaton): (&i32, &Automaton)| (0..automaton.locations.len() as i32).contains(pointer);
+    let all_there = pointers.iter().zip(&model.automata).all(there);
+    if all_there && answer < REFUSED {
+        NO
+    } else {
+        REFUSED + 23
+    }
+}
+
+/// On a sheet and on its merged one, each environment step from each state, to values and pointers that are there or
+/// one past.
+pub fn every_environment_step(comparison: &mut Comparison, model: &Model, table: &[u32], merged: &[u32]) {
+    let outside = |values: &[i32]| Proposed { action: None, locations: Vec::new(), values: values.to_vec() };
+    let first = model.ranges.len();
+    let pointers = model.automata.iter().map(|automaton| (0, automaton.locations.len() as i32 - 1));
+    let ranges: Vec<Range> = model.ranges.iter().copied().chain(pointers).collect();
+    let wider: Vec<Range> = ranges.iter().map(|(low, high)| (*low, high + 1)).collect();
+    for phase_and_old in every_choice(&[&[(0, 1)], &ranges[..]].concat()) {
+        let there = State { phase: phase_and_old[0] as u32, locations: vec![0], values: phase_and_old[1..].to_vec() };
+        let locations = there.values[first..].iter().map(|location| *location as u32).collect();
+        let here = State { phase: there.phase, locations, values: there.values[..first].to_vec() };
+        for new in every_choice(&wider) {
+            let answer = comparison.judge(table, &here, &outside(&new[..first]));
+            let translated = outside(&new);
+            let kept = new[first..] == there.values[first..];
+            let expected = if kept { answer } else { answer_to_strayed(model, &translated, answer) };
+            let got = comparison.judge(merged, &there, &translated);
+            comparison.law("the environment keeps the pointers", got == expected, || format!("{there:?} {new:?}"));
+        }
+    }
+}
+
+/// Each choice of a number from each range.
+fn every_choice(ranges: &[Range]) -> Vec<Vec<i32>> {
+    ranges.iter().fold(vec![Vec::new()], |choices, (low, high)| {
+        choices.iter().flat_map(|choice| (*low..=*high).map(move |number| [&choice[..], &[number]].concat())).collect()
+    })
 }
 
 /// Lists in one call: good ones with more and less room for the answers and for the end, and faulty ones.

@@ -1,4 +1,4 @@
--- `line_order::end` meets its contract: each way out is a law of KeyLaws.
+-- `line_order::edge` meets its contract: each way out is a law of KeyLaws.
 use Rattle.line_order.proofs.KeyLaws.{edge-laws}
 use borrow.Author.Needs.{needs}
 use Rattle.line_order.proofs.edge.Statement.{statement}

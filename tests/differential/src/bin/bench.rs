@@ -1,10 +1,10 @@
 //! Times of the six calls beside the reference, in one run, as Markdown tables. Tables and buffers are not cleared between calls;
 //! a ratio is the library's time over the reference's.
 use differential::calls::{self, Library, Reference, Sheets};
-use differential::generate::is_yes;
-use differential::reference::judge::Proposal;
+use differential::generate::{in_format, is_yes};
 use differential::reference::model::{TABLE_WORDS, TEXT_BYTES};
 use differential::reference::run::{List, ENVIRONMENT};
+use differential::reference::{self, judge::Proposal};
 use differential::rounds::OVEN;
 use std::fmt::Write;
 use std::hint::black_box;
@@ -61,7 +61,8 @@ impl Subject {
         let mut table = vec![0; TABLE_WORDS];
         let answer = Reference.read(text.as_bytes(), &mut table);
         assert_eq!(answer, 0, "{name}: row {}, line {}", calls::row(answer), calls::line(answer));
-        let (variables, automata) = (table[2] as usize, table[3 + 2 * table[2] as usize] as usize);
+        let size = Reference.size(&table);
+        let (variables, automata) = ((size >> 8 & 0xFF) as usize, (size & 0xFF) as usize);
         Subject {
             name: name.to_string(),
             text,
@@ -311,25 +312,23 @@ fn merging(title: &str, subjects: &[Subject]) {
     }
 }
 
-/// The same sheet in format 2, with a list behind each edge. In a table only the first word says so.
-fn in_format_2(subject: &Subject) -> Subject {
-    let mut table = subject.table.clone();
-    table[0] = 2;
-    let mut text = vec![0; TEXT_BYTES];
-    let length = calls::length(Reference.write(&table, &mut text));
-    text.truncate(length as usize);
-    Subject::new(&subject.name, String::from_utf8(text).unwrap())
+/// The same sheet in a later format: with a list behind each edge, and in format 3 each variable with the automaton
+/// that writes it.
+fn later(subject: &Subject, format: u32) -> Subject {
+    let model = reference::open(&subject.table).expect("a good table");
+    let later = in_format(&model, format).expect("no variable is written by two");
+    Subject::new(&subject.name, String::from_utf8(reference::write(&later)).unwrap())
 }
 
-/// What the lists of format 2 cost: a factor is the time over that of the same sheet in format 1.
-fn lists(title: &str, subjects: &[Subject]) {
-    println!("\n## {title}\n");
+/// What a later format costs in these calls: a factor is the time over that of the same sheet in format 1.
+fn formats(format: u32, subjects: &[Subject], calls: &[&str]) {
+    println!("\n## Format {format}\n");
     println!("| call | sheet | what | library, ns | factor | reference, ns | factor | ratio |");
     println!("|---|---|---|---:|---:|---:|---:|---:|");
-    let listed: Vec<Subject> = subjects.iter().map(in_format_2).collect();
-    for (call, (name, measure)) in CALLS.into_iter().take(3).enumerate() {
-        let (before, after) = (best(subjects, measure), best(&listed, measure));
-        for ((subject, before), [library, reference]) in listed.iter().zip(before).zip(after) {
+    let later_ones: Vec<Subject> = subjects.iter().map(|subject| later(subject, format)).collect();
+    for (call, (name, measure)) in CALLS.into_iter().enumerate().filter(|(_, (name, _))| calls.contains(name)) {
+        let (before, after) = (best(subjects, measure), best(&later_ones, measure));
+        for ((subject, before), [library, reference]) in later_ones.iter().zip(before).zip(after) {
             println!(
                 "| {name} | {} | {} | {library:.0} | {:.2} | {reference:.0} | {:.2} | {:.2} |",
                 subject.name,
@@ -345,7 +344,8 @@ fn lists(title: &str, subjects: &[Subject]) {
 fn main() {
     println!("## Calls\n");
     calls_table(&subjects());
-    lists("Format 2", &subjects());
+    formats(2, &subjects(), &["read", "write", "merge"]);
+    formats(3, &subjects(), &["read", "write", "merge", "environment"]);
     growth("Growth with the text", &sizes());
     growth("Growth with the automata", &automata());
     merging("Merging equal edges of seven nodes", &equal_edges());

@@ -160,6 +160,44 @@ pub const LISTS: &[&str] = &[
     "+1",
     "99999999999999999999",
 ];
+/// What can stand behind `owner=`.
+pub const OWNERS: &[&str] = &[
+    "none",
+    "0",
+    "1",
+    "2",
+    "3",
+    "14",
+    "15",
+    "16",
+    "17",
+    "",
+    "None",
+    "NONE",
+    "none ",
+    " none",
+    "nones",
+    "non",
+    "none0",
+    "00",
+    "01",
+    "015",
+    "-0",
+    "-1",
+    "-",
+    "+1",
+    "1 ",
+    " 1",
+    "0,1",
+    "none,none",
+    "none,",
+    ",",
+    "a0",
+    "4294967296",
+    "18446744073709551616",
+    "none\t",
+    "0\r",
+];
 const BYTES: &[u8] = b"\n\r\t ,=-0123456789vnaALsyn\x00\x1f\x20\x7e\x7f\x80\xff";
 
 /// A text with one or two faults, perhaps.
@@ -172,11 +210,12 @@ pub fn damaged_text(random: &mut Random, text: &[u8]) -> Vec<u8> {
 }
 
 fn damaged_once(random: &mut Random, text: &[u8]) -> Vec<u8> {
-    match random.below(16) {
+    match random.below(18) {
         0 | 1 => damaged_byte(random, text),
         9 | 10 => rewritten_line(random, text),
         11 | 12 => more_starts(random, text),
         13..=15 => damaged_writes(random, text),
+        16 | 17 => damaged_owners(random, text),
         2 | 3 => damaged_parts(random, text, b'\n'),
         4 | 5 => damaged_token(random, text),
         6 | 7 => damaged_number(random, text),
@@ -297,7 +336,7 @@ fn more_starts(random: &mut Random, text: &[u8]) -> Vec<u8> {
 fn damaged_writes(random: &mut Random, text: &[u8]) -> Vec<u8> {
     let mut lines: Vec<Vec<u8>> = text.split(|byte| *byte == b'\n').map(<[u8]>::to_vec).collect();
     if random.percent(15) {
-        lines[0] = format!("format={}", random.pick(&[0, 1, 1, 2, 2, 3])).into_bytes();
+        lines[0] = format!("format={}", random.pick(&[0, 1, 1, 2, 2, 3, 3, 4])).into_bytes();
         return lines.join(&b'\n');
     }
     let of_key = |key: &[u8]| (0..lines.len()).filter(|i| lines[*i].starts_with(key)).collect::<Vec<_>>();
@@ -317,6 +356,32 @@ fn damaged_writes(random: &mut Random, text: &[u8]) -> Vec<u8> {
         2 => lines.swap(at.saturating_sub(1), at),
         3 => lines.swap(at, random.pick(&lists)),
         _ => lines[at] = [b"writes=", &damaged_list(random, &lines[at][7..])[..]].concat(),
+    }
+    lines.join(&b'\n')
+}
+
+/// Whom variables belong to, said otherwise: another owner, or its line somewhere else or not at all; or other automata
+/// are there.
+fn damaged_owners(random: &mut Random, text: &[u8]) -> Vec<u8> {
+    let mut lines: Vec<Vec<u8>> = text.split(|byte| *byte == b'\n').map(<[u8]>::to_vec).collect();
+    let of_key = |key: &[u8]| (0..lines.len()).filter(|i| lines[*i].starts_with(key)).collect::<Vec<_>>();
+    let (variables, owners, automata) = (of_key(b"variable="), of_key(b"owner="), of_key(b"automata="));
+    if variables.is_empty() || automata.is_empty() {
+        return text.to_vec();
+    }
+    let other = format!("owner={}", random.pick(OWNERS)).into_bytes();
+    if owners.is_empty() || random.percent(5) {
+        lines.insert(1 + random.pick(&variables), other);
+        return lines.join(&b'\n');
+    }
+    let at = random.pick(&owners);
+    match random.below(12) {
+        0 => drop(lines.remove(at)),
+        1 => lines.insert(at, lines[at].clone()),
+        2 => lines.swap(at.saturating_sub(1), at),
+        3 | 4 => lines.swap(at, random.pick(&owners)),
+        5 | 6 => lines[automata[0]] = format!("automata={}", random.below(18)).into_bytes(),
+        _ => lines[at] = other,
     }
     lines.join(&b'\n')
 }
@@ -405,7 +470,8 @@ pub fn every_damage(text: &[u8]) -> Vec<Vec<u8>> {
     all
 }
 
-/// A table with some words changed; one in four of them is among the last, the composition's.
+/// A table with some words changed; one in four of them is among the last, the composition's, and one in ten is an
+/// owner's.
 pub fn damaged_table(random: &mut Random, table: &[u32]) -> Vec<u32> {
     let mut damaged = table.to_vec();
     let used = table.iter().rposition(|word| *word != 0).map_or(1, |last| last + 2).min(table.len());
@@ -413,9 +479,10 @@ pub fn damaged_table(random: &mut Random, table: &[u32]) -> Vec<u32> {
         let at = match random.below(100) {
             0..=2 => random.below(table.len()),
             3..=27 => used - 1 - random.below(used.min(16)),
+            28..=37 => owner_word(random, table).unwrap_or(0),
             _ => random.below(used),
         };
-        match random.below(13) {
+        match random.below(14) {
             0 | 1 => damaged[at] = 0,
             2 | 3 => damaged[at] = damaged[at].wrapping_add(1),
             4 | 5 => damaged[at] = damaged[at].wrapping_sub(1),
@@ -424,6 +491,7 @@ pub fn damaged_table(random: &mut Random, table: &[u32]) -> Vec<u32> {
             8 => damaged[at] = damaged[random.below(used)],
             9 => damaged[at] = random.below(700) as u32,
             10 => damaged[at] = random.pick(WORDS),
+            12 => damaged[at] = random.below(19) as u32,
             11 => {
                 damaged.remove(at);
                 damaged.push(0);
@@ -437,6 +505,18 @@ pub fn damaged_table(random: &mut Random, table: &[u32]) -> Vec<u32> {
             return damaged;
         }
     }
+}
+
+/// Where a table has some variable's owner.
+fn owner_word(random: &mut Random, table: &[u32]) -> Option<usize> {
+    let variables = *table.get(2)? as usize;
+    let at = owner_place(random.below(variables));
+    (variables > 0 && at < table.len()).then_some(at)
+}
+
+/// Where a table has the owner of variable k: behind the two ends of its range.
+pub fn owner_place(k: usize) -> usize {
+    3 + 3 * k + 2
 }
 
 /// A length for a lent table, mostly enough.

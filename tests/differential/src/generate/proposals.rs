@@ -127,7 +127,7 @@ pub fn proposal(random: &mut Random, model: &Model, state: &State) -> Proposed {
 
 fn any_proposal(random: &mut Random, model: &Model, state: &State) -> Proposed {
     match random.below(10) {
-        0 | 1 => Proposed { action: None, locations: Vec::new(), values: changed_values(random, model, state) },
+        0 | 1 => Proposed { action: None, locations: Vec::new(), values: values_from_outside(random, model, state) },
         2 => Proposed {
             action: Some(random.below(model.actions as usize + 1) as u32),
             locations: any_state(random, model).locations,
@@ -150,6 +150,16 @@ fn changed_values(random: &mut Random, model: &Model, state: &State) -> Vec<i32>
         if let Some(value) = values.get_mut(k) {
             *value = value_in(random, model.ranges[k]);
         }
+    }
+    values
+}
+
+/// Values as the environment may propose them; mostly those of variables that belong to an automaton are kept.
+fn values_from_outside(random: &mut Random, model: &Model, state: &State) -> Vec<i32> {
+    let mut values = changed_values(random, model, state);
+    if random.percent(60) {
+        let owned = model.owned();
+        (0..values.len()).filter(|k| owned >> k & 1 == 1).for_each(|k| values[k] = state.values[k]);
     }
     values
 }

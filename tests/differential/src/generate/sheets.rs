@@ -1,4 +1,5 @@
 //! Sheets: small, middle, at a limit, and with faults.
+use super::owners::{misown, settle_owners};
 use super::predicates::*;
 use super::Random;
 use crate::reference::model::*;
@@ -21,7 +22,7 @@ struct Shape {
     inis: usize,
 }
 
-/// A sheet, mostly one that is accepted; half of them say behind each edge what it writes.
+/// A sheet, mostly one that is accepted; a third of them in each format.
 pub fn sheet(random: &mut Random) -> Model {
     let mut drawn = match random.below(20) {
         0..=6 => small(random),
@@ -36,6 +37,11 @@ pub fn sheet(random: &mut Random) -> Model {
         paste(random, &mut drawn);
     }
     drawn.format = 1 + random.below(HIGHEST_FORMAT as usize) as u32;
+    // Not before: who owns a variable depends on the edges.
+    drawn.owners = vec![None; drawn.ranges.len()];
+    if drawn.format >= OWNERS_FORMAT {
+        settle_owners(random, &mut drawn);
+    }
     drawn
 }
 
@@ -161,7 +167,7 @@ fn large(random: &mut Random) -> Model {
     let start = products(random, &Scope { ranges: &ranges, new: false });
     let tree = tree(random, 0, automata.len());
     let composition = if random.percent(50) { tree } else { with_ini(random, tree, start) };
-    Model { format: 1, actions: 1, ranges, automata, composition }
+    Model { format: 1, actions: 1, ranges, owners: Vec::new(), automata, composition }
 }
 
 /// A range with an end that is far from 0, perhaps on both sides of it.
@@ -194,7 +200,8 @@ fn equal_edges(random: &mut Random) -> Model {
     if random.percent(50) {
         composition = with_ini(random, composition, Predicate::Le(Expression::Old(0), Expression::Number(2)));
     }
-    Model { format: 1, actions: 1, ranges: vec![range; 1 + random.below(2)], automata, composition }
+    let ranges = vec![range; 1 + random.below(2)];
+    Model { format: 1, actions: 1, ranges, owners: Vec::new(), automata, composition }
 }
 
 fn model(random: &mut Random, shape: &Shape) -> Model {
@@ -215,7 +222,7 @@ fn model(random: &mut Random, shape: &Shape) -> Model {
         let start = start(random, &ranges, shape.depth);
         composition = with_ini(random, composition, start);
     }
-    Model { format: 1, actions: shape.actions as u32, ranges, automata, composition }
+    Model { format: 1, actions: shape.actions as u32, ranges, owners: Vec::new(), automata, composition }
 }
 
 fn range(random: &mut Random) -> Range {
@@ -453,7 +460,7 @@ fn pad_merged(model: &mut Model, nodes: usize) {
     *place = padding(size);
 }
 
-/// The model with faults of rows 3 to 16, as its text will have them: one or several.
+/// The model with faults of rows 3 to 16, 50 and 51, as its text will have them: one or several.
 pub fn faulty_sheet(random: &mut Random, model: &Model) -> Model {
     let mut faulty = model.clone();
     loop {
@@ -468,7 +475,7 @@ fn break_row(random: &mut Random, model: &mut Model) {
     let k = random.below(model.automata.len());
     let variables = model.ranges.len();
     let past = random.below(2);
-    match random.below(25) / 2 {
+    match random.below(29) / 2 {
         0 if variables > 0 => {
             let low = random.pick(&[1, 1_000_000_000, -1_000_000_001]);
             let high = random.pick(&[1, 0, -1_000_000_000, 1_000_000_001]);
@@ -498,8 +505,9 @@ fn break_row(random: &mut Random, model: &mut Model) {
             model.automata[k].edges.resize(count, edge);
         }
         9 => fill_tree(random, model, TREE_NODES + past),
+        12 | 13 if variables > 0 => misown(random, model),
         // Seldom: at the first line it hides the others.
-        12 => model.format = random.below(HIGHEST_FORMAT as usize + 2) as u32,
+        14 => model.format = random.below(HIGHEST_FORMAT as usize + 2) as u32,
         _ => {
             let action = random.pick(&[0, model.actions + 1, 63]);
             model.automata[k].sync.insert(action);

@@ -52,12 +52,13 @@ pub fn step_of(model: &Model, proposal: &Proposal, action: u32) -> u32 {
     }
 }
 
-/// The environment judge on a model.
+/// The environment judge on a model: what belongs to an automaton is not the environment's to change.
 pub fn environment_of(model: &Model, proposal: &Proposal) -> u32 {
     if let Some(row) = refusal(model, proposal) {
         return REFUSED + row;
     }
-    if started(model, proposal) && (0..model.automata.len()).all(|i| still(model, proposal, i)) {
+    let kept = changes(proposal) & model.owned() == 0;
+    if kept && started(model, proposal) && (0..model.automata.len()).all(|i| still(model, proposal, i)) {
         YES
     } else {
         NO

@@ -49,6 +49,9 @@ pub fn once(edges: &[Edge]) -> Vec<Edge> {
 /// The merged model with an edge for each choice of takers, in the paper's order.
 pub fn definition_4(model: &Model) -> Model {
     let pointers = model.automata.iter().map(|automaton| (0, automaton.locations.len() as i32 - 1));
+    let pointer_owner = (model.format >= OWNERS_FORMAT).then_some(0);
+    // Automaton 0 is the only one.
+    let owners = model.owners.iter().map(|owner| owner.map(|_| 0));
     let starts = model.composition.starts().into_iter().cloned().collect();
     let automaton = Automaton {
         sync: model.composition.sync(&model.automata),
@@ -62,6 +65,7 @@ pub fn definition_4(model: &Model) -> Model {
         format: model.format,
         actions: model.actions,
         ranges: model.ranges.iter().copied().chain(pointers).collect(),
+        owners: owners.chain(model.automata.iter().map(|_| pointer_owner)).collect(),
         automata: vec![automaton],
         composition: Composition::Leaf(0),
     }

@@ -7,7 +7,10 @@ pub const NODES: usize = 4_096;
 pub const DEPTH: usize = 24;
 pub const EDGES: usize = 512;
 pub const TREE_NODES: usize = 64;
-pub const HIGHEST_FORMAT: i64 = 2;
+pub const HIGHEST_FORMAT: i64 = 3;
+/// From here up the text says behind each edge what it writes; and from here up whom each variable belongs to.
+pub const LISTS_FORMAT: u32 = 2;
+pub const OWNERS_FORMAT: u32 = 3;
 pub const HIGHEST_ACTION: i64 = 63;
 pub const VARIABLES: i64 = 48;
 pub const AUTOMATA: i64 = 16;
@@ -21,6 +24,8 @@ pub const SPAN: i128 = 4_611_686_018_427_387_904;
 pub type ActionSet = BTreeSet<u32>;
 /// The least and the greatest value of a variable.
 pub type Range = (i32, i32);
+/// The automaton that a variable belongs to; none where the environment moves it.
+pub type Owner = Option<u32>;
 
 #[derive(Clone, Debug, PartialEq)]
 pub enum Predicate {
@@ -75,11 +80,12 @@ pub struct Automaton {
 
 #[derive(Clone, Debug, PartialEq)]
 pub struct Model {
-    /// From 2 up the text says behind each edge what it writes.
     pub format: u32,
     /// A: the actions are 0 (silent) and 1 to A.
     pub actions: u32,
     pub ranges: Vec<Range>,
+    /// One for each variable. Below format 3 there is none that has one.
+    pub owners: Vec<Owner>,
     pub automata: Vec<Automaton>,
     pub composition: Composition,
 }
@@ -330,5 +336,11 @@ impl Model {
 
     pub fn edges(&self) -> usize {
         self.automata.iter().map(|automaton| automaton.edges.len()).sum()
+    }
+
+    /// The variables that belong to some automaton, one bit each.
+    pub fn owned(&self) -> u64 {
+        let owned = self.owners.iter().enumerate().filter(|(_, owner)| owner.is_some());
+        owned.fold(0, |bits, (k, _)| bits | 1 << k)
     }
 }

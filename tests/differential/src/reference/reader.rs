@@ -12,7 +12,8 @@ pub fn read(text: &[u8], table_length: usize) -> Result<Model, Refusal> {
     if text.len() > TEXT_BYTES {
         return Err((1, 0));
     }
-    let mut sheet = Sheet { rest: text, line: 0, format: 0, actions: 0, ranges: Vec::new(), nodes: 0, edges: 0 };
+    let mut sheet =
+        Sheet { rest: text, line: 0, format: 0, actions: 0, ranges: Vec::new(), owners: Vec::new(), nodes: 0, edges: 0 };
     let model = sheet.model()?;
     sheet.end()?;
     Ok(model)
@@ -25,6 +26,7 @@ struct Sheet<'a> {
     format: u32,
     actions: u32,
     ranges: Vec<Range>,
+    owners: Vec<Owner>,
     nodes: usize,
     edges: usize,
 }
@@ -48,14 +50,18 @@ impl<'a> Sheet<'a> {
         for _ in 0..self.number("variables=", 0, VARIABLES)? {
             let range = self.range()?;
             self.ranges.push(range);
+            let owner = if self.format >= OWNERS_FORMAT { self.owner()? } else { None };
+            self.owners.push(owner);
         }
-        let count = self.number("automata=", 1, AUTOMATA)?;
+        let count = self.number("automata=", 1, AUTOMATA)? as u32;
+        self.require(self.owners.iter().flatten().all(|owner| *owner < count), 50)?;
         let mut automata = Vec::new();
-        for _ in 0..count {
-            automata.push(self.automaton()?);
+        for k in 0..count {
+            automata.push(self.automaton(k)?);
         }
         let composition = self.composition(automata.len())?;
-        Ok(Model { format: self.format, actions: self.actions, ranges: self.ranges.clone(), automata, composition })
+        let (ranges, owners) = (self.ranges.clone(), self.owners.clone());
+        Ok(Model { format: self.format, actions: self.actions, ranges, owners, automata, composition })
     }
 
     fn end(&mut self) -> Result<(), Refusal> {
@@ -102,7 +108,17 @@ impl<'a> Sheet<'a> {
         Ok((low as i32, high as i32))
     }
 
-    fn automaton(&mut self) -> Result<Automaton, Refusal> {
+    /// The line behind a variable.
+    fn owner(&mut self) -> Result<Owner, Refusal> {
+        let fields = self.fields("owner=", 1)?;
+        match fields[0] {
+            b"none" => Ok(None),
+            digits => self.in_range(digits, 0, AUTOMATA - 1).map(|owner| Some(owner as u32)),
+        }
+    }
+
+    /// Automaton `own`.
+    fn automaton(&mut self, own: u32) -> Result<Automaton, Refusal> {
         let sync = self.sync()?;
         let mut locations = Vec::new();
         for _ in 0..self.number("locations=", 1, LOCATIONS)? {
@@ -116,8 +132,8 @@ impl<'a> Sheet<'a> {
         let mut edges = Vec::new();
         for _ in 0..count {
             let edge = self.edge(locations.len())?;
-            if self.format >= 2 {
-                self.writes(&edge)?;
+            if self.format >= LISTS_FORMAT {
+                self.writes(&edge, own)?;
             }
             edges.push(edge);
         }
@@ -138,12 +154,14 @@ impl<'a> Sheet<'a> {
         }
     }
 
-    /// The line behind an edge. Nothing of it is kept: if no row refuses it, the edge says the same.
-    fn writes(&mut self, edge: &Edge) -> Result<(), Refusal> {
+    /// The line behind an edge of automaton `own`. Nothing of it is kept: if no row refuses it, the edge says the same.
+    fn writes(&mut self, edge: &Edge, own: u32) -> Result<(), Refusal> {
         let written = self.list("writes=", VARIABLES - 1)?;
         self.require(rises(&written), 5)?;
         self.require(written.iter().all(|k| (*k as usize) < self.ranges.len()), 7)?;
-        self.require(written == edge.writes(), 44)
+        self.require(written == edge.writes(), 44)?;
+        let may_write = |k: &u32| self.format < OWNERS_FORMAT || self.owners[*k as usize] == Some(own);
+        self.require(written.iter().all(may_write), 51)
     }
 
     fn state_predicate(&mut self, key: &str) -> Result<Predicate, Refusal> {

@@ -6,11 +6,11 @@ const KINDS: u32 = 16;
 /// From here up it is a number's instead: this and the number above the least one.
 const NUMBERS: u32 = 1 << 31;
 
-/// The table of a model: 16,384 words. What an edge writes has none; its update says it.
+/// The table of a model: 16,384 words. What an edge writes has none; its update says it. An owner has one in every format.
 pub fn table(model: &Model) -> Vec<u32> {
     let mut out = vec![model.format, model.actions, model.ranges.len() as u32];
-    for (low, high) in &model.ranges {
-        out.extend([biased(*low), biased(*high)]);
+    for ((low, high), owner) in model.ranges.iter().zip(&model.owners) {
+        out.extend([biased(*low), biased(*high), owner.map_or(0, |k| k + 1)]);
     }
     out.push(model.automata.len() as u32);
     for automaton in &model.automata {
@@ -158,7 +158,11 @@ impl Words<'_> {
         let format = self.up_to(HIGHEST_FORMAT)?;
         let actions = self.up_to(HIGHEST_ACTION)?;
         let variables = self.up_to(VARIABLES)?;
-        let ranges = (0..variables).map(|_| Some((self.bound()?, self.bound()?))).collect::<Option<_>>()?;
+        let (mut ranges, mut owners) = (Vec::new(), Vec::new());
+        for _ in 0..variables {
+            ranges.push((self.bound()?, self.bound()?));
+            owners.push(self.up_to(AUTOMATA)?.checked_sub(1));
+        }
         let count = self.up_to(AUTOMATA)?;
         let automata = (0..count).map(|_| self.automaton()).collect::<Option<_>>()?;
         let _nodes = self.next()?;
@@ -166,7 +170,7 @@ impl Words<'_> {
         let count = self.up_to(TREE_NODES as i64)?;
         let starts = (0..count).map(|_| self.counted()).collect::<Option<Vec<_>>>()?;
         composition.starts_mut().into_iter().zip(starts).for_each(|(place, start)| *place = start);
-        Some(Model { format, actions, ranges, automata, composition })
+        Some(Model { format, actions, ranges, owners, automata, composition })
     }
 
     fn bound(&mut self) -> Option<i32> {
@@ -268,7 +272,10 @@ pub fn within_limits(model: &Model) -> bool {
     model.format > 0
         && model.ranges.iter().all(|(low, high)| low <= high)
         && !model.automata.is_empty()
+        && model.owners.iter().flatten().all(|owner| (*owner as usize) < model.automata.len())
+        && (model.format >= OWNERS_FORMAT || model.owned() == 0)
         && model.automata.iter().all(|automaton| automaton_within(automaton, model))
+        && (model.format < OWNERS_FORMAT || (0..model.automata.len()).all(|k| writes_own(model, k)))
         && model.edges() <= EDGES
         && composition_within(&model.composition, model)
         && model.nodes() <= NODES
@@ -284,6 +291,12 @@ fn automaton_within(automaton: &Automaton, model: &Model) -> bool {
         && locations > 0
         && automaton.locations.iter().all(of_states)
         && automaton.edges.iter().all(edge_within)
+}
+
+/// Not row 51, for the edges of automaton `own`; all variables are declared.
+fn writes_own(model: &Model, own: usize) -> bool {
+    let mut written = model.automata[own].edges.iter().flat_map(Edge::writes);
+    written.all(|k| model.owners[k as usize] == Some(own as u32))
 }
 
 fn set_within(set: &ActionSet, model: &Model) -> bool {

@@ -8,8 +8,11 @@ pub fn write(model: &Model) -> Vec<u8> {
     line(out, format_args!("format={}", model.format));
     line(out, format_args!("actions={}", model.actions));
     line(out, format_args!("variables={}", model.ranges.len()));
-    for (low, high) in &model.ranges {
+    for ((low, high), owner) in model.ranges.iter().zip(&model.owners) {
         line(out, format_args!("variable={low},{high}"));
+        if model.format >= OWNERS_FORMAT {
+            line(out, format_args!("owner={}", owner.map_or("none".to_string(), |k| k.to_string())));
+        }
     }
     line(out, format_args!("automata={}", model.automata.len()));
     for automaton in &model.automata {
@@ -33,7 +36,7 @@ fn write_automaton(out: &mut String, automaton: &Automaton, format: u32) {
     line(out, format_args!("edges={}", automaton.edges.len()));
     for edge in &automaton.edges {
         line(out, format_args!("edge={},{},{},{}", edge.from, edge.action, edge.to, predicate(&edge.update)));
-        if format >= 2 {
+        if format >= LISTS_FORMAT {
             line(out, format_args!("writes={}", list(edge.writes().iter())));
         }
     }

@@ -4,20 +4,20 @@ use borrow.Author.Needs.{needs}
 use Rattle.merge_words.proofs.head.head.Statement.{statement}
 use Rattle.merge_words.proofs.head.head.Tie as tie
 
+word-requires : tie.Need-word-requires
+word-requires c κs = search needs
+
 pointer-requires : tie.Need-pointer-requires
 pointer-requires c κs = search needs
 
-numbers-requires : tie.Need-numbers-requires
-numbers-requires c κs = search needs
+three-requires : tie.Need-three-requires
+three-requires c κs = search needs
 
-range-at-requires : tie.Need-range-at-requires
-range-at-requires c κs = search needs
+variables-of-requires : tie.Need-variables-of-requires
+variables-of-requires c κs = search needs
 
-pointer-requires-2 : tie.Need-pointer-requires-2
-pointer-requires-2 c κs = search needs
-
-copy-requires : tie.Need-copy-requires
-copy-requires c κs = search needs
+variables-requires : tie.Need-variables-requires
+variables-requires c κs = search needs
 
 pointers-requires : tie.Need-pointers-requires
 pointers-requires c κs = search needs
@@ -32,11 +32,11 @@ pub head-spec : {M : Type 1} → statement M
 head-spec =
     tie.close
     (tie.spec
+    word-requires
     pointer-requires
-    numbers-requires
-    range-at-requires
-    pointer-requires-2
-    copy-requires
+    three-requires
+    variables-of-requires
+    variables-requires
     pointers-requires
     put-requires
     returns)

@@ -1,20 +1,26 @@
 -- `merge_words::head::pointers` meets its contract: what is done and what is left make up the whole. The measure is the automata left.
 use Rattle.merge_words.proofs.HeadLaws.{pointers-laws}
 use Rattle.merge_append.proofs.AppendLaws.{Underway}
-use Rattle.merge_words.specs.Head.{pointerRanges}
+use Rattle.merge_words.specs.Head.{pointersFrom}
 use Prim.Native.Nat.{_-_, _≤_}
 use borrow.Author.Needs.{needs}
 use Rattle.merge_words.proofs.head.pointers.Statement.{statement}
 use Rattle.merge_words.proofs.head.pointers.Tie as tie
 
 abbrev Inv-loop : tie.InvT-loop
-Inv-loop t out₀ at count places i₀ next₀ out i next = (count ≤ 16) × (i ≤ count) × Underway (pointerRanges t places 0 count) at out₀ (pointerRanges t places i (count - i)) next out
+Inv-loop t out₀ at count owner places i₀ next₀ out i next = (count ≤ 16) × (i ≤ count) × Underway (pointersFrom t places 0 count) at out₀ (pointersFrom t places i (count - i)) next out
 
 abbrev μ-loop : tie.MeasureT-loop
-μ-loop t out₀ at count places i₀ next₀ out i next = count - i
+μ-loop t out₀ at count owner places i₀ next₀ out i next = count - i
 
 automata-of-requires : tie.Need-automata-of-requires Inv-loop μ-loop
 automata-of-requires c κs = search needs
+
+word-requires : tie.Need-word-requires Inv-loop μ-loop
+word-requires c κs = search needs
+
+pointer-owner-requires : tie.Need-pointer-owner-requires Inv-loop μ-loop
+pointer-owner-requires c κs = search needs
 
 loop-holds : tie.Need-loop-holds Inv-loop μ-loop
 loop-holds c = search (needs, pointers-laws)
@@ -31,8 +37,11 @@ last-location-requires c κs = search needs
 upward-requires : tie.Need-upward-requires Inv-loop μ-loop
 upward-requires c κs = search needs
 
-range-requires : tie.Need-range-requires Inv-loop μ-loop
-range-requires c κs = search needs
+cast-three : tie.Need-cast-three Inv-loop μ-loop
+cast-three c = search needs
+
+three-requires : tie.Need-three-requires Inv-loop μ-loop
+three-requires c κs = search needs
 
 add-i : tie.Need-add-i Inv-loop μ-loop
 add-i c = search needs
@@ -53,12 +62,15 @@ pointers-spec =
     Inv-loop
     μ-loop
     automata-of-requires
+    word-requires
+    pointer-owner-requires
     loop-holds
     mul-place
     array-read-place
     last-location-requires
     upward-requires
-    range-requires
+    cast-three
+    three-requires
     add-i
     loop-less
     loop-again

@@ -14,6 +14,12 @@ cast-one-number c = search needs
 one-number-requires : tie.Need-one-number-requires
 one-number-requires c κs = search needs
 
+ranges-requires : tie.Need-ranges-requires
+ranges-requires c κs = search needs
+
+known-owners-requires : tie.Need-known-owners-requires
+known-owners-requires c κs = search needs
+
 counting-requires : tie.Need-counting-requires
 counting-requires c κs = search needs
 
@@ -23,4 +29,12 @@ returns c = search (needs, on-laws)
 
 pub automata-spec : {M : Type 1} → statement M
 automata-spec =
-    tie.close (tie.spec slice-aggregate-one-number cast-one-number one-number-requires counting-requires returns)
+    tie.close
+    (tie.spec
+    slice-aggregate-one-number
+    cast-one-number
+    one-number-requires
+    ranges-requires
+    known-owners-requires
+    counting-requires
+    returns)

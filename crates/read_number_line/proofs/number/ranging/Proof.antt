@@ -13,8 +13,8 @@ biased-requires c κs = search needs
 biased-requires-2 : tie.Need-biased-requires-2
 biased-requires-2 c κs = search needs
 
-append-two-requires : tie.Need-append-two-requires
-append-two-requires c κs = search needs
+append-variable-requires : tie.Need-append-variable-requires
+append-variable-requires c κs = search needs
 
 enum-known-bounds-2 : tie.Need-enum-known-bounds-2
 enum-known-bounds-2 c = search needs
@@ -32,7 +32,7 @@ ranging-spec =
     enum-known-bounds
     biased-requires
     biased-requires-2
-    append-two-requires
+    append-variable-requires
     enum-known-bounds-2
     returns
     returns-2)

@@ -13,6 +13,9 @@ after-requires-2 c κs = search needs
 add-t11 : tie.Need-add-t11
 add-t11 c = search needs
 
+owned-requires : tie.Need-owned-requires
+owned-requires c κs = search needs
+
 listed-requires : tie.Need-listed-requires
 listed-requires c κs = search needs
 
@@ -26,5 +29,6 @@ after-spec =
     after-requires
     after-requires-2
     add-t11
+    owned-requires
     listed-requires
     returns)

@@ -22,17 +22,23 @@ read-requires c κs = search needs
 enum-known-read : tie.Need-enum-known-read
 enum-known-read c = search needs
 
+returns : tie.Need-returns
+returns c = search (needs, list-laws)
+
 enum-told : tie.Need-enum-told
 enum-told c = search needs
+
+writes-others-requires : tie.Need-writes-others-requires
+writes-others-requires c κs = search needs
+
+returns-2 : tie.Need-returns-2
+returns-2 c = search (needs, list-laws)
 
 behind-requires : tie.Need-behind-requires
 behind-requires c κs = search needs
 
-returns : tie.Need-returns
-returns c = search (needs, list-laws)
-
-returns-2 : tie.Need-returns-2
-returns-2 c = search (needs, list-laws)
+returns-3 : tie.Need-returns-3
+returns-3 c = search (needs, list-laws)
 
 pub list-spec : {M : Type 1} → statement M
 list-spec =
@@ -44,7 +50,9 @@ list-spec =
     part-read-end
     read-requires
     enum-known-read
-    enum-told
-    behind-requires
     returns
-    returns-2)
+    enum-told
+    writes-others-requires
+    returns-2
+    behind-requires
+    returns-3)

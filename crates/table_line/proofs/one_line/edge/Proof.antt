@@ -58,6 +58,12 @@ add-predicate c = search needs
 predicate-requires : tie.Need-predicate-requires
 predicate-requires c κs = search needs
 
+add-owned : tie.Need-add-owned
+add-owned c = search needs
+
+owned-requires : tie.Need-owned-requires
+owned-requires c κs = search needs
+
 returns-4 : tie.Need-returns-4
 returns-4 c = search (needs, edge-laws)
 
@@ -83,4 +89,6 @@ edge-spec =
     returns-3
     add-predicate
     predicate-requires
+    add-owned
+    owned-requires
     returns-4)

@@ -31,8 +31,8 @@ variable-requires c κs = search needs
 enum-told-5 : tie.Need-enum-told-5
 enum-told-5 c = search needs
 
-number-requires-4 : tie.Need-number-requires-4
-number-requires-4 c κs = search needs
+automata-requires : tie.Need-automata-requires
+automata-requires c κs = search needs
 
 enum-told-6 : tie.Need-enum-told-6
 enum-told-6 c = search needs
@@ -43,8 +43,8 @@ sync-requires c κs = search needs
 enum-told-7 : tie.Need-enum-told-7
 enum-told-7 c = search needs
 
-number-requires-5 : tie.Need-number-requires-5
-number-requires-5 c κs = search needs
+number-requires-4 : tie.Need-number-requires-4
+number-requires-4 c κs = search needs
 
 enum-told-8 : tie.Need-enum-told-8
 enum-told-8 c = search needs
@@ -131,11 +131,11 @@ read-spec =
     enum-told-4
     variable-requires
     enum-told-5
-    number-requires-4
+    automata-requires
     enum-told-6
     sync-requires
     enum-told-7
-    number-requires-5
+    number-requires-4
     enum-told-8
     location-requires
     enum-told-9

@@ -7,8 +7,8 @@ use Rattle.table_line.proofs.one_line.variable.Tie as tie
 returns : tie.Need-returns
 returns c = search (needs, variable-laws)
 
-add-if2 : tie.Need-add-if2
-add-if2 c = search needs
+sub-if2 : tie.Need-sub-if2
+sub-if2 c = search needs
 
 returns-2 : tie.Need-returns-2
 returns-2 c = search (needs, variable-laws)
@@ -28,31 +28,47 @@ mul-high c = search needs
 shared-slice-read-high : tie.Need-shared-slice-read-high
 shared-slice-read-high c = search needs
 
+add-index : tie.Need-add-index
+add-index c = search needs
+
+mul-index : tie.Need-mul-index
+mul-index c = search needs
+
+shared-slice-read-index : tie.Need-shared-slice-read-index
+shared-slice-read-index c = search needs
+
+index-requires : tie.Need-index-requires
+index-requires c κs = search needs
+
+variable-sound-requires : tie.Need-variable-sound-requires
+variable-sound-requires c κs = search needs
+
+add-if-sound : tie.Need-add-if-sound
+add-if-sound c = search needs
+
+if-sound-requires : tie.Need-if-sound-requires
+if-sound-requires c κs = search needs
+
 returns-3 : tie.Need-returns-3
 returns-3 c = search (needs, variable-laws)
-
-returns-4 : tie.Need-returns-4
-returns-4 c = search (needs, variable-laws)
-
-add-t7 : tie.Need-add-t7
-add-t7 c = search needs
-
-returns-5 : tie.Need-returns-5
-returns-5 c = search (needs, variable-laws)
 
 pub variable-spec : {M : Type 1} → statement M
 variable-spec =
     tie.close
     (tie.spec
     returns
-    add-if2
+    sub-if2
     returns-2
     mul-low
     shared-slice-read-low
     add-high
     mul-high
     shared-slice-read-high
-    returns-3
-    returns-4
-    add-t7
-    returns-5)
+    add-index
+    mul-index
+    shared-slice-read-index
+    index-requires
+    variable-sound-requires
+    add-if-sound
+    if-sound-requires
+    returns-3)

@@ -13,8 +13,11 @@ step-requires-2 c κs = search needs
 step-requires-3 : tie.Need-step-requires-3
 step-requires-3 c κs = search needs
 
+step-requires-4 : tie.Need-step-requires-4
+step-requires-4 c κs = search needs
+
 returns : tie.Need-returns
 returns c = search (needs, part-laws)
 
 pub range-at-spec : {M : Type 1} → statement M
-range-at-spec = tie.close (tie.spec step-requires step-requires-2 step-requires-3 returns)
+range-at-spec = tie.close (tie.spec step-requires step-requires-2 step-requires-3 step-requires-4 returns)

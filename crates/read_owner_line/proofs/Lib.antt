@@ -1,0 +1,2 @@
+pub mod OwnerLaws
+pub mod Meaning
