@@ -1,4 +1,4 @@
--- Without its lists an accepted text of format 2 is that of the same sheet in format 1.
+-- Without its lists an accepted text of a format without owners is that of the same sheet in format 1.
 use Prim.Native.Nat.{ℕ, _<_}
 use mathlib.Core.Path.{_≡_, sym, ap, _∙_}
 use mathlib.Core.Bool.{false}
@@ -23,10 +23,9 @@ merged-unowned : (m : Model) → leb ownersFormat (m .format) ≡ false → leb 
 unfolding linear
 merged-unowned m h = h
 
-pub lists-dropped : (text : Bytes) (table : ℕ) (m : Model) → readAnswer text table ≡ accepted m → m .format ≡ 2 → ListsDropped text m
-lists-dropped text table m reads format =
+pub lists-dropped : (text : Bytes) (table : ℕ) (m : Model) → readAnswer text table ≡ accepted m → m .format < ownersFormat → ListsDropped text m
+lists-dropped text table m reads early =
     let r = reader-exact text table m .0 reads in
-    let early : m .format < ownersFormat = omega arith in
     let unowned : leb ownersFormat (m .format) ≡ false = lt-leb ownersFormat (m .format) early in
     let limited = limits-same 1 (omega arith) (omega arith) m early (r .1) in
     let same = linear-same 1 m (omega arith) early in

@@ -1,14 +1,14 @@
--- In an accepted text of format 2 the list behind an edge has exactly what the edge mentions.
+-- In an accepted text of a format with lists the list behind an edge has exactly what the edge mentions.
 use Prim.Native.Nat.{ℕ, _+_, _-_, _≤_}
 use mathlib.Core.Path.{_≡_, refl, sym, ap, _∙_}
 use mathlib.Core.Bool.{Bool, true, false, _&&_, _||_, and-false}
 use mathlib.Core.List.{[], _∷_, _++_, flatMap, List·Memᴰ}
 use native.Mathlib.Omega.{arith}
-use borrow.Author.Tests.{leb-true, leb-false}
+use borrow.Author.Tests.{leb-true, leb-false, le-leb}
 use lib.Dec.{leb}
 use lib.ListN.{length}
 use Rattle.model.specs.Basic.{exists, member, countUp}
-use Rattle.model.specs.Bounds.{maxVariables}
+use Rattle.model.specs.Bounds.{maxVariables, writesFormat}
 use Rattle.model.specs.Predicate.{words, mentions, written, namesOutside}
 use Rattle.model.specs.Model.{Edge, Automaton, Model}
 use Rattle.model.specs.Lines.{edgeLine, lines}
@@ -27,9 +27,9 @@ use Rattle.format.specs.Reader.{accepted, readAnswer}
 use Rattle.format.proofs.Given.{reader-exact}
 use Rattle.theorem_lists.specs.Lists.{ListsExact}
 
-list-behind : (e : Edge) → entryText 2 (edgeLine e) ≡ lineText (edgeLine e) ++ (writesKey ++ (textOfList (written (e .update)) ++ LF ∷ []))
+list-behind : (f : ℕ) → writesFormat ≤ f → (e : Edge) → entryText f (edgeLine e) ≡ lineText (edgeLine e) ++ (writesKey ++ (textOfList (written (e .update)) ++ LF ∷ []))
 unfolding entryText behind behindText
-list-behind e = refl
+list-behind f l e = rw (le-leb writesFormat f l, behind)
 
 -- an edge of the sheet
 module _ (m : Model) (lawful : Lawful m) (x : Automaton) (i : List·Memᴰ x (m .automata)) (e : Edge) (j : List·Memᴰ e (x .edges)) (k : ℕ) where
@@ -52,13 +52,13 @@ module _ (m : Model) (lawful : Lawful m) (x : Automaton) (i : List·Memᴰ x (m 
   unfolding written
   list-exact = member-keep (λ n. mentions n (e .update)) k (countUp 0 maxVariables) ∙ by-place (leb maxVariables k) refl
 
-pub lists-exact : (text : Bytes) (table : ℕ) (m : Model) → readAnswer text table ≡ accepted m → m .format ≡ 2 → ListsExact text m
+pub lists-exact : (text : Bytes) (table : ℕ) (m : Model) → readAnswer text table ≡ accepted m → writesFormat ≤ m .format → ListsExact text m
 unfolding textOf
-lists-exact text table m reads format =
+lists-exact text table m reads listed =
     let r = reader-exact text table m .0 reads in
     record {
-      spelled = r .2 ∙ ap (λ f. flatMap (entryText f) (lines m)) format;
-      behind = list-behind;
+      spelled = r .2;
+      behind = list-behind (m .format) listed;
       rises = λ e. written-ascends (e .update);
       exact = list-exact m (lawful-is m .0 (r .1));
     }

@@ -1,6 +1,6 @@
--- "Each edge says what it writes" (request (f)): in an accepted text of format 2 the list behind an edge has exactly
--- the variables whose new value the edge mentions, and without the lists the sheet is the same in format 1. The laws
--- lists-exact and lists-dropped say so of every accepted text of format 2.
+-- Lists behind edges (request (f)): in an accepted text the list behind an edge has exactly the variables whose new
+-- value the edge mentions, and without the lists the sheet is the same in format 1. The law lists-exact says the first
+-- of every format with lists, the law lists-dropped the second of every format without owners.
 use mathlib.Core.Path.{_≡_}
 use mathlib.Core.Bool.{Bool, true, false, not}
 use mathlib.Core.List.{[], _∷_, _++_, flatMap, List·Memᴰ}
@@ -24,8 +24,8 @@ use Rattle.format.specs.Reader.{linesOf, accepted, readAnswer}
 -- the text is that of the sheet's entries; behind an edge stands its list, which rises and has exactly what the edge
 -- mentions
 pub record ListsExact (text : Bytes) (m : Model) : Type 0 where
-  pub spelled : text ≡ flatMap (entryText 2) (lines m)
-  pub behind : (e : Edge) → entryText 2 (edgeLine e)
+  pub spelled : text ≡ flatMap (entryText (m .format)) (lines m)
+  pub behind : (e : Edge) → entryText (m .format) (edgeLine e)
       ≡ lineText (edgeLine e) ++ (writesKey ++ (textOfList (written (e .update)) ++ LF ∷ []))
   pub rises : (e : Edge) → ascends 0 (written (e .update)) ≡ true
   pub exact : (x : Automaton) → List·Memᴰ x (m .automata) → (e : Edge) → List·Memᴰ e (x .edges)
