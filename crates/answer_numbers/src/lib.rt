@@ -1,5 +1,7 @@
 // Answers as one number, for callers in C and Rust. Each part has its own bits; of a part that is larger the low bits
 // are taken, and no answer of this tool has such a part (the laws of exports).
+#![tactic(auto)]
+
 ghost use Rattle.std.specs.Prelude.{◌≡◌, ◌+◌, ◌*◌, ◌%◌, ◌^◌};
 ghost use Rattle.answer_numbers.specs.Told.{told_number, written_number, merged_number, ran_number, counted_number};
 

@@ -1,5 +1,7 @@
 // Numbers of expressions: steps on i64 that stop at the ends of its range, and tests. On checked expressions, which
 // keep to the span of row 10, no step comes that far (proofs/Intervals.antt).
+#![tactic(auto)]
+
 ghost use Rattle.std.specs.Prelude.{◌≡◌, cond, ◌&&◌, ◌+◌, leb, pos, ◌+ℤ◌, ◌-ℤ◌, ◌*ℤ◌, get_or};
 ghost use Rattle.std.specs.Int.Signed.{le_z};
 ghost use Rattle.model.specs.Basic.{eq_z};

@@ -1,6 +1,8 @@
 // Predicates and expressions worked out from their table words: one word a node, in prefix order.
 // Every call takes the count of nodes left, uses one for its own node and hands the rest on from operand to operand.
 // So on any words, whatever they are, no more nodes are read than were given.
+#![tactic(auto)]
+
 mod nodes;
 
 ghost use Rattle.std.specs.Prelude.{◌≡◌, true, false};

@@ -8,7 +8,7 @@ ghost use Rattle.arithmetic.specs.Cut.{cut};
 ghost use Rattle.evaluator.specs.Evaluate.{truth, valued};
 
 // What a predicate says.
-#[derive(Drop)]
+#[derive(Clone, Copy)]
 pub struct Truth {
     pub holds: bool,
     pub next: usize,
@@ -16,7 +16,7 @@ pub struct Truth {
 }
 
 // An expression's number.
-#[derive(Drop)]
+#[derive(Clone, Copy)]
 pub struct Value {
     pub number: i64,
     pub next: usize,
@@ -24,7 +24,7 @@ pub struct Value {
 }
 
 // What a row of operands says: whether all hold, whether any does.
-#[derive(Drop)]
+#[derive(Clone, Copy)]
 pub struct Gathered {
     pub all: bool,
     pub any: bool,
@@ -33,7 +33,7 @@ pub struct Gathered {
 }
 
 // The numbers of two expressions in a row.
-#[derive(Drop)]
+#[derive(Clone, Copy)]
 pub struct Pair {
     pub first: i64,
     pub second: i64,

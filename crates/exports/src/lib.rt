@@ -2,6 +2,8 @@
 // are a list of them.
 //
 // A slice is a pointer and a length there. Nothing is kept between calls.
+#![tactic(auto)]
+
 mod run;
 
 ghost use Rattle.std.specs.Prelude.{◌≡◌, length};

@@ -1,5 +1,7 @@
 // The judges: is a proposed step of the composition allowed? One by one, or a list of proposals over one check of the
 // table.
+#![tactic(auto)]
+
 ghost use Rattle.std.specs.Prelude.{◌≡◌, length};
 ghost use Rattle.model.specs.Table.{open_table};
 ghost use Rattle.judge.specs.RunAnswer.{run_answer, ran_of, answers_after, locations_after, values_after};
@@ -60,7 +62,7 @@ pub fn run(
 }
 
 // How many actions (the silent one not counted), variables and automata a table has; or the row that refuses it.
-#[derive(Drop)]
+#[derive(Clone, Copy)]
 pub enum Counted {
     Counts(usize, usize, usize),
     Refused(u32),

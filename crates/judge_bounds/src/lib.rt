@@ -1,6 +1,8 @@
 // Can the automata that take an action each choose one of their edges so that every changed variable is mentioned?
 // Where many edges could be chosen, counting is tried before the search (judge_cover): by parts of the variables that
 // no edge joins, and by weights of the variables. Why a count that falls short says no: proofs/BoundLaws.antt.
+#![tactic(auto)]
+
 mod balance;
 mod edges;
 mod parts;

@@ -13,14 +13,14 @@ use judge_cover::{mask_at, place};
 const ROUNDS: usize = 256;
 
 // The most that an edge covers, as a weight, and what that edge leaves.
-#[derive(Drop)]
+#[derive(Clone, Copy)]
 pub struct Choice {
     pub took: usize,
     pub rest: u64,
 }
 
 // What the best edges cover together, what there was, and what none of them mentions.
-#[derive(Drop)]
+#[derive(Clone, Copy)]
 pub struct Tally {
     pub total: usize,
     pub all: usize,

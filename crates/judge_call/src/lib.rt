@@ -1,5 +1,7 @@
 // One call of a judge: is a proposed step of the composition allowed? The judges know a checked table, and nothing of
 // how a text spells it.
+#![tactic(auto)]
+
 mod judgement;
 mod owners;
 mod taken;
@@ -12,7 +14,7 @@ pub use judgement::{environment_from, step_from};
 use model::Checked;
 
 // Yes is the environment judge's; the step judge says yes with the mark. Refused has the row.
-#[derive(Drop)]
+#[derive(Clone, Copy)]
 pub enum Answer {
     Yes,
     Marked(bool),

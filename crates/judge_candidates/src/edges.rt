@@ -6,7 +6,7 @@ ghost use Rattle.judge_candidates.specs.Walk.{automaton_on, leg_of, masks_after,
 use table_places::Layout;
 
 // What a step asks of an automaton's edge: from where it leads, its action, and where to.
-#[derive(Drop)]
+#[derive(Clone, Copy)]
 pub struct Leg {
     pub from: usize,
     pub action: usize,
@@ -14,7 +14,7 @@ pub struct Leg {
 }
 
 // Where the walk stands in the table, and how many masks it has stored.
-#[derive(Drop)]
+#[derive(Clone, Copy)]
 pub struct Reached {
     pub next: usize,
     pub count: usize,

@@ -32,9 +32,9 @@ odd_and x y =
     let e : bit_and x y % 2 ≡ min (x % 2) (y % 2) = omega (arith, and_step x y) in
     ap (λ n. eqb n 1) e ∙ least_digit (x % 2) (y % 2) (omega arith) (omega arith)
 
-pub bit_and : (a b k : ℕ) → bit (bit_and a b) k ≡ (bit a k && bit b k)
+pub bit_and_lem : (a b k : ℕ) → bit (bit_and a b) k ≡ (bit a k && bit b k)
 unfolding bit
-bit_and a b k = ap (λ n. eqb (n % 2) 1) (and_shr a b k) ∙ odd_and (a / 2 ^ k) (b / 2 ^ k)
+bit_and_lem a b k = ap (λ n. eqb (n % 2) 1) (and_shr a b k) ∙ odd_and (a / 2 ^ k) (b / 2 ^ k)
 
 -- numbers with the same bits are equal
 pub bit_next : (a k : ℕ) → bit a (suc k) ≡ bit (a / 2) k

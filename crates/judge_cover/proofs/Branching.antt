@@ -14,7 +14,7 @@ use Rattle.model.specs.Table.{bit}
 use Rattle.model.proofs.Tests.{and_intro, and_left, and_right, or_cases, not-true, exists_intro, exists_elim, exists_ext, both_ways}
 use Rattle.judge_cover.specs.Cover.{coverable, group, groups, within, left_by, dominated, skipped_at, worth}
 use Rattle.judge_cover.specs.Steps.{groups_from, others_at, through_at}
-use Rattle.judge_cover.proofs.BitLaws.{bit_and, no_bits}
+use Rattle.judge_cover.proofs.BitLaws.{bit_and_lem, no_bits}
 use Rattle.judge_cover.proofs.Counting.{count_at_lem, find, found}
 use Rattle.judge_cover.proofs.CoverLaws.{exists_none, front, within_is, is_within}
 
@@ -45,7 +45,7 @@ unnamed_uncovered G v zero a u b h = go (eqb u 0) refl
     go false e = e
     go true e = absurd (true≢false (sym b ∙ ap (λ x. bit x v) (eqb-true u 0 e) ∙ no_bits v))
 unnamed_uncovered G v (suc n) a u b h =
-    exists_ext _ (λ r. false) (G a) (λ r i. unnamed_uncovered G v n (suc a) (bit_and u r) (bit_and u r v ∙ and_intro b (spared r i (bit r v) refl))
+    exists_ext _ (λ r. false) (G a) (λ r i. unnamed_uncovered G v n (suc a) (bit_and u r) (bit_and_lem u r v ∙ and_intro b (spared r i (bit r v) refl))
     (λ k x y. h k (omega arith) (omega arith)))
     ∙ exists_none (G a)
   where
@@ -71,7 +71,7 @@ module _ (masks : List ℕ) (a b u v : ℕ) (uncovered : bit u v ≡ true) (P : 
 
   left_bit : (i : ℕ) → bit (left i) v ≡ bit (get_or masks i 0) v
   unfolding left_by
-  left_bit i = bit_and u (get_or masks i 0) v ∙ rw uncovered
+  left_bit i = bit_and_lem u (get_or masks i 0) v ∙ rw uncovered
 
   smaller_tries : (i j : ℕ) → within (left j) (left i) ≡ true → tries i ≡ true → tries j ≡ true
   smaller_tries i j w h =
@@ -85,7 +85,7 @@ module _ (masks : List ℕ) (a b u v : ℕ) (uncovered : bit u v ≡ true) (P : 
       clear false e = e
       clear true e =
           absurd (true≢false (sym (and_right (bit (left j) v) (bit (left i) v)
-          (sym (bit_and (left j) (left i) v) ∙ ap (λ x. bit x v) (within_is (left j) (left i) w) ∙ e)) ∙ none))
+          (sym (bit_and_lem (left j) (left i) v) ∙ ap (λ x. bit x v) (within_is (left j) (left i) w) ∙ e)) ∙ none))
 
   less : (w x : ℕ) → within w x ≡ true → not (within x w) ≡ true → w < x
   less w x p q =

@@ -19,7 +19,7 @@ use Rattle.model.specs.Table.{bit}
 use Rattle.model.proofs.Tests.{both_ways, eq_self, exists_elim, exists_map}
 use Rattle.judge_cover.specs.Cover.{within, left_by, dominated, skipped_at, worth, named_in, useful, past, all_filled, group}
 use Rattle.judge_cover.specs.Steps.{advanced, Without, CoversAtMost, PartOf, NextNamed}
-use Rattle.judge_cover.proofs.BitLaws.{bit_and, bit_next, bit_first, and_assoc, and_swap}
+use Rattle.judge_cover.proofs.BitLaws.{bit_and_lem, bit_next, bit_first, and_assoc, and_swap}
 use Rattle.judge_cover.proofs.Counting.{found}
 use Rattle.judge_cover.proofs.CoverLaws.{within_is, is_within}
 
@@ -321,7 +321,7 @@ pub chosen : (w u r : ℕ) → PartOf w u → (0 < w → bit w r ≡ true) → 0
 chosen w u r p f h = go (bit u r) refl
   where
     both : (bit w r && bit u r) ≡ true
-    both = sym (bit_and w u r) ∙ ap (λ x. bit x r) (within_is w u p.inside) ∙ f (p.some h)
+    both = sym (bit_and_lem w u r) ∙ ap (λ x. bit x r) (within_is w u p.inside) ∙ f (p.some h)
 
     go : (b : Bool) → bit u r ≡ b → b ≡ true
     go true e = refl

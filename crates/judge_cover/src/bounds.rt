@@ -7,7 +7,7 @@ use crate::edges::{self};
 use crate::places::{self};
 
 // For each group, how many variables of u an edge of it covers at most; and the sum of these.
-#[derive(Drop)]
+#[derive(Clone, Copy)]
 pub struct Bounds {
     pub gains: [usize; 16],
     pub total: usize,

@@ -6,7 +6,7 @@ ghost use Rattle.judge_cover.specs.Steps.{PartOf};
 
 // For each variable how many edges mention it: bit K of the six sets from `ones` up to `more` is that number for
 // variable K, less 64 as often as it came to 64; `over` has the variables for which it did.
-#[derive(Drop)]
+#[derive(Clone, Copy)]
 pub struct Tally {
     pub ones: u64,
     pub twos: u64,

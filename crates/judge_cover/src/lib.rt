@@ -1,6 +1,8 @@
 // Can the automata that take an action each choose one of their edges so that every changed variable is mentioned?
 // What is decided stands in specs/Cover.antt; why the search decides it, in proofs/CoverLaws.antt and
 // proofs/Branching.antt.
+#![tactic(auto)]
+
 mod bounds;
 mod choice;
 mod edges;

@@ -8,7 +8,7 @@ use crate::edges::{self};
 use crate::places::{self};
 
 // The place after a group's useful edges, how many variables an edge of it covers at most, and the total with that.
-#[derive(Drop)]
+#[derive(Clone, Copy)]
 pub struct Sifted {
     pub next: usize,
     pub most: usize,

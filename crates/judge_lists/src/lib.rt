@@ -1,4 +1,6 @@
 // The lists of a run: their lengths, and the memory lent for the state at its end.
+#![tactic(auto)]
+
 ghost use Rattle.std.specs.Prelude.{◌≡◌, ◌*◌, ◌<◌, pos, length, get_or, take, eqb};
 ghost use Rattle.table_places.specs.Layout.{automata_of, variables_of};
 ghost use Rattle.judge_lists.specs.Lists.{lists_fit, end_fits, placed};

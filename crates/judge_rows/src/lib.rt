@@ -1,5 +1,7 @@
 // Rows 20 to 24 of a call, over the words of a table and its layout; and the state that a call's lists make. What the
 // rules say of a state is above.
+#![tactic(auto)]
+
 mod call;
 mod fill;
 mod rows;
@@ -8,14 +10,14 @@ pub use call::{admit, begun, state_checked, values_checked};
 pub use rows::{action_known, phase_number};
 
 // Phase 0 is Start, phase 1 Running.
-#[derive(Drop)]
+#[derive(Clone, Copy)]
 pub enum Phase {
     Start,
     Running,
 }
 
 // The phase, each automaton's location and each variable's value; what the model has none of is 0.
-#[derive(Drop)]
+#[derive(Clone, Copy)]
 pub struct State {
     pub phase: Phase,
     pub locations: [u32; 16],
@@ -23,7 +25,7 @@ pub struct State {
 }
 
 // What the rows say of a call: it passes, in this phase; or the row that refuses it.
-#[derive(Drop)]
+#[derive(Clone, Copy)]
 pub enum Admitted {
     In(Phase),
     Out(u32),

@@ -1,5 +1,7 @@
 // A list of proposals over a table that is known to be good. `x` is the table's layout and `own` the automata's own
 // sets, found once for the list; and a state that a yes led to is not checked again.
+#![tactic(auto)]
+
 ghost use Rattle.std.specs.Prelude.{◌≡◌, ◌≤◌, true, length};
 ghost use Rattle.table_places.specs.Layout.{automata_of, variables_of};
 ghost use Rattle.judge_lists.specs.Lists.{end_fits};
@@ -12,7 +14,7 @@ use table_places::Layout;
 // The phase that a run ends in; or the row that refuses the table, the phase or the state that it starts from; or a
 // fault of the list: not one location for each automaton and one value for each variable at each proposal, no place
 // for each answer, no place for the state.
-#[derive(Drop)]
+#[derive(Clone, Copy)]
 pub enum Ran {
     Ended(Phase),
     Refused(u32),

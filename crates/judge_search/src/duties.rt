@@ -11,7 +11,7 @@ use table_tree::Found;
 const DUTIES: u64 = 1 << 62;
 
 // The step in question: its action, a bit for each automaton that keeps its location, and the variables that change.
-#[derive(Drop)]
+#[derive(Clone, Copy)]
 pub struct Step {
     pub action: u32,
     pub still: u32,

@@ -1,5 +1,7 @@
 // The search of the step judge for automata that can take a step. What it decides stands in specs/Search.antt, how it
 // is told in specs/Found.antt.
+#![tactic(auto)]
+
 mod duties;
 
 ghost use Rattle.std.specs.Prelude.{◌≡◌};

@@ -1,5 +1,7 @@
 // What holds of every automaton, whether it takes an edge or is still: its location's init (in phase Start) and inv.
 // And what holds of the composition, whoever takes an edge: the P of each `ini` (in phase Start).
+#![tactic(auto)]
+
 ghost use Rattle.std.specs.Prelude.{◌≡◌, get_or};
 ghost use Rattle.judge_settled.specs.Settled.{part_at, part_holds, location_holds, all_hold, starts_hold_at, started};
 ghost use Rattle.judge_settled.specs.Settled.{settled_at};
@@ -8,7 +10,7 @@ use judge_rows::{Phase, State};
 use table_places::Layout;
 
 // Which of a location's two predicates.
-#[derive(Drop)]
+#[derive(Clone, Copy)]
 pub enum Part {
     Init,
     Inv,

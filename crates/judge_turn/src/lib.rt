@@ -1,5 +1,7 @@
 // One proposal of a run: its answer, and the state after it. The state that the run is in has passed the rows; the
 // proposed one is checked.
+#![tactic(auto)]
+
 ghost use Rattle.std.specs.Prelude.{◌≡◌, eqb};
 ghost use Rattle.judge_turn.specs.Turns.{environment_mark, judged_on, proposed_on, moved_to, turn_on};
 
@@ -57,7 +59,7 @@ fn moved(answer: Answer, s: State, t: State) -> State
 }
 
 // One proposal: the number of its answer, and the state after it.
-#[derive(Drop)]
+#[derive(Clone, Copy)]
 pub struct Turn {
     pub number: u32,
     pub state: State,

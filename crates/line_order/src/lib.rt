@@ -1,5 +1,7 @@
 // What the reader of sheets (over the text's lines) and the check of tables (over words) share: which line is due, and
 // what has been counted so far.
+#![tactic(auto)]
+
 ghost use Rattle.std.specs.Prelude.{◌≡◌, ◌-◌};
 ghost use Rattle.line_order.specs.Due.{is_end, is_edge, is_variable, is_listed, is_owned, due_first, due_after};
 ghost use Rattle.line_order.specs.Due.{due_only, due_variables, due_automata, due_locations, due_edges};
@@ -19,7 +21,7 @@ pub fn capped(actions: usize) -> u32
 }
 
 // The key of the line that is due; End after the last line.
-#[derive(Drop)]
+#[derive(Clone, Copy)]
 pub enum Key {
     Format,
     Actions,
@@ -57,7 +59,7 @@ fn variable(key: Key) -> bool
 
 // The key that is due, the sheet's format (0 before its line), and what is still to come: variable lines; automata, the
 // one under way included; locations of this automaton, the one under way included; its edge lines.
-#[derive(Drop)]
+#[derive(Clone, Copy)]
 pub struct Due {
     pub key: Key,
     pub format: usize,
@@ -229,7 +231,7 @@ impl Due {
 
 // What has been read and counted: the format; the actions; the variable lines; the automata begun; the locations of the
 // automaton under way; the edge lines of all automata; the nodes of all predicates.
-#[derive(Drop)]
+#[derive(Clone, Copy)]
 pub struct Counts {
     pub format: usize,
     pub actions: usize,

@@ -1,6 +1,8 @@
 // A sheet text on standard input; on standard output the merged text, or the row and the line that refuse it.
 //
 // A program has no exit status of its own: where reading or writing fails, a line on standard error says so.
+#![tactic(auto)]
+
 ghost use Rattle.std.specs.Prelude.{◌≤◌, length};
 
 use libc::{STDERR_FILENO, STDIN_FILENO, STDOUT_FILENO};
@@ -9,7 +11,7 @@ use libc::{STDERR_FILENO, STDIN_FILENO, STDOUT_FILENO};
 const BYTES: usize = model::Model::BYTES + 1;
 
 // How many bytes were read, and whether a read failed.
-#[derive(Drop)]
+#[derive(Clone, Copy)]
 struct Input {
     length: usize,
     failed: bool,

@@ -1,5 +1,7 @@
 // Words at the end of the merged sheet's table: words of the model's table, and the nodes that merged predicates have
 // of their own.
+#![tactic(auto)]
+
 mod append;
 mod words;
 

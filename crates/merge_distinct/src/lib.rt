@@ -1,5 +1,7 @@
 // A sheet's words with each automaton's equal edges once, at the first one's place. Every function is total: on words
 // that are no sheet's it finds and copies what its definition says.
+#![tactic(auto)]
+
 mod copying;
 mod equality;
 mod firsts;

@@ -8,7 +8,7 @@ use crate::planning::{self};
 use table_tree::Found;
 
 // Which sides of a `par` take part, each with the number of its own move.
-#[derive(Drop)]
+#[derive(Clone, Copy)]
 pub enum Taking {
     Both(u32, u32),
     Left(u32),

@@ -9,7 +9,7 @@ use table_tree::Found;
 
 // Is the action in the set of a subtree, how many moves has it, where do its words end, and how many nodes are left
 // there?
-#[derive(Drop)]
+#[derive(Clone, Copy)]
 pub struct Planned {
     pub inside: bool,
     pub count: u32,

@@ -1,4 +1,6 @@
 // What the program prints: the merged text of a sheet text, or the line that says which row refuses it.
+#![tactic(auto)]
+
 ghost use Rattle.std.specs.Prelude.{◌≡◌, ◌%◌, ◌≤◌, length};
 ghost use Rattle.format.specs.Number.{decimal};
 ghost use Rattle.format.specs.Program.{refusal, program_output};
@@ -8,7 +10,7 @@ use merger::Outcome;
 use text_bytes::Written;
 
 // The first `length` bytes.
-#[derive(Drop)]
+#[derive(Clone, Copy)]
 pub struct Printed {
     pub bytes: [u8; 65536],
     pub length: usize,

@@ -9,7 +9,7 @@ use crate::starts::Starts;
 use node_words::Node;
 
 // How deep a node and its operands nest, and where the words after them begin.
-#[derive(Drop)]
+#[derive(Clone, Copy)]
 pub struct Depth {
     pub depth: usize,
     pub next: usize,

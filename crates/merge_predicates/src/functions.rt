@@ -12,7 +12,7 @@ const VALUES: usize = Model::AUTOMATA * Model::LOCATIONS;
 
 // Of each automaton its function from locations to initial predicates (fs), or to invariants (gs): how many locations
 // it has, and where the predicate of each stands, the automata's in a row; and how many locations all automata have.
-#[derive(Drop)]
+#[derive(Clone, Copy)]
 pub struct Functions {
     pub domains: [usize; Model::AUTOMATA],
     pub places: [usize; VALUES],

@@ -1,5 +1,7 @@
 // The merged init and the merged inv of Definition 4: the functions that they are made of, their words, how many nodes
 // they have, and how deep they nest. The merged init has the composition's own start conditions too.
+#![tactic(auto)]
+
 mod clauses;
 mod depth;
 mod functions;

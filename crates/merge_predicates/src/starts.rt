@@ -8,7 +8,7 @@ use model::Model;
 use table_places::Layout;
 
 // Where the first P stands, and how many there are.
-#[derive(Drop)]
+#[derive(Clone, Copy)]
 pub struct Starts {
     pub first: usize,
     pub count: usize,

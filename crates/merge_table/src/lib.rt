@@ -1,4 +1,6 @@
 // The linearization of a sheet, Definition 4 of source document 003, from a table to a table.
+#![tactic(auto)]
+
 ghost use Rattle.std.specs.Prelude.{◌≡◌};
 ghost use Rattle.merge_words.specs.Linearize.{linear_by};
 ghost use Rattle.merge_table.specs.Linearization.{distinct_table, linearization};

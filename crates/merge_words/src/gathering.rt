@@ -3,7 +3,7 @@ use crate::sync::Sets;
 use merge_predicates::{Functions, Starts};
 use table_places::Layout;
 
-#[derive(Drop)]
+#[derive(Clone, Copy)]
 pub struct Gathered {
     // #: a wild-card for each automaton: how many there are, and where each stands
     pub wildcards: Layout,

@@ -1,6 +1,8 @@
 // The merged sheet of Definition 4 of source document 003, from the words of a table to a table. What the definition
 // needs is gathered in the order in which it lists it, and the merged sheet is written from that. Every function is
 // total: on words that are no sheet's it gathers and writes what its definition says.
+#![tactic(auto)]
+
 mod gathering;
 mod head;
 mod rows;
@@ -16,7 +18,7 @@ use model::Model;
 pub use sync::Sets;
 
 // Row 0, the merged sheet's table and its count of edges; or the row that refuses, no edges and an empty table.
-#[derive(Drop)]
+#[derive(Clone, Copy)]
 pub struct Linearization {
     pub row: u32,
     pub edges: usize,

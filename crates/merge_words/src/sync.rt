@@ -7,7 +7,7 @@ use model::Model;
 use table_places::Layout;
 
 // Each automaton's own set, and the whole's in two words: actions 0 to 31, and 32 to 63.
-#[derive(Drop)]
+#[derive(Clone, Copy)]
 pub struct Sets {
     pub own: [u64; 16],
     pub low: u32,

@@ -1,4 +1,6 @@
 // The merger: from a table, or from a sheet text, to the text of the merged sheet.
+#![tactic(auto)]
+
 ghost use Rattle.std.specs.Prelude.{◌≡◌, length};
 ghost use Rattle.format.specs.Merger.{merge_answer, merge_after};
 ghost use Rattle.merger.specs.Answers.{mergeOf, reportedOf};
@@ -9,14 +11,14 @@ use reader::ReadAnswer;
 use write_words::WriteAnswer;
 
 // Merged has the length of the text and the count of its edges. Refused has the row.
-#[derive(Drop)]
+#[derive(Clone, Copy)]
 pub enum MergeAnswer {
     Merged(usize, usize),
     Refused(u32),
 }
 
 // The same from a text: Refused has the row and the line, which is 0 where the merger refuses.
-#[derive(Drop)]
+#[derive(Clone, Copy)]
 pub enum Outcome {
     Merged(usize, usize),
     Refused(u32, usize),

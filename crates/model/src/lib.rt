@@ -1,5 +1,7 @@
 // The vocabulary of the sheets: the limits that stand with their types, and what a check says. The definitions are in
 // specs/.
+#![tactic(auto)]
+
 
 // What a sheet says, within these limits (specs/Bounds.antt).
 #[derive(Drop)]
@@ -69,7 +71,7 @@ impl Model {
 }
 
 // What rows that are asked in their order say: no row refuses, or the first that does.
-#[derive(Drop)]
+#[derive(Clone, Copy)]
 pub enum Checked {
     Good,
     Refused(u32),

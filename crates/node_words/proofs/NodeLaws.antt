@@ -131,15 +131,15 @@ left_free but (t ∷ ts) x h = go (has_key but t) refl (left_free but ts x) h
     go true e ih g = ih g
     go false e ih g = here (eqb t x) refl e ih g
 
-has_key : (keys : List ℕ) (x : ℕ) → OneOf keys x → has_key keys x ≡ true
-has_key keys x o = go (has_key keys x) refl
+has_key_lem : (keys : List ℕ) (x : ℕ) → OneOf keys x → has_key keys x ≡ true
+has_key_lem keys x o = go (has_key keys x) refl
   where
     go : (b : Bool) → has_key keys x ≡ b → has_key keys x ≡ true
     go true e = e
     go false e = absurd (miss keys x (subst (λ (b : Bool). T (not b)) (sym e) tt) o)
 
 free : (but : List Node) (t : ℕ) → OneOf (others but) t → has_key (tags but) t ≡ false
-free but t o = left_free (tags but) (others []) t (has_key (others but) t o)
+free but t o = left_free (tags but) (others []) t (has_key_lem (others but) t o)
 
 pub by_others : (F : Node → Type 0) (but : List Node) (n : Node) → Other but n → Others F but → F n
 by_others F but (All k) o h = kept (tags but) 0 ((k : ℕ) → F (All k)) h.0 (free but 0 o) k

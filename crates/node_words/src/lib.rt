@@ -1,4 +1,6 @@
 // The words of predicate nodes (docs/TABLE.md): the one place that knows how a word holds a node.
+#![tactic(auto)]
+
 ghost use Rattle.std.specs.Prelude.{◌≡◌, ◌+◌, ◌*◌, ◌%◌, ◌<◌};
 ghost use Rattle.model.specs.Bounds.{first_number_word};
 ghost use Rattle.node_words.specs.Nodes.{node_of, word_for};
@@ -7,7 +9,7 @@ use model::Model;
 
 // A node with its argument: the operands of `all` and `any`, a number with the bias, the variable of `vK` and `nK`.
 // Stray: no node.
-#[derive(Drop)]
+#[derive(Clone, Copy)]
 pub enum Node {
     All(u32),
     Any(u32),

@@ -8,7 +8,7 @@ use crate::token::{self, Kind};
 
 // Whether the tokens make one tree, and of such a tree: whether its leaves are the automata in order, how many nodes it
 // has, and where its words end.
-#[derive(Drop)]
+#[derive(Clone, Copy)]
 pub struct Composition {
     pub formed: bool,
     pub ordered: bool,
@@ -18,7 +18,7 @@ pub struct Composition {
 
 // So far: how many subtrees are still to come, how many leaves there were and whether each was in order, how many
 // nodes, and where the next words go.
-#[derive(Drop)]
+#[derive(Clone, Copy)]
 pub struct Walk {
     pub owed: usize,
     pub leaves: usize,

@@ -9,7 +9,7 @@ use model::Model;
 use read_list::Asked;
 
 // The set is that of a sound and rising list; otherwise it says nothing.
-#[derive(Drop)]
+#[derive(Clone, Copy)]
 pub struct Listed {
     pub sound: bool,
     pub rising: bool,

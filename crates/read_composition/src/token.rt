@@ -9,7 +9,7 @@ use crate::list::list_of;
 use text_numbers::Natural;
 
 // `Syn` is the word, and `Set` the list after it, as its set. `Ini` is the word without its P.
-#[derive(Drop)]
+#[derive(Clone, Copy)]
 pub enum Kind {
     Par,
     Syn,

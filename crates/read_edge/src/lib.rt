@@ -1,4 +1,6 @@
 // An edge's FROM, ACT and TO: row 3 of each, and row 12.
+#![tactic(auto)]
+
 ghost use Rattle.std.specs.Prelude.{◌≡◌};
 ghost use Rattle.read_edge.specs.Edge.{ends_in, astray};
 
@@ -8,7 +10,7 @@ use read_form::field;
 use text_numbers::Natural;
 
 // FROM, ACT and TO, or that one of them is no number in its range.
-#[derive(Drop)]
+#[derive(Clone, Copy)]
 pub enum Ends {
     Are(u32, u32, u32),
     Unsound,

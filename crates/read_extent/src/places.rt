@@ -5,7 +5,7 @@ ghost use Rattle.read_extent.specs.Extent.{after_start, next_start};
 use crate::calls::{self};
 
 // Where the P after an `ini` begins, if there is one.
-#[derive(Drop)]
+#[derive(Clone, Copy)]
 pub enum Start {
     At(usize),
     Nothing,

@@ -1,12 +1,14 @@
 // The form of a line: what stands after its key, its fields, and row 2: is this the line that is due, with its fields,
 // in printable bytes, up to an LF? And what reading a line answers.
+#![tactic(auto)]
+
 ghost use Rattle.std.specs.Prelude.{◌≡◌};
 ghost use Rattle.read_form.specs.Form.{value_after, field_in, misparted, misformed};
 
 // Sound: the line's number if it counts something or is the format's, and of an edge the set of the variables whose
 // new value it does not mention; the nodes of its predicate; and the place of the next word. Fault: the smallest row
 // that it breaks.
-#[derive(Drop)]
+#[derive(Clone, Copy)]
 pub enum LineRead {
     Sound(usize, usize, usize),
     Fault(u32),

@@ -1,5 +1,7 @@
 // One line of the sheet text: which row it breaks, or what it says, with its words put into the table that is being
 // read.
+#![tactic(auto)]
+
 ghost use Rattle.std.specs.Prelude.{◌≡◌, length};
 ghost use Rattle.read_line.specs.Line.{line_with, line_with_after, line_read, line_after};
 

@@ -1,5 +1,7 @@
 // A list of numbers with commas: whether they are sound (row 3), rise (row 5), and all lie below a bound, and what is
 // left of a set without them.
+#![tactic(auto)]
+
 ghost use Rattle.std.specs.Prelude.{◌≡◌};
 ghost use Rattle.format.specs.Bytes.{parts, comma};
 ghost use Rattle.format.specs.Rows.{list_items};
@@ -9,7 +11,7 @@ use text_numbers::Natural;
 
 // What is asked of a list: the greatest number that there is, the least that it may begin with, the bound, and the set
 // that its numbers are taken out of.
-#[derive(Drop)]
+#[derive(Clone, Copy)]
 pub struct Asked {
     pub most: u32,
     pub least: usize,
@@ -18,7 +20,7 @@ pub struct Asked {
 }
 
 // `rest` is what is left of the set. Where the list is not sound, the others say nothing.
-#[derive(Drop)]
+#[derive(Clone, Copy)]
 pub struct Listed {
     pub sound: bool,
     pub rising: bool,
@@ -28,7 +30,7 @@ pub struct Listed {
 
 // Of the numbers so far: the least that may follow, whether they rise, whether one is not below the bound, and what is
 // left of the set.
-#[derive(Drop)]
+#[derive(Clone, Copy)]
 pub struct Items {
     pub least: usize,
     pub rising: bool,

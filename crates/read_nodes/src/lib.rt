@@ -1,5 +1,7 @@
 // A predicate P from its bytes to node words, with every row that P can break: 3 and 6 to 11. P stands alone here: no
 // line, no key and no table is known but the words of the variables' ranges.
+#![tactic(auto)]
+
 ghost use Rattle.std.specs.Prelude.{◌≡◌, length, take};
 ghost use Rattle.read_predicate.specs.Scratch.{Scratch};
 ghost use Rattle.read_nodes.specs.Nodes.{told, extent_fault, judged_in, nodes_read, nodes_after};
@@ -9,7 +11,7 @@ use read_words::Words;
 
 // Are: so many nodes, which stand at the front of the lent memory. Unsound: the smallest row that P breaks. Full: P has
 // more words than there are places, and what it breaks is not known.
-#[derive(Drop)]
+#[derive(Clone, Copy)]
 pub enum Nodes {
     Are(usize),
     Unsound(u32),

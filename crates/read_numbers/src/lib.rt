@@ -1,4 +1,6 @@
 // The numbers of a line: one number that counts something or is the format's, and the two ends of a variable's range.
+#![tactic(auto)]
+
 mod number;
 mod range;
 

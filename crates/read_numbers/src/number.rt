@@ -6,7 +6,7 @@ use model::Model;
 use text_numbers::Natural;
 
 // The line's number, or the smallest row that it breaks.
-#[derive(Drop)]
+#[derive(Clone, Copy)]
 pub enum Count {
     Is(u32),
     Unsound(u32),

@@ -9,7 +9,7 @@ use read_form::field;
 use text_numbers::Integer;
 
 // A range's ends, or the smallest row that the line breaks.
-#[derive(Drop)]
+#[derive(Clone, Copy)]
 pub enum Bounds {
     Are(i32, i32),
     Unsound(u32),

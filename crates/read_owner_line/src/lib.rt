@@ -1,4 +1,6 @@
 // The line `owner=none` or `owner=K` behind a variable: the owner's word, or the row that the line breaks.
+#![tactic(auto)]
+
 ghost use Rattle.std.specs.Prelude.{◌≡◌};
 ghost use Rattle.read_owner_line.specs.Owner.{owner_in, owner_read};
 
@@ -6,7 +8,7 @@ use model::Model;
 use text_numbers::Natural;
 
 // Sound has the owner's word: 0 for nobody, K + 1 for automaton K. Fault has the smallest row that the line breaks.
-#[derive(Drop)]
+#[derive(Clone, Copy)]
 pub enum OwnerRead {
     Sound(u32),
     Fault(u32),

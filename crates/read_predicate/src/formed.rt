@@ -11,14 +11,14 @@ ghost use Rattle.read_predicate.specs.Scratch.{Scratch};
 use node_words::Node;
 
 // What a word takes off and puts on: so many predicates, then so many expressions; is it a predicate itself?
-#[derive(Drop)]
+#[derive(Clone, Copy)]
 pub enum Arity {
     Takes(usize, usize, bool),
     Stray,
 }
 
 // How many sorts the stack has, or that the words make no predicate.
-#[derive(Drop)]
+#[derive(Clone, Copy)]
 pub enum Height {
     Of(usize),
     Off,

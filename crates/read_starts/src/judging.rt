@@ -10,7 +10,7 @@ use read_nodes::Nodes;
 
 // The smallest row that a P breaks, or 0; how many nodes they have, and how many they are, as far as a tree can have so
 // many.
-#[derive(Drop)]
+#[derive(Clone, Copy)]
 pub struct Judged {
     pub row: u32,
     pub nodes: usize,

@@ -1,4 +1,6 @@
 // Tokens: which bytes of one are judged as a number, and row 3 over all tokens of a predicate or a composition.
+#![tactic(auto)]
+
 mod numbers;
 mod tokens;
 

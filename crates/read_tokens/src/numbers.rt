@@ -12,7 +12,7 @@ use model::Model;
 
 // How the token before makes a number be judged: as an operand count, as a list of actions, or by the number's own
 // letter.
-#[derive(Drop)]
+#[derive(Clone, Copy)]
 pub enum Before {
     Count,
     Items,

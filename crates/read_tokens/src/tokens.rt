@@ -7,7 +7,7 @@ ghost use Rattle.read_tokens.specs.Shape.{letter, shape_of};
 use model::Model;
 
 // All of it, what follows its letter, or none.
-#[derive(Drop)]
+#[derive(Clone, Copy)]
 pub enum Shape {
     Bare,
     Lettered(u8),

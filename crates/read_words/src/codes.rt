@@ -12,7 +12,7 @@ use node_words::Node;
 use read_tokens::{Shape, numeral};
 
 // The words that have a number of their own: K of `all`, `any`, `vK` and `nK`.
-#[derive(Drop)]
+#[derive(Clone, Copy)]
 pub enum Numbered {
     All,
     Any,

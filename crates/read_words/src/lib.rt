@@ -1,4 +1,6 @@
 // The words that the tokens of a predicate spell, as codes: the words of nodes.
+#![tactic(auto)]
+
 mod codes;
 mod reading;
 

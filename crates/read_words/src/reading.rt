@@ -5,7 +5,7 @@ ghost use Rattle.read_words.specs.Read.{is_word, due_after, code_as, Reads};
 use crate::codes::{self, Numbered};
 
 // What the next token is read as: a word, or the K after `all` or `any`.
-#[derive(Drop)]
+#[derive(Clone, Copy)]
 pub enum Due {
     Word,
     AllCount,
@@ -13,7 +13,7 @@ pub enum Due {
 }
 
 // Read has the number of words. Stray: a token spells no word. Full: there is no room for the next.
-#[derive(Drop)]
+#[derive(Clone, Copy)]
 pub enum Words {
     Read(usize),
     Stray,

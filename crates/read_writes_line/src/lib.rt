@@ -1,5 +1,7 @@
 // The line `writes=LIST` behind an edge: the row that it breaks, if any. It has no words in the table, for the edge
 // says the same.
+#![tactic(auto)]
+
 ghost use Rattle.std.specs.Prelude.{◌≡◌};
 ghost use Rattle.read_writes_line.specs.Writes.{asked_of, list_row, told, writes_row};
 
@@ -7,7 +9,7 @@ use model::Model;
 use read_list::{Asked, Listed};
 
 // Fault has the smallest row that the line breaks.
-#[derive(Drop)]
+#[derive(Clone, Copy)]
 pub enum WritesRead {
     Sound,
     Fault(u32),

@@ -1,4 +1,6 @@
 // The sheet text: read into a table, and written from one.
+#![tactic(auto)]
+
 mod sheet;
 mod store;
 
@@ -10,7 +12,7 @@ use model::Model;
 pub use writer::{WriteAnswer, write};
 
 // Refused has the row and the line; the line is 0 where the row is 18 or 1.
-#[derive(Drop)]
+#[derive(Clone, Copy)]
 pub enum ReadAnswer {
     Accepted,
     Refused(u32, usize),
@@ -20,7 +22,7 @@ pub enum ReadAnswer {
 // in the table and of the next byte in the text. Where `owner` says so, the owner behind the line before is due first.
 // Where `list` does, the list behind it is, and `rest` is the number that was told of that line: the variables that
 // the edge does not mention.
-#[derive(Drop)]
+#[derive(Clone, Copy)]
 pub struct Place {
     pub due: line_order::Due,
     pub counts: line_order::Counts,
@@ -32,7 +34,7 @@ pub struct Place {
 }
 
 // After a round: the answer, or where to read on.
-#[derive(Drop)]
+#[derive(Clone, Copy)]
 pub enum Round {
     Done(ReadAnswer),
     On(Place),

@@ -1,4 +1,6 @@
 // Words at the end of a table that is being filled. What finds no room is left out.
+#![tactic(auto)]
+
 ghost use Rattle.std.specs.Prelude.{◌≡◌, [], ◌∷◌, length, take};
 ghost use Rattle.table_append.specs.Append.{next_place, put};
 

@@ -1,4 +1,6 @@
 // Is this table one that an accepted text gives? Rows 18 and 19.
+#![tactic(auto)]
+
 mod sheet;
 
 ghost use Rattle.std.specs.Prelude.{◌≡◌};
@@ -9,7 +11,7 @@ use line_order::{Counts, Due};
 use model::{Checked, Model};
 
 // Where a scan over the lines stands: what is due, what was counted, and the index of the next word.
-#[derive(Drop)]
+#[derive(Clone, Copy)]
 pub struct Scan {
     pub due: Due,
     pub counts: Counts,

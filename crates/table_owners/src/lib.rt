@@ -1,5 +1,7 @@
 // Who owns the variables, from the words of variables: three words each, of which the last is 0 for nobody and K + 1
 // for automaton K. Rows 50 and 51.
+#![tactic(auto)]
+
 ghost use Rattle.std.specs.Prelude.{◌≡◌};
 ghost use Rattle.table_owners.specs.Owners.{owner_in, is_beyond_at, beyond_in, is_foreign_at, foreign_in};
 

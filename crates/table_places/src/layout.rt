@@ -6,7 +6,7 @@ use model::Model;
 
 // A, V and N; where each automaton's set stands, and where its number of edges does, the table's end for one that there
 // is not; where the tree stands, its number of nodes first.
-#[derive(Drop)]
+#[derive(Clone, Copy)]
 pub struct Layout {
     pub actions: usize,
     pub variables: usize,

@@ -1,5 +1,7 @@
 // Where the parts of a sheet stand in a table. Any words will do: from a place within the table no answer is past its
 // end.
+#![tactic(auto)]
+
 mod layout;
 mod own;
 mod parts;

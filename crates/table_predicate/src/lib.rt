@@ -1,5 +1,7 @@
 // The node words of one predicate: one word a node, in prefix order. The walk says whether a predicate stands there,
 // and where rows 9 and 10 are broken; the scans (scan.rt) are for rows 3, 7 and 8. All are total on any words.
+#![tactic(auto)]
+
 ghost use Rattle.std.specs.Prelude.{◌≡◌, pos, get_or};
 ghost use Rattle.model.specs.Predicate.{range, hull, times};
 ghost use Rattle.model.specs.Table.{unbiased};
@@ -11,7 +13,7 @@ use node_words::Node;
 pub mod scan;
 
 // How far a walk came.
-#[derive(Drop)]
+#[derive(Clone, Copy)]
 pub struct Walked {
     // What was walked is made of whole predicates and expressions, nested at most as deep as they may. Where it is not,
     // the walk ended.
@@ -25,14 +27,14 @@ pub struct Walked {
 }
 
 // A walk that has entered a node, and the node.
-#[derive(Drop)]
+#[derive(Clone, Copy)]
 pub struct Entered {
     pub walk: Walked,
     pub node: Node,
 }
 
 // A walk that is past an expression, and the expression's interval, cut to what an i64 holds.
-#[derive(Drop)]
+#[derive(Clone, Copy)]
 pub struct Reach {
     pub walk: Walked,
     pub low: i64,

@@ -11,7 +11,7 @@ use model::Model;
 use node_words::Node;
 
 // What a word can fail by.
-#[derive(Drop)]
+#[derive(Clone, Copy)]
 pub enum Test {
     // It names a variable that is not among so many.
     Outside(usize),

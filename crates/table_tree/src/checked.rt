@@ -7,14 +7,14 @@ use crate::nodes::{self, Found};
 use crate::sets::{self};
 
 // Sound has the place after the tree's nodes, and how many of them are `ini`.
-#[derive(Drop)]
+#[derive(Clone, Copy)]
 pub enum TreeCheck {
     Sound(usize, usize),
     Bad,
 }
 
 // After a node: the place, how many subtrees are owed, and how many leaves and `ini` there were.
-#[derive(Drop)]
+#[derive(Clone, Copy)]
 enum Step {
     On(usize, usize, usize, usize),
     Off,

@@ -2,6 +2,8 @@
 // is 1 and then its set in two words; leaf K is 2 + K. An `ini` is a `syn` whose set is empty: its P stands behind the
 // tree, and only the check asks how many there are. Every function is total: on words that are no tree it says so, or
 // stops.
+#![tactic(auto)]
+
 mod checked;
 mod members;
 mod nodes;

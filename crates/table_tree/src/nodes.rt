@@ -4,7 +4,7 @@ ghost use Rattle.model.specs.Bounds.{max_tree_nodes};
 ghost use Rattle.table_tree.specs.Nodes.{node_at, after, owing, skip_from};
 
 // The node at a place, and where the words after it begin; or that none stands there. A `syn` has its set's two words.
-#[derive(Drop)]
+#[derive(Clone, Copy)]
 pub enum Found {
     Par(usize),
     Syn(u32, u32, usize),

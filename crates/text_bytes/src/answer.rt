@@ -1,7 +1,7 @@
 // What the functions answer.
 
 // Where the bytes that were written end, or that there is no room for them.
-#[derive(Drop)]
+#[derive(Clone, Copy)]
 pub enum Written {
     To(usize),
     Full,

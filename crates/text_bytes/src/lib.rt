@@ -1,4 +1,6 @@
 // The leaf functions of the sheet reader and writer, over byte slices: finding, comparing, writing.
+#![tactic(auto)]
+
 mod answer;
 mod bytes;
 mod place;

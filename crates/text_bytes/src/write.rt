@@ -24,7 +24,7 @@ pub fn copy(s: &[u8], out: &mut [u8], at: usize) -> Written
 }
 
 // A number's bytes: the last of the eleven, from a place on.
-#[derive(Drop)]
+#[derive(Clone, Copy)]
 pub struct Spelled {
     pub bytes: [u8; 11],
     pub from: usize,

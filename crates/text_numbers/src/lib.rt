@@ -1,4 +1,6 @@
 // Numbers in a text: one spelling each, and in a range.
+#![tactic(auto)]
+
 mod answer;
 mod number;
 

@@ -1,1 +1,3 @@
 // No code: a statement about what the merger gathers, and its proof.
+#![tactic(auto)]
+

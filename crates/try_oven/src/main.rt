@@ -1,4 +1,6 @@
 // The oven's cases, put to the judges: each case is one line, the call and the answer.
+#![tactic(auto)]
+
 mod ask;
 mod oven;
 mod sheets;

@@ -46,7 +46,7 @@ pub(crate) fn biased(word: u32, out: &mut [u8], at: Written) -> Written
 }
 
 // A part of a row of bytes.
-#[derive(Drop)]
+#[derive(Clone, Copy)]
 pub struct Part {
     pub from: usize,
     pub to: usize,

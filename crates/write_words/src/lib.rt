@@ -1,4 +1,6 @@
 // The text that a table's words spell, whatever words they are: the table is not checked.
+#![tactic(auto)]
+
 mod growing;
 mod line;
 mod owner;
@@ -15,7 +17,7 @@ ghost use Rattle.write_words.specs.Answer.{Answered, words_answer};
 use text_bytes::Written;
 
 // Refused has the row. Written has the length of the text.
-#[derive(Drop)]
+#[derive(Clone, Copy)]
 pub enum WriteAnswer {
     Written(usize),
     Refused(u32),

@@ -55,7 +55,7 @@ fn tree(ws: &[u32], out: &mut [u8], at: Written) -> Written
 }
 
 // What a line's value is, by its key.
-#[derive(Drop)]
+#[derive(Clone, Copy)]
 pub enum Shape {
     Number,
     Range,

@@ -1,4 +1,6 @@
 // The writer of sheets: from a table to the text.
+#![tactic(auto)]
+
 ghost use Rattle.std.specs.Prelude.{length};
 ghost use Rattle.format.specs.Writer.{write_answer};
 ghost use Rattle.write_words.specs.Answer.{Answered};
