@@ -1,0 +1,25 @@
+-- `judge_cover::covered` meets its contract.
+use Rattle.model.proofs.Tests.{not-false}
+use Rattle.judge_cover.proofs.PlaceLaws.{laid_in, laid_low}
+use Rattle.judge_cover.proofs.SeekLaws.{covered_laws}
+use borrow.Author.Rules.{rules}
+use Rattle.judge_cover.proofs.covered.Goals as goal
+
+pub returns-then-not-all_filled : goal.returns-then-not-all_filled
+returns-then-not-all_filled c = search (rules, covered_laws)
+
+pub returns-then-not-laid : goal.returns-then-not-laid
+returns-then-not-laid c = search (rules, covered_laws)
+
+pub seek-requires : goal.seek-requires
+seek-requires c = let row = c.laid.ensures (not-false _ c.if-not-laid.false) in
+    let filled = not-false _ c.if-not-all_filled.false in (
+      c.groups-n.ensures.0,
+      (
+        laid_in _ _ _ _ _ c.all_filled.ensures filled row,
+        (laid_low _ _ _ _ _ c.all_filled.ensures filled row, c.find-b.ensures.0),
+      ),
+    )
+
+pub returns : goal.returns
+returns c = search (rules, covered_laws)

@@ -1,0 +1,73 @@
+-- The three functions of the walk call each other, and meet their contracts together. The measure: twice the depth left, and
+-- one more for a row of operands, which passes its own on to each of them. Each way out of a function is one step of the definition.
+use borrow.Author.Rules.{rules}
+use mathlib.Core.Path.{◌≡◌, sym, ◌∙◌}
+use Rattle.model.proofs.Tests.{not-true}
+use Rattle.table_predicate.specs.Walk.{predicate_at, gather}
+use Rattle.table_predicate.proofs.Steps.{predicate_laws, expression_laws, gather_more, gather_ended}
+use Rattle.table_predicate.proofs.+expression_operands_predicate.Goals as goal
+
+abbrev operands-Inv-loop : operands-lts.invariant-loop
+operands-Inv-loop words count left ranges rest₀ reach₀ rest reach =
+    gather (predicate_at words ranges left) rest reach ≡ gather (predicate_at words ranges left) count reach₀
+
+abbrev operands-μ-loop : operands-lts.decreases-loop
+operands-μ-loop words count left ranges rest₀ reach₀ rest reach = rest
+
+pub expression-returns-then-left-eq0 : goal.expression-returns-then-left-eq0
+expression-returns-then-left-eq0 t c = search (rules, expression_laws)
+
+pub expression-returns-in-Number : goal.expression-returns-in-Number
+expression-returns-in-Number t c = search (rules, expression_laws)
+
+pub expression-returns-in-Old : goal.expression-returns-in-Old
+expression-returns-in-Old t c = search (rules, expression_laws)
+
+pub expression-returns-in-New : goal.expression-returns-in-New
+expression-returns-in-New t c = search (rules, expression_laws)
+
+pub expression-returns-in-Add : goal.expression-returns-in-Add
+expression-returns-in-Add t c = search (rules, expression_laws)
+
+pub expression-returns-in-Sub : goal.expression-returns-in-Sub
+expression-returns-in-Sub t c = search (rules, expression_laws)
+
+pub expression-returns-in-Mul : goal.expression-returns-in-Mul
+expression-returns-in-Mul t c = search (rules, expression_laws)
+
+pub expression-returns-in-If : goal.expression-returns-in-If
+expression-returns-in-If t c = search (rules, expression_laws)
+
+pub expression-returns-in_default : goal.expression-returns-in_default
+expression-returns-in_default t c = search (rules, expression_laws)
+
+pub operands-returns-then-not-reach : goal.operands-returns-then-not-reach
+operands-returns-then-not-reach t c = sym (gather_ended _ _ _ _ _ (not-true _ c.if-not-reach.true)) ∙ c.loop-rest.invariant
+
+pub operands-loop-rest-preserved : goal.operands-loop-rest-preserved
+operands-loop-rest-preserved t c = rw c.predicate-reach.ensures (sym (gather_more _ _ _ c.loop-rest-test.true) ∙ c.loop-rest.invariant)
+
+pub operands-returns : goal.operands-returns
+unfolding gather
+operands-returns t c = rw c.loop-rest-test.false at c.loop-rest.invariant
+
+pub predicate-returns-then-left-eq0 : goal.predicate-returns-then-left-eq0
+predicate-returns-then-left-eq0 t c = search (rules, predicate_laws)
+
+pub predicate-returns-in-All : goal.predicate-returns-in-All
+predicate-returns-in-All t c = search (rules, predicate_laws)
+
+pub predicate-returns-in-Any : goal.predicate-returns-in-Any
+predicate-returns-in-Any t c = search (rules, predicate_laws)
+
+pub predicate-returns-in-Not : goal.predicate-returns-in-Not
+predicate-returns-in-Not t c = search (rules, predicate_laws)
+
+pub predicate-returns-in-Imp : goal.predicate-returns-in-Imp
+predicate-returns-in-Imp t c = search (rules, predicate_laws)
+
+pub predicate-returns-in-Eq : goal.predicate-returns-in-Eq
+predicate-returns-in-Eq t c = search (rules, predicate_laws)
+
+pub predicate-returns-in_default : goal.predicate-returns-in_default
+predicate-returns-in_default t c = search (rules, predicate_laws)

@@ -1,0 +1,13 @@
+-- The three functions of the walk call each other, and meet their contracts together. The measure: twice the depth left, and
+-- one more for a row of operands, which passes its own on to each of them. Each way out of a function is one step of the definition.
+use Prim.Native.Nat.{◌+◌, ◌*◌}
+use Rattle.table_predicate.proofs.+expression_operands_predicate.Given as goal
+
+abbrev pub decreases-expression : goal.decreases-expression
+decreases-expression l = 2 * l.left
+
+abbrev pub decreases-operands : goal.decreases-operands
+decreases-operands l = 2 * l.left + 1
+
+abbrev pub decreases-predicate : goal.decreases-predicate
+decreases-predicate l = 2 * l.left
