@@ -136,6 +136,7 @@ bounded_part u r (one {g} {b} a rest) = one (above_part u r g b a) (bounded_part
 pub bound : (gs : List (List ℕ)) (bs : List ℕ) (u : ℕ) → Bounded u gs bs → coverable gs u ≡ true → ones u ≤ sum bs
 unfolding coverable sum ones ones_in
 bound [] bs u x h = rw (eqb-true u 0 h) (omega arith)
+bound (g ∷ gs) [] u x h = elim x [ ]
 bound (g ∷ gs) (b ∷ bs) u (one a rest) h =
     let e = exists_elim _ g h in
     omega (arith, a e.0 e.1, bound gs bs (bit_and u e.0) (bounded_part u e.0 rest) e.2)

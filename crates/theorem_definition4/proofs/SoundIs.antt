@@ -322,7 +322,7 @@ module _ {m : Model} where
   edge_begins lawful k e =
       automaton_at_lem m lawful (λ x. Memᴰ e x.edges → e.from < length x.locations) (λ i. absurd (Memᴰ.not-nil i)) (λ x h i. (h.edges e i).from) k
 
-  acts_steps : Lawful m → {c : Tree} {a : ℕ} {b : Bool} {u s n n' r : List Pred} {ks : List ℕ} → SymbolicAction m a c b u s n n' r ks
+  acts_steps : Lawful m → {a : ℕ} {c : Tree} {b : Bool} {u s n n' r : List Pred} {ks : List ℕ} → SymbolicAction m a c b u s n n' r ks
       → (ls : List ℕ) × StepsTo m c a b u s n n' r ls ks
   unfolding below fits overwritten put
   acts_steps lawful (rule_8 {k = k} {e = e} i q) = (

@@ -23,7 +23,7 @@ use Rattle.format.proofs.TextRuns.{table_read, runs_alike_texts, runs_alike_prog
 use Rattle.theorem_runs.specs.Demand.{ByRules, RunsAsOne}
 use Rattle.theorem_runs.specs.Owned.{Free, free_run, ChangesAlike, OwnedRuns}
 use Rattle.theorem_runs.proofs.Owned.{FreeAlike, free_alike, changes_alike}
-use Rattle.theorem_runs.proofs.Answers.{answer-by-rules}
+use Rattle.theorem_runs.proofs.Answers.{answer_by_rules}
 use Rattle.theorem_runs.proofs.Points.{run_length, answer_is, run_state}
 use Rattle.theorem_runs.proofs.Moves.{moves_alike}
 use Rattle.theorem_runs.proofs.Tables.{text_opens, merged_opens, program_opens}
@@ -40,7 +40,7 @@ module _ (text : Bytes) (m : Model) (lent : List ℕ) (reads : read_answer text 
 
   -- so it answers by the rows and the rules, and a run over it goes from states to states
   text_by_rules : (s : State) (p : Proposal) → ByRules m s p (table_judge (table_after text lent) s p)
-  text_by_rules s p = subst (λ (judge : Judge). ByRules m s p (judge s p)) text_judges (answer-by-rules m text_lawful s p)
+  text_by_rules s p = subst (λ (judge : Judge). ByRules m s p (judge s p)) text_judges (answer_by_rules m text_lawful s p)
 
   text_state : (ps : List Proposal) (s : State) → IsState m s → IsState m (run (table_judge (table_after text lent)) s ps).end
   text_state ps s g = subst (λ (judge : Judge). IsState m (run judge s ps).end) text_judges (run_state m ps s g)

@@ -26,7 +26,7 @@ use Rattle.model.proofs.Pointers.{pointer_value}
 use Rattle.model.proofs.Owners.{pointer_owner_lem, pointer_owned}
 use Rattle.theorem_runs.specs.Demand.{pointers_in}
 use Rattle.theorem_runs.specs.Owned.{Asked, step, environment, Free, aim, elsewhere, answer_by, free_answer, merged_proposal, freely, is_shaped, free_run, free_merged_run, ChangesAlike}
-use Rattle.theorem_runs.proofs.Answers.{answer-state}
+use Rattle.theorem_runs.proofs.Answers.{answer_state}
 use Rattle.theorem_runs.proofs.Moves.{moves_alike}
 use Rattle.theorem_runs.proofs.Beside.{values_count}
 
@@ -142,7 +142,7 @@ module _ (m : Model) (lawful : Lawful m) (s : State) (g : IsState m s) where
       record {
         alike = first_alike (rw (e, merged_run) at r.answers);
         there = rw (e, merged_run) at r.end;
-        state = answer-state m s p g;
+        state = answer_state m s p g;
       }
 
   skip_alike : (p : Proposal) → translates m p ≡ false → Together m s (model_judge m s p) (proposed s p) not_put (beside s)
@@ -152,7 +152,7 @@ module _ (m : Model) (lawful : Lawful m) (s : State) (g : IsState m s) where
       record {
         alike = first_alike (rw (e, merged_run) at r.answers);
         there = rw (e, merged_run) at r.end;
-        state = answer-state m s p g;
+        state = answer_state m s p g;
       }
 
 -- rows 21 and 22 of the composition where no pointer moves

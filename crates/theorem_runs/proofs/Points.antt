@@ -8,7 +8,7 @@ use Rattle.model.specs.Model.{Model}
 use Rattle.model.specs.Rules.{State}
 use Rattle.model.specs.Judge.{Answer}
 use Rattle.model.specs.Runs.{IsState, Proposal, proposed, Judge, model_judge, goes, and_then, run}
-use Rattle.theorem_runs.proofs.Answers.{answer-state}
+use Rattle.theorem_runs.proofs.Answers.{answer_state}
 
 module _ (judge : Judge) where
   -- a run over a joined list is a run over the first part, and from where it ends one over the second
@@ -48,4 +48,4 @@ module _ (judge : Judge) where
 pub run_state : (m : Model) (ps : List Proposal) (s : State) → IsState m s → IsState m (run (model_judge m) s ps).end
 unfolding run and_then
 run_state m [] s g = g
-run_state m (p ∷ ps) s g = run_state m ps (goes (model_judge m s p) s (proposed s p)) (answer-state m s p g)
+run_state m (p ∷ ps) s g = run_state m ps (goes (model_judge m s p) s (proposed s p)) (answer_state m s p g)

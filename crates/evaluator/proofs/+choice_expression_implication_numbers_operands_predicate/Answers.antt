@@ -11,14 +11,6 @@ use Rattle.evaluator.proofs.Steps.{predicate_left, expression_left}
 use Rattle.evaluator.proofs.NodeLaws.{predicate_laws, expression_laws, implication_by, numbers_by, choice_by, gather_more, gather_stops}
 use Rattle.evaluator.proofs.+choice_expression_implication_numbers_operands_predicate.Goals as goal
 
-abbrev operands-Inv-loop : operands-lts.invariant-loop
-operands-Inv-loop words at count left before after due₀ next₀ rest₀ all₀ any₀ due next rest all any =
-    (rest ≤ left) × (gather (predicate_at words before after) due rest next all any ≡ gather (predicate_at words before after) count left at true false)
-
-abbrev operands-μ-loop : operands-lts.decreases-loop
-operands-μ-loop words at count left before after due₀ next₀ rest₀ all₀ any₀ due next rest all any =
-    due
-
 pub choice-numbers-requires : goal.choice-numbers-requires
 choice-numbers-requires t c = let l = predicate_left _ _ _ _ _ _ c.predicate-p.ensures in
     search rules

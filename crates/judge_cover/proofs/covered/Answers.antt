@@ -12,14 +12,15 @@ pub returns-then-not-laid : goal.returns-then-not-laid
 returns-then-not-laid c = search (rules, covered_laws)
 
 pub seek-requires : goal.seek-requires
-seek-requires c = let row = c.laid.ensures (not-false _ c.if-not-laid.false) in
-    let filled = not-false _ c.if-not-all_filled.false in (
-      c.groups-n.ensures.0,
-      (
-        laid_in _ _ _ _ _ c.all_filled.ensures filled row,
-        (laid_low _ _ _ _ _ c.all_filled.ensures filled row, c.find-b.ensures.0),
-      ),
-    )
+seek-requires c =
+    let row = c.laid.ensures c.if-not-laid.false in
+    let filled = c.if-not-all_filled.false in
+    record {
+      n_bound = c.groups-n.ensures.upper_bound;
+      laid = laid_in _ _ _ _ _ c.all_filled.ensures filled row;
+      laid_2 = laid_low _ _ _ _ _ c.all_filled.ensures filled row;
+      bounds_of = c.find-b.ensures.bounds_of;
+    }
 
 pub returns : goal.returns
 returns c = search (rules, covered_laws)

@@ -7,13 +7,6 @@ use Rattle.table_predicate.specs.Walk.{predicate_at, gather}
 use Rattle.table_predicate.proofs.Steps.{predicate_laws, expression_laws, gather_more, gather_ended}
 use Rattle.table_predicate.proofs.+expression_operands_predicate.Goals as goal
 
-abbrev operands-Inv-loop : operands-lts.invariant-loop
-operands-Inv-loop words count left ranges rest₀ reach₀ rest reach =
-    gather (predicate_at words ranges left) rest reach ≡ gather (predicate_at words ranges left) count reach₀
-
-abbrev operands-μ-loop : operands-lts.decreases-loop
-operands-μ-loop words count left ranges rest₀ reach₀ rest reach = rest
-
 pub expression-returns-then-left-eq0 : goal.expression-returns-then-left-eq0
 expression-returns-then-left-eq0 t c = search (rules, expression_laws)
 

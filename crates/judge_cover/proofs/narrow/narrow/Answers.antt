@@ -6,24 +6,18 @@ pub loop-k-init : goal.loop-k-init
 loop-k-init c = search (rules, narrowing_laws)
 
 pub sift-s-requires : goal.sift-s-requires
-sift-s-requires c = let s = c.loop-k.invariant in
+sift-s-requires c =
+    let s = c.loop-k.invariant in
     let l = c.loop-k-test.true in
     let x = c.place-a.ensures in
     let y = c.place-b.ensures in
-    let g = c.place-gain.ensures in (
-      narrowing_places _ _ _ _ _ _ _ _ _ _ _ _ _ _ _
-          s l _ _ _ x y g,
-      (
-        narrowing_room _ _ _ _ _ _ _ _ _ _ _ _ _ _ _
-            s l _ _ _ x y g,
-        (
-          narrowing_gain _ _ _ _ _ _ _ _ _ _ _ _ _ _ _
-              s l _ _ _ x y g,
-          narrowing_bound _ _ _ _ _ _ _ _ _ _ _ _ _ _ _
-              s l _ _ _ x y g,
-        ),
-      ),
-    )
+    let g = c.place-gain.ensures in
+    record {
+      from_le_to = narrowing_places _ _ _ _ _ _ _ _ _ _ _ _ _ _ _ s l _ _ _ x y g;
+      to_bound = narrowing_room _ _ _ _ _ _ _ _ _ _ _ _ _ _ _ s l _ _ _ x y g;
+      gain_le_total = narrowing_gain _ _ _ _ _ _ _ _ _ _ _ _ _ _ _ s l _ _ _ x y g;
+      covers_at_most = narrowing_bound _ _ _ _ _ _ _ _ _ _ _ _ _ _ _ s l _ _ _ x y g;
+    }
 
 pub returns-then-next-count : goal.returns-then-next-count
 returns-then-next-count c = search (rules, narrowing_laws)

@@ -8,12 +8,6 @@ use Rattle.judge_cover.specs.Steps.{groups_from}
 use Rattle.judge_cover.proofs.SeekLaws.{chooses_at, plain_laws}
 use Rattle.judge_cover.proofs.plain.+cover.Goals as goal
 
-abbrev cover-Inv-loop : cover-lts.invariant-loop
-cover-Inv-loop masks starts ends k n u to i₀ i = exists (chooses_at masks starts ends k n u) (count_up i (to - i)) ≡ coverable (groups_from masks starts ends k n) u
-
-abbrev cover-μ-loop : cover-lts.decreases-loop
-cover-μ-loop masks starts ends k n u to i₀ i = to - i
-
 pub returns-then-n-k : goal.returns-then-n-k
 returns-then-n-k t c = search (rules, plain_laws)
 

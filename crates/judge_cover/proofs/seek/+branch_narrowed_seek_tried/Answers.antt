@@ -12,45 +12,28 @@ use Rattle.judge_cover.proofs.PlaceLaws.{last_inside, end_inside, laid_more, lai
 use Rattle.judge_cover.proofs.SeekLaws.{Branching, seek_laws, narrowed_laws, narrowed_laid, narrowed_bounds, branching_laws, branching_places, branching_none, branching_laid, branching_more, branching_end, tried_laws, tried_skip, tried_later, gain_part, bounds_without}
 use borrow.Fn.PlainCycle.{is, and}
 use Rattle.judge_cover.proofs.seek.+branch_narrowed_seek_tried.Goals as goal
-
-abbrev narrowed_at : ℕ → In 5 narrowed-kinds.ps
-narrowed_at t = and 5 narrowed-kinds.ps (is 5 narrowed-kinds.ps μ-narrowed t) narrowed.Pre
-
-abbrev branch-Inv-loop : branch-lts.invariant-loop
-branch-Inv-loop kept₀ starts ends₀ gains n u total v k₀ kept ends k = Branching kept₀ starts ends₀ gains n u total v kept ends k
-
-abbrev branch-μ-loop : branch-lts.decreases-loop
-branch-μ-loop kept₀ starts ends₀ gains n u total v k₀ kept ends k = n - k
-
-abbrev tried-Inv-loop : tried-lts.invariant-loop
-tried-Inv-loop masks starts ends gains n u total k v from to less rest a b i₀ i =
-    exists (tries_at masks a b from to (n - 1) u v) (count_up i (b - i)) ≡ through_at masks starts ends n u v k
-
-abbrev tried-μ-loop : tried-lts.decreases-loop
-tried-μ-loop masks starts ends gains n u total k v from to less rest a b i₀ i = b - i
+use Rattle.judge_cover.proofs.seek.+branch_narrowed_seek_tried.Goals.{tried-then-worth+else-seek, tried-else-worth}
 
 pub branch-choose-v-requires : goal.branch-choose-v-requires
-branch-choose-v-requires t c = last_inside _ _ _ _ c.requires.1.1.1.0 _ c.last.ensures
+branch-choose-v-requires t c = last_inside _ _ _ _ c.requires.laid _ c.last.ensures
 
 pub branch-next_named-k-requires : goal.branch-next_named-k-requires
-branch-next_named-k-requires t c = let asked = c.requires.1 in
-    (asked.0.0, asked.1.1.0)
+branch-next_named-k-requires t c =
+    record { n_bound = c.requires.n_bound.0; laid = c.requires.laid }
 
 pub branch-loop-k-init : goal.branch-loop-k-init
 branch-loop-k-init t c = search (rules, branching_laws)
 
 pub branch-tried-requires : goal.branch-tried-requires
-branch-tried-requires t c = let asked = c.requires.1 in
+branch-tried-requires t c =
+    let asked = c.requires in
     let inv = c.loop-k.invariant in (
-      omega (arith, c.requires.0),
+      omega (arith, c.decreases),
       (
-        (asked.0.0, c.loop-k-test.true),
+        (asked.n_bound.0, c.loop-k-test.true),
         (
-          c.choose-v.ensures asked.0.1,
-          (
-            inv.laid,
-            (laid_more _ _ _ _ inv.laid 512 (omega (arith, inv.size, asked.1.0.0)), inv.bounds),
-          ),
+          c.choose-v.ensures asked.n_bound.1,
+          (inv.laid, (laid_more _ _ _ _ inv.laid 512 (omega (arith, inv.size, asked.kept_len_bound.0)), inv.bounds)),
         ),
       ),
     )
@@ -60,53 +43,63 @@ branch-returns-then-tried t c = search (rules, branching_laws)
 
 pub branch-drop_named-end-requires : goal.branch-drop_named-end-requires
 branch-drop_named-end-requires t c = branching_places _ _ _ _ _ _ _ _ _ _ _ c.loop-k.invariant c.loop-k-test.true _ _ c.place-from.ensures c.place.ensures
-    c.requires.1.1.0.0
+    c.requires.kept_len_bound.0
 
 pub branch-returns-then-end-from : goal.branch-returns-then-end-from
-branch-returns-then-end-from t c = let asked = c.requires.1 in
-    branching_none _ _ _ _ _ _ _ _ _ _ _ c.loop-k.invariant c.loop-k-test.true _ c.tried.ensures c.if-tried.false asked.0.0 _ _
+branch-returns-then-end-from t c = let asked = c.requires in
+    branching_none _ _ _ _ _ _ _ _ _ _ _ c.loop-k.invariant c.loop-k-test.true _ c.tried.ensures c.if-tried.false asked.n_bound.0 _ _
     c.place-from.ensures c.place.ensures _ _ c.drop_named-end.ensures c.if-end-from.true
 
 pub branch-offset_bounds-ends-k : goal.branch-offset_bounds-ends-k
-branch-offset_bounds-ends-k t c = omega (arith, c.loop-k-test.true, c.requires.1.0.0)
+branch-offset_bounds-ends-k t c = omega (arith, c.loop-k-test.true, c.requires.n_bound.0)
 
 pub branch-bounds-ends-k : goal.branch-bounds-ends-k
-branch-bounds-ends-k t c = omega (arith, c.loop-k-test.true, c.requires.1.0.0)
+branch-bounds-ends-k t c = omega (arith, c.loop-k-test.true, c.requires.n_bound.0)
 
 pub branch-overflow_add-k : goal.branch-overflow_add-k
-branch-overflow_add-k t c = omega (arith, c.loop-k-test.true, c.requires.1.0.0)
+branch-overflow_add-k t c = omega (arith, c.loop-k-test.true, c.requires.n_bound.0)
 
 pub branch-next_named-k-requires-in-loop-k : goal.branch-next_named-k-requires-in-loop-k
-branch-next_named-k-requires-in-loop-k t c = let asked = c.requires.1 in (
-  asked.0.0,
-  branching_laid _ _ _ _ _ _ _ _ _ _ _ c.loop-k.invariant c.loop-k-test.true _ c.tried.ensures c.if-tried.false
-      asked.0.0 _ _ c.place-from.ensures c.place.ensures _ _ c.drop_named-end.ensures c.if-end-from.false,
-)
+branch-next_named-k-requires-in-loop-k t c =
+    record {
+      n_bound = c.requires.n_bound.0;
+      laid = branching_laid _ _ _ _ _ _ _ _ _ _ _ c.loop-k.invariant c.loop-k-test.true _ c.tried.ensures c.if-tried.false
+          c.requires.n_bound.0 _ _ c.place-from.ensures c.place.ensures _ _ c.drop_named-end.ensures c.if-end-from.false;
+    }
 
 pub branch-loop-k-preserved : goal.branch-loop-k-preserved
-branch-loop-k-preserved t c = let asked = c.requires.1 in
-    branching_more _ _ _ _ _ _ _ _ _ _ _ c.loop-k.invariant c.loop-k-test.true _ c.tried.ensures c.if-tried.false asked.0.0 _ _
+branch-loop-k-preserved t c = let asked = c.requires in
+    branching_more _ _ _ _ _ _ _ _ _ _ _ c.loop-k.invariant c.loop-k-test.true _ c.tried.ensures c.if-tried.false asked.n_bound.0 _ _
     c.place-from.ensures c.place.ensures _ _ c.drop_named-end.ensures c.if-end-from.false _ c.next_named-k-in-loop-k.ensures
 
 pub branch-returns : goal.branch-returns
-branch-returns t c = branching_end _ _ _ _ _ _ _ _ _ _ _ c.loop-k.invariant c.loop-k-test.false (c.choose-v.ensures c.requires.1.0.1)
+branch-returns t c = branching_end _ _ _ _ _ _ _ _ _ _ _ c.loop-k.invariant c.loop-k-test.false (c.choose-v.ensures c.requires.n_bound.1)
 
 pub narrowed-narrow-t-requires : goal.narrowed-narrow-t-requires
-narrowed-narrow-t-requires t c = let asked = c.requires.1 in
-    (asked.0, (search rules, asked.1))
+narrowed-narrow-t-requires t c =
+    let asked = c.requires in
+    record {
+      n_bound = asked.n_bound;
+      starts_len = search rules;
+      laid = asked.laid;
+      laid_2 = asked.laid_2;
+      spans = asked.spans;
+      bounds_of = asked.bounds_of;
+    }
 
 pub narrowed-returns-then-t-size : goal.narrowed-returns-then-t-size
 narrowed-returns-then-t-size t c = search (rules, narrowed_laws)
 
 pub narrowed-branch-kept-requires : goal.narrowed-branch-kept-requires
-narrowed-branch-kept-requires t c = let w = c.narrow-t.ensures in
-    let asked = c.requires.1 in
+narrowed-branch-kept-requires t c =
+    let w = c.narrow-t.ensures in
+    let asked = c.requires in
     let size = c.size.ensures in (
-      omega (arith, c.requires.0),
+      omega (arith, c.decreases),
       (
-        asked.0,
+        asked.n_bound,
         (
-          (omega (arith, w.size, asked.1.1.1.0.1), w.ends_size),
+          (omega (arith, w.size, asked.spans.1), w.ends_size),
           (narrowed_laid _ _ _ _ _ _ _ _ _ _ _ w _ size c.if-t-size.false, narrowed_bounds _ _ _ _ _ _ _ _ _ _ _ w _ size c.if-t-size.false),
         ),
       ),
@@ -122,69 +115,72 @@ pub seek-returns-then-total-size : goal.seek-returns-then-total-size
 seek-returns-then-total-size t c = search (rules, seek_laws)
 
 pub seek-narrowed-requires : goal.seek-narrowed-requires
-seek-narrowed-requires t c = let asked = c.requires.1 in (
-  search rules,
-  (
-    (asked.0, search rules),
-    (
-      asked.1.0,
+seek-narrowed-requires t c =
+    let asked = c.requires in (
+      search rules,
       (
-        asked.1.1.0,
-        ((spans_size _ _ _ (replicate 128 0) 128 (search rules) (c.short.ensures c.if-short.true), search rules), asked.1.1.1),
+        (asked.n_bound, search rules),
+        (
+          asked.laid,
+          (
+            asked.laid_2,
+            ((spans_size _ _ _ (replicate 128 0) 128 (search rules) (c.short.ensures c.if-short.true), search rules), asked.bounds_of),
+          ),
+        ),
       ),
-    ),
-  ),
-)
+    )
 
 pub seek-returns-then-short : goal.seek-returns-then-short
 seek-returns-then-short t c = search (rules, seek_laws)
 
 pub seek-narrowed-requires-2 : goal.seek-narrowed-requires-2
-seek-narrowed-requires-2 t c = let asked = c.requires.1 in (
-  search rules,
-  (
-    (asked.0, search rules),
-    (
-      asked.1.0,
+seek-narrowed-requires-2 t c =
+    let asked = c.requires in (
+      search rules,
       (
-        asked.1.1.0,
-        ((spans_size _ _ _ (replicate 512 0) 512 (search rules) (spans_all _ _ _ asked.1.1.0), search rules), asked.1.1.1),
+        (asked.n_bound, search rules),
+        (
+          asked.laid,
+          (
+            asked.laid_2,
+            ((spans_size _ _ _ (replicate 512 0) 512 (search rules) (spans_all _ _ _ asked.laid_2), search rules), asked.bounds_of),
+          ),
+        ),
       ),
-    ),
-  ),
-)
+    )
 
 pub seek-returns : goal.seek-returns
 seek-returns t c = search (rules, seek_laws)
 
 pub tried-overflow_sub-rest : goal.tried-overflow_sub-rest
-tried-overflow_sub-rest t c = let asked = c.requires.1 in
-    gain_part _ _ _ _ _ asked.0.0 asked.0.1 _ _ c.without-from.ensures.0 c.without-to.ensures.0 _ _ _ _
-    c.without-less.ensures.0 asked.1.1.1.1 _ c.place.ensures
+tried-overflow_sub-rest t c = let asked = c.requires in
+    gain_part _ _ _ _ _ asked.n_bound.0 asked.n_bound.1 _ _ c.without-from.ensures.without c.without-to.ensures.without _ _ _ _
+    c.without-less.ensures.without asked.bounds_of _ c.place.ensures
 
 pub tried-loop-i-init : goal.tried-loop-i-init
 tried-loop-i-init t c = search (rules, tried_laws)
 
 pub tried-worth-requires : goal.tried-worth-requires
-tried-worth-requires t c = let asked = c.requires.1 in
-    let room = end_inside _ _ _ _ asked.1.1.0 _ asked.0.1 _ c.place-b.ensures in
+tried-worth-requires t c = let asked = c.requires in
+    let room = end_inside _ _ _ _ asked.laid _ asked.n_bound.1 _ c.place-b.ensures in
     (omega (arith, c.loop-i-test.true), room)
 
 pub tried-overflow_sub-n : goal.tried-overflow_sub-n
-tried-overflow_sub-n t c = omega (arith, c.requires.1.0.1)
+tried-overflow_sub-n t c = omega (arith, c.requires.n_bound.1)
 
 pub tried-seek-requires : goal.tried-seek-requires
-tried-seek-requires t c = let asked = c.requires.1 in
-    let from = c.without-from.ensures.0 in
-    let to = c.without-to.ensures.0 in (
+tried-seek-requires t c =
+    let asked = c.requires in
+    let from = c.without-from.ensures.without in
+    let to = c.without-to.ensures.without in (
       search rules,
       (
-        omega (arith, asked.0.0),
+        omega (arith, asked.n_bound.0),
         (
-          laid_without _ _ _ _ _ _ _ asked.0.0 asked.0.1 from to asked.1.1.0,
+          laid_without _ _ _ _ _ _ _ asked.n_bound.0 asked.n_bound.1 from to asked.laid,
           (
-            laid_without _ _ _ _ _ _ _ asked.0.0 asked.0.1 from to asked.1.1.1.0,
-            bounds_without _ _ _ _ _ asked.0.0 asked.0.1 _ _ from to _ _ _ _ c.without-less.ensures.0 asked.1.1.1.1 _ c.place.ensures _ _
+            laid_without _ _ _ _ _ _ _ asked.n_bound.0 asked.n_bound.1 from to asked.laid_2,
+            bounds_without _ _ _ _ _ asked.n_bound.0 asked.n_bound.1 _ _ from to _ _ _ _ c.without-less.ensures.without asked.bounds_of _ c.place.ensures _ _
                 c.left_by-left.ensures,
           ),
         ),
@@ -195,12 +191,13 @@ pub tried-returns-then-seek : goal.tried-returns-then-seek
 tried-returns-then-seek t c = search (rules, tried_laws)
 
 pub tried-loop-i-preserved : goal.tried-loop-i-preserved
-tried-loop-i-preserved t c = let at = c.loop-i in
+tried-loop-i-preserved t c =
+    let at = c.loop-i in
     let test = c.loop-i-test.true in
-    ⊎_elim
-    (λ x. tried_later _ _ _ _ _ _ _ _ _ _ _ _ at.i at.invariant test _ c.worth.ensures x.0.taken _ x.1.ensures _ x.5.ensures x.6.left)
-    (λ x. tried_skip _ _ _ _ _ _ _ _ _ _ _ _ at.i at.invariant test _ c.worth.ensures x.left)
-    c.if-worth.branch
+    elim c.if-worth.branch [
+      | tried-then-worth+else-seek x ↦ tried_later _ _ _ _ _ _ _ _ _ _ _ _ at.i at.invariant test _ c.worth.ensures x.if-worth.true _ x.left_by-left.ensures _ x.seek.ensures x.if-seek.false
+      | tried-else-worth x ↦ tried_skip _ _ _ _ _ _ _ _ _ _ _ _ at.i at.invariant test _ c.worth.ensures x.if-worth.false
+    ]
 
 pub tried-returns : goal.tried-returns
 tried-returns t c = search (rules, tried_laws)

@@ -1,6 +1,10 @@
 -- The search's four functions call each other, and meet their contracts together. The measure: four times the groups that are left, and
 -- what orders the four among themselves. Each way out of a function is a law of SeekLaws.
-use Prim.Native.Nat.{◌+◌, ◌*◌}
+use mathlib.Core.Path.{◌≡◌}
+use Prim.Native.Nat.{◌+◌, ◌*◌, ◌-◌}
+use Rattle.model.specs.Basic.{exists, count_up}
+use Rattle.judge_cover.specs.Steps.{through_at, tries_at}
+use Rattle.judge_cover.proofs.SeekLaws.{Branching}
 use Rattle.judge_cover.proofs.seek.+branch_narrowed_seek_tried.Given as goal
 
 abbrev pub decreases-branch : goal.decreases-branch
@@ -14,3 +18,17 @@ decreases-seek l = 4 * l.n + 3
 
 abbrev pub decreases-tried : goal.decreases-tried
 decreases-tried l = 4 * l.n
+
+abbrev pub invariant-branch-loop-k : goal.invariant-branch-loop-k
+invariant-branch-loop-k l =
+    Branching l.initial.kept l.starts l.initial.ends l.gains l.n l.u l.total l.v l.kept l.ends l.k
+
+abbrev pub decreases-branch-loop-k : goal.decreases-branch-loop-k
+decreases-branch-loop-k l = l.n - l.k
+
+abbrev pub invariant-tried-loop-i : goal.invariant-tried-loop-i
+invariant-tried-loop-i l =
+    exists (tries_at l.masks l.a l.b l.from l.to (l.n - 1) l.u l.v) (count_up l.i (l.b - l.i)) ≡ through_at l.masks l.starts l.ends l.n l.u l.v l.k
+
+abbrev pub decreases-tried-loop-i : goal.decreases-tried-loop-i
+decreases-tried-loop-i l = l.b - l.i

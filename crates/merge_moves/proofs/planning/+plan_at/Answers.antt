@@ -13,8 +13,8 @@ plan_at-d-requires t c = let l = plan_left _ _ _ _ _ _ _ c.plan_at-c.ensures.ans
 
 pub returns-in-Par : goal.returns-in-Par
 returns-in-Par t c = record {
-  answer = plan_par _ _ _ _ 0 _ _ c.if-left-eq0.false _ c.Node-at.ensures _ _ (search rules) _ _ c.plan_at-c.ensures.answer c.plan_at-d.ensures.answer _ c.par_plan.ensures c.store.ensures.0;
-  cells = fill_par _ _ _ _ _ _ _ c.if-left-eq0.false _ c.Node-at.ensures _ _ _ (search rules) _ _ c.plan_at-c.ensures.answer _ c.plan_at-c.ensures.cells c.plan_at-d.ensures.answer _ c.plan_at-d.ensures.cells _ c.par_plan.ensures c.store.ensures.1;
+  answer = plan_par _ _ _ _ 0 _ _ c.if-left-eq0.false _ c.in-Par.ensures _ _ (search rules) _ _ c.plan_at-c.ensures.answer c.plan_at-d.ensures.answer _ c.par_plan.ensures c.store.ensures.0;
+  cells = fill_par _ _ _ _ _ _ _ c.if-left-eq0.false _ c.in-Par.ensures _ _ _ (search rules) _ _ c.plan_at-c.ensures.answer _ c.plan_at-c.ensures.cells c.plan_at-d.ensures.answer _ c.plan_at-d.ensures.cells _ c.par_plan.ensures c.store.ensures.1;
 }
 
 pub returns-in-Syn : goal.returns-in-Syn

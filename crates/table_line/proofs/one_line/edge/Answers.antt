@@ -1,0 +1,16 @@
+-- `table_line::one_line::edge` meets its contract: each way out is a law of CodeLaws.
+use Rattle.table_line.proofs.CodeLaws.{edge_laws}
+use borrow.Author.Rules.{rules}
+use Rattle.table_line.proofs.one_line.edge.Goals as goal
+
+pub returns-then-t-at : goal.returns-then-t-at
+returns-then-t-at c = search (rules, edge_laws)
+
+pub returns-then-t-at-le2 : goal.returns-then-t-at-le2
+returns-then-t-at-le2 c = search (rules, edge_laws)
+
+pub returns-then-not-ends_sound : goal.returns-then-not-ends_sound
+returns-then-not-ends_sound c = search (rules, edge_laws)
+
+pub returns : goal.returns
+returns c = search (rules, edge_laws)

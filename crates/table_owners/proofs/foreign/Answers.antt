@@ -1,0 +1,18 @@
+-- `table_owners::foreign` meets its contract: the numbers that are left give the rest of the answer.
+use Rattle.table_owners.proofs.CodeLaws.{going, search_laws}
+use Rattle.table_owners.specs.Owners.{foreign_in}
+use borrow.Author.Rules.{rules}
+use Rattle.table_owners.proofs.foreign.Goals as goal
+
+pub loop-left-init : goal.loop-left-init
+unfolding foreign_in
+loop-left-init c = going _ _
+
+pub returns-then-foreign_at : goal.returns-then-foreign_at
+returns-then-foreign_at c = search (rules, search_laws)
+
+pub loop-left-preserved : goal.loop-left-preserved
+loop-left-preserved c = search (rules, search_laws)
+
+pub returns : goal.returns
+returns c = search (rules, search_laws)

@@ -1,0 +1,10 @@
+-- `write_words::tree::over` meets its contract: each way out is a law of NodeLaws.
+use Rattle.write_words.proofs.NodeLaws.{over_laws}
+use borrow.Author.Rules.{rules}
+use Rattle.write_words.proofs.tree.over.Goals as goal
+
+pub returns-then-is_ini : goal.returns-then-is_ini
+returns-then-is_ini c = search (rules, over_laws)
+
+pub returns : goal.returns
+returns c = search (rules, over_laws)
