@@ -88,11 +88,28 @@ module _ (t : List ℕ) (phase : ℕ) (l : List ℕ) (v : List ℤ) (l' : List �
 
 -- the environment judge
 module _ (t : List ℕ) (phase : ℕ) (l : List ℕ) (v v' : List ℤ) where
+  environment_ends : (a b : Bool) → answer_of (elim a [ false ↦ No | true ↦ elim b [ true ↦ Yes | false ↦ No ] ]) ≡ cond (a && b) J.yes J.no
+  unfolding answer_of
+  environment_ends true true = refl
+  environment_ends true false = refl
+  environment_ends false b = refl
+
+  environment_passed : (m : Model) → Sheet t m → (q : Phase) → Pass m (stands q l v) (stands Running l v') → answer_of (environment_in t (layout_of t) l v v' q) ≡ cond (J.environment_holds m (stands q l v) (stands Running l v')) J.yes J.no
+  unfolding environment_by J.environment_holds
+  environment_passed m sheet q p =
+      let s = state_of q l v in
+      let s' = state_of Running l v' in
+      let old = shows_old m sheet.lawful q Running l v l v' p in
+      let new = shows_new m sheet.lawful q Running l v l v' p in
+      let e = settled_is m sheet.lawful t sheet.rest sheet.stands s s' (stands q l v) (stands Running l v') old new in
+      let f = owned_keep_is m sheet.lawful t sheet.rest sheet.stands s s' (stands q l v) (stands Running l v') old new in
+      environment_ends (settled_at t (layout_of t) s s') (owned_keep_at t (layout_of t) s s') ∙ rw (e, f)
+
   pub environment_exact : answer_of (environment_at t phase l v v') ≡ J.environment_answer t phase l v v'
   unfolding environment_at environment_on J.environment_answer
   environment_exact =
       call_exact t phase l v l v' (environment_in t (layout_of t) l v v') (λ m s. J.judge_environment m s v') (λ m q. cond (J.environment_holds m (stands q l v) (stands Running l v')) J.yes J.no)
-      rows passed
+      rows environment_passed
     where
       rows : (m : Model) (q : Phase) → J.judge_environment m (stands q l v) v' ≡ list_rows m (stands q l v) (stands Running l v') (cond (J.environment_holds m (stands q l v) (stands Running l v')) J.yes J.no)
       rows m q =
@@ -101,22 +118,6 @@ module _ (t : List ℕ) (phase : ℕ) (l : List ℕ) (v v' : List ℤ) where
           let u' = stands Running l v' in
           ap (λ (b : Bool). cond (J.row21 m u || J.row21 m u') (J.refused 21) (cond b (J.refused 22) (cond (J.row23 m u || J.row23 m u') (J.refused 23) (cond (J.environment_holds m u u') J.yes J.no))))
           (sym (or_self (J.row22 m u)))
-
-      ends : (a b : Bool) → answer_of (elim a [ false ↦ No | true ↦ elim b [ true ↦ Yes | false ↦ No ] ]) ≡ cond (a && b) J.yes J.no
-      ends true true = unfold answer_of in refl
-      ends true false = unfold answer_of in refl
-      ends false b = unfold answer_of in refl
-
-      passed : (m : Model) → Sheet t m → (q : Phase) → Pass m (stands q l v) (stands Running l v') → answer_of (environment_in t (layout_of t) l v v' q) ≡ cond (J.environment_holds m (stands q l v) (stands Running l v')) J.yes J.no
-      passed m sheet q p =
-          unfold environment_by J.environment_holds in
-          let s = state_of q l v in
-          let s' = state_of Running l v' in
-          let old = shows_old m sheet.lawful q Running l v l v' p in
-          let new = shows_new m sheet.lawful q Running l v l v' p in
-          let e = settled_is m sheet.lawful t sheet.rest sheet.stands s s' (stands q l v) (stands Running l v') old new in
-          let f = owned_keep_is m sheet.lawful t sheet.rest sheet.stands s s' (stands q l v) (stands Running l v') old new in
-          ends (settled_at t (layout_of t) s s') (owned_keep_at t (layout_of t) s s') ∙ rw (e, f)
 
   -- and over any
   module _ (x : Checked) (e : x ≡ answered (open_table t)) where

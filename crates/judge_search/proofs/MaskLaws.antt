@@ -17,7 +17,7 @@ use Rattle.table_tree.proofs.SetLaws.{keep_alike, every_kept, kept_all}
 use Rattle.table_writes.specs.Sets.{mask}
 use Rattle.table_writes.proofs.MaskLaws.{bit_mask}
 use Rattle.judge_search.specs.Search.{is_covered}
-use Rattle.judge_cover.proofs.BitLaws.{bit_and, same_bits, no_bits}
+use Rattle.judge_cover.proofs.BitLaws.{bit_and_lem, same_bits, no_bits}
 
 -- the set, of variables below n, that a number stands for
 abbrev pub list_of : (n u : ℕ) → List ℕ
@@ -30,7 +30,7 @@ list_mask f n = keep_alike f (bit (mask f n)) 0 n (λ k a b. sym (bit_mask f n k
 pub list_and : (g : ℕ → Bool) (n u r : ℕ) → ((k : ℕ) → k < n → bit r k ≡ g k) → keep g (list_of n u) ≡ list_of n (bit_and u r)
 list_and g n u r h =
     keep_keep (bit u) g (count_up 0 n)
-    ∙ keep_alike (λ k. bit u k && g k) (bit (bit_and u r)) 0 n (λ k a b. sym (bit_and u r k ∙ ap (λ c. bit u k && c) (h k (omega arith))))
+    ∙ keep_alike (λ k. bit u k && g k) (bit (bit_and u r)) 0 n (λ k a b. sym (bit_and_lem u r k ∙ ap (λ c. bit u k && c) (h k (omega arith))))
 
 and_small : (n u r : ℕ) → u < 2 ^ n → bit_and u r < 2 ^ n
 and_small n u r h = lt_of_le_of_lt (and_le_l u r) h

@@ -111,8 +111,8 @@ module _ (t : List ℕ) (phase : ℕ) (locations : List ℕ) (values : List ℤ)
   given_by : ((m : Model) → Lawful m → (p : Phase) → Unbroken (own m) → Allow m (state_at p locations values) → judge m (state_at p locations values) ≡ x)
       → Unbroken (table_rows own t) → FromState t phase locations values Allow → judge_at t phase locations values judge ≡ x
   given_by rules u s =
-      at_some t phase locations values judge s.model s.opens s.in-phase s.names
-      ∙ rules s.model ((lawful_is s.model).0 (opened_limited t s.model s.opens)) s.in-phase
+      at_some t phase locations values judge s.model s.opens s.in_phase s.names
+      ∙ rules s.model ((lawful_is s.model).0 (opened_limited t s.model s.opens)) s.in_phase
       (own_unbroken own t s.model (opened_model t s.model s.opens) u) s.allow
 
 -- the step judge

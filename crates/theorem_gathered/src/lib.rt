@@ -1,3 +1,2 @@
 // No code: a statement about what the merger gathers, and its proof.
 #![tactic(auto)]
-

@@ -1,0 +1,15 @@
+use Rattle.judge_bounds.proofs.RoundLaws.{taking_laws}
+use borrow.Author.Rules.{rules}
+use Rattle.judge_bounds.proofs.edges.count.Goals as goal
+
+pub loop-k-init : goal.loop-k-init
+loop-k-init c = search (rules, taking_laws)
+
+pub loop-k-smaller : goal.loop-k-smaller
+loop-k-smaller c = search (rules, taking_laws)
+
+pub loop-k-preserved : goal.loop-k-preserved
+loop-k-preserved c = search (rules, taking_laws)
+
+pub returns : goal.returns
+returns c = search (rules, taking_laws)

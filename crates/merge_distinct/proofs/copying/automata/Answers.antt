@@ -1,0 +1,13 @@
+-- `merge_distinct::copying::automata` meets its contract: what is copied and what is left make up the whole. The measure is the automata left.
+use Rattle.merge_distinct.proofs.CopyingLaws.{automata_laws}
+use borrow.Author.Rules.{rules}
+use Rattle.merge_distinct.proofs.copying.automata.Goals as goal
+
+pub loop-i-init : goal.loop-i-init
+loop-i-init c = search (rules, automata_laws)
+
+pub loop-i-preserved : goal.loop-i-preserved
+loop-i-preserved c = search (rules, automata_laws)
+
+pub returns : goal.returns
+returns c = search (rules, automata_laws)

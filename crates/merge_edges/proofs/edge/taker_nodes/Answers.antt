@@ -1,0 +1,10 @@
+-- `merge_edges::edge::taker_nodes` meets its contract: each way out is a law of EdgeLaws.
+use Rattle.merge_edges.proofs.EdgeLaws.{taker_nodes_laws}
+use borrow.Author.Rules.{rules}
+use Rattle.merge_edges.proofs.edge.taker_nodes.Goals as goal
+
+pub returns-then-place-eq0 : goal.returns-then-place-eq0
+returns-then-place-eq0 c = search (rules, taker_nodes_laws)
+
+pub returns : goal.returns
+returns c = search (rules, taker_nodes_laws)

@@ -1,0 +1,13 @@
+-- `merge_predicates::clauses::at_automata` meets its contract: what is done and what is left make up the whole. The measure is the automata left.
+use Rattle.merge_predicates.proofs.ClauseLaws.{automata_laws}
+use borrow.Author.Rules.{rules}
+use Rattle.merge_predicates.proofs.clauses.at_automata.Goals as goal
+
+pub loop-i-init : goal.loop-i-init
+loop-i-init c = search (rules, automata_laws)
+
+pub loop-i-preserved : goal.loop-i-preserved
+loop-i-preserved c = search (rules, automata_laws)
+
+pub returns : goal.returns
+returns c = search (rules, automata_laws)
