@@ -22,7 +22,7 @@ use Rattle.format.specs.Merger.{MergeAnswer, unmerged, merged, merge_model, merg
 use Rattle.format.specs.Spelling.{text_of}
 use Rattle.format.specs.Writer.{row35}
 use Rattle.format.proofs.FitsLaws.{text_fits}
-use Rattle.merger.specs.Answers.{mergeOf}
+use Rattle.merger.specs.Answers.{merge_of}
 use Rattle.answer_numbers.specs.Told.{merged_number}
 use Rattle.model.proofs.Decode.{unbroken}
 use Rattle.exports.specs.Numbers.{merge_number}
@@ -30,14 +30,14 @@ use Rattle.exports.proofs.OpenCases.{open_cases}
 
 -- the number that the function gives is that of the answer
 pub record Apart (a : MergeAnswer) : Type 0 where
-  pub same : merged_number (mergeOf a) ≡ merge_number a
+  pub same : merged_number (merge_of a) ≡ merge_number a
 
 refusal_apart : (row : ℕ) → Apart (unmerged row)
-unfolding merged_number mergeOf merge_number
+unfolding merged_number merge_of merge_number
 refusal_apart row = record { same = refl }
 
 parts_apart : (text : Bytes) (edges : ℕ) → length text ≤ max_bytes → edges ≤ max_edges → Apart (merged text edges)
-unfolding merged_number mergeOf merge_number
+unfolding merged_number merge_of merge_number
 parts_apart text edges short few =
     let n : length text < 2 ^ 17 = omega (arith, short) in
     let e : edges < 2 ^ 15 = omega (arith, few) in
@@ -68,5 +68,5 @@ merge_apart t buffer =
     open_cases t (λ o. Apart (elim o [ unopened row ↦ unmerged row | opened m ↦ merge_model m buffer ])) (refusal_apart 18) (refusal_apart 19)
     (λ m e. model_apart m buffer ((lawful_is m).0 (model_given t m e).0))
 
-pub merge_fits : (t : List ℕ) (buffer : ℕ) → merged_number (mergeOf (merge_answer t buffer)) ≡ merge_number (merge_answer t buffer)
+pub merge_fits : (t : List ℕ) (buffer : ℕ) → merged_number (merge_of (merge_answer t buffer)) ≡ merge_number (merge_answer t buffer)
 merge_fits t buffer = (merge_apart t buffer).same

@@ -5,7 +5,7 @@ use mathlib.Core.List.{List}
 use lib.IntN.{ℤ}
 use Rattle.model.specs.Table.{open_table}
 use Rattle.model.specs.Judge as J
-use Rattle.judge_call.specs.Answers.{answerNumber}
+use Rattle.judge_call.specs.Answers.{answer_number}
 use Rattle.judge_runs.specs.declared.Ran.{Ran}
 use Rattle.judge.specs.declared.Counted.{Counted}
 use Rattle.judge.specs.RunAnswer.{run_answer, ran_of}
@@ -15,7 +15,7 @@ use Rattle.format.specs.Bytes.{Bytes}
 use Rattle.format.specs.Merger.{merge_answer}
 use Rattle.format.specs.Reader.{read_answer}
 use Rattle.format.specs.Writer.{WriteAnswer, unwritten, written, buffer_after}
-use Rattle.merger.specs.Answers.{mergeOf}
+use Rattle.merger.specs.Answers.{merge_of}
 use Rattle.merger.specs.declared.MergeAnswer as G
 use Rattle.reader.specs.Read.{read_of}
 use Rattle.reader.specs.declared.ReadAnswer as T
@@ -28,13 +28,13 @@ use Rattle.exports.proofs.MergeBound.{merge_fits}
 use Rattle.exports.proofs.RunBound.{run_rowed}
 use Rattle.exports.proofs.SizeBound.{size_few}
 
-module _ (t : List ℕ) (phase : ℕ) (l : List ℕ) (v : List ℤ) (x : J.Answer) (r : ℕ) (h : r ≡ answerNumber x % 2 ^ 32) where
+module _ (t : List ℕ) (phase : ℕ) (l : List ℕ) (v : List ℤ) (x : J.Answer) (r : ℕ) (h : r ≡ answer_number x % 2 ^ 32) where
   -- `sheet_step`
-  pub step_law : (a : ℕ) (l' : List ℕ) (v' : List ℤ) → x ≡ J.step_answer t phase l v a l' v' → r ≡ answerNumber (J.step_answer t phase l v a l' v')
+  pub step_law : (a : ℕ) (l' : List ℕ) (v' : List ℤ) → x ≡ J.step_answer t phase l v a l' v' → r ≡ answer_number (J.step_answer t phase l v a l' v')
   step_law a l' v' e = unwrapped (step_fits t phase l v a l' v') e h
 
   -- `sheet_environment`
-  pub environment_law : (v' : List ℤ) → x ≡ J.environment_answer t phase l v v' → r ≡ answerNumber (J.environment_answer t phase l v v')
+  pub environment_law : (v' : List ℤ) → x ≡ J.environment_answer t phase l v v' → r ≡ answer_number (J.environment_answer t phase l v v')
   environment_law v' e = unwrapped (environment_fits t phase l v v') e h
 
 -- `sheet_read`
@@ -58,7 +58,7 @@ module _ (a : WriteAnswer) (old new : Bytes) (x : D.WriteAnswer) (h : Answered a
 pub ruleset write_laws = (write_length, write_memory)
 
 -- `sheet_merge`
-pub merge_number_lem : (t : List ℕ) (buffer : ℕ) (x : G.MergeAnswer) (r : ℕ) → x ≡ mergeOf (merge_answer t buffer) → r ≡ merged_number x
+pub merge_number_lem : (t : List ℕ) (buffer : ℕ) (x : G.MergeAnswer) (r : ℕ) → x ≡ merge_of (merge_answer t buffer) → r ≡ merged_number x
     → r ≡ merge_number (merge_answer t buffer)
 merge_number_lem t buffer x r h e = e ∙ ap merged_number h ∙ merge_fits t buffer
 

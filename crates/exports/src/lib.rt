@@ -12,7 +12,7 @@ ghost use Rattle.model.specs.Table.{open_table};
 ghost use Rattle.format.specs.Merger.{merge_answer, merge_after};
 ghost use Rattle.format.specs.Reader.{read_answer, table_after};
 ghost use Rattle.format.specs.Writer.{write_answer, buffer_after};
-ghost use Rattle.judge_call.specs.Answers.{answerNumber};
+ghost use Rattle.judge_call.specs.Answers.{answer_number};
 ghost use Rattle.exports.specs.Numbers.{read_number, write_number, merge_number, size_number};
 
 // Reads a text into the table's first words: 0, or 2^32 times the row that refuses plus its line, when the table
@@ -45,7 +45,7 @@ pub extern "C" fn sheet_step(
     new_locations: &[u32],
     new_values: &[i32],
 ) -> u32
-    ensures { result ≡ answerNumber (step_answer table.now phase locations.now
+    ensures { result ≡ answer_number (step_answer table.now phase locations.now
         values.now action new_locations.now new_values.now) }
 {
     judge::number(judge::step(
@@ -68,7 +68,7 @@ pub extern "C" fn sheet_environment(
     values: &[i32],
     new_values: &[i32],
 ) -> u32
-    ensures { result ≡ answerNumber (environment_answer table.now phase locations.now
+    ensures { result ≡ answer_number (environment_answer table.now phase locations.now
         values.now new_values.now) }
 {
     judge::number(judge::environment(table, phase, locations, values, new_values))

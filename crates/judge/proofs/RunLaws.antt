@@ -34,7 +34,7 @@ use Rattle.judge_rows.specs.declared.Admitted.{Admitted}
 use Rattle.judge_rows.specs.declared.Admitted.TheVariants.{In, Out}
 use Rattle.judge_call.specs.declared.Answer.{Answer}
 use Rattle.judge_call.specs.declared.Answer.TheVariants.{Yes, Marked, No, Refused}
-use Rattle.judge_call.specs.Answers.{answer_of, answerNumber}
+use Rattle.judge_call.specs.Answers.{answer_of, answer_number}
 use Rattle.judge_rows.specs.Phases.{phase_is, phase_for}
 use Rattle.judge_rows.specs.States.{filled, state_of, held}
 use Rattle.judge_rows.specs.RowTests.{phase_read, lengths_fit, locations_known, values_known}
@@ -203,7 +203,7 @@ module _ (t : List ℕ) (m : Model) (e : open_table t ≡ opened m) where
         let p = proposal_of a l' v' in
         ap (moved_to judged (held u)) (proposed_exact u a l' v') ∙ moved_exact judged u (proposed u p) ∙ ap (λ (y : J.Answer). held (goes y u (proposed u p))) judged_exact
 
-    turn_number : (turn_on t x own (held u) a l' v').number ≡ answerNumber asked
+    turn_number : (turn_on t x own (held u) a l' v').number ≡ answer_number asked
     unfolding turn_on
     turn_number = unwrapped (judge_fits t u (proposal_of a l' v')) judged_exact refl
 
@@ -236,7 +236,7 @@ module _ (t : List ℕ) (m : Model) (e : open_table t ≡ opened m) where
   -- the code's run ends where the definitions' does, and its answers from k on are those
   record Agrees (g : Gone) (old : List ℕ) (k count : ℕ) (r : Run J.Answer) : Type 0 where
     pub state : g.state ≡ held r.end
-    pub answers : g.answers ≡ take k old ++ (map answerNumber r.answers ++ drop (k + count) old)
+    pub answers : g.answers ≡ take k old ++ (map answer_number r.answers ++ drop (k + count) old)
     pub shaped : Shaped r.end
 
   go_on_exact : (actions ls : List ℕ) (vs : List ℤ) (u : R.State) → Shaped u → length ls ≡ n * length actions → length vs ≡ v * length actions
@@ -247,7 +247,7 @@ module _ (t : List ℕ) (m : Model) (e : open_table t ≡ opened m) where
   go_on_exact (a ∷ actions) ls vs u shaped h i old k room =
       let p = proposal_of a (take n ls) (take v vs) in
       let u' = goes (table_judge t u p) u (proposed u p) in
-      let num = answerNumber (table_judge t u p) in
+      let num = answer_number (table_judge t u p) in
       let sizes = mul-suc n (length actions) in
       let sizes' = mul-suc v (length actions) in
       let others : length (drop n ls) ≡ n * length actions = length-drop n ls ∙ omega arith in
@@ -255,7 +255,7 @@ module _ (t : List ℕ) (m : Model) (e : open_table t ≡ opened m) where
       let long : suc k + length actions ≤ length (set old k num) = rw (length-set old k num) (omega arith) in
       let rest = go_on_exact actions (drop n ls) (drop v vs) u' (goes_shaped u shaped a (take n ls) (take v vs)) others others' (set old k num) (suc k) long in
       rw (turn_state u shaped a (take n ls) (take v vs), turn_number u shaped a (take n ls) (take v vs))
-      (record { state = rest.state; answers = rest.answers ∙ joined old k num (map answerNumber (run (table_judge t) u' (proposals_of n v actions (drop n ls) (drop v vs))).answers) (length actions) (omega arith); shaped = rest.shaped })
+      (record { state = rest.state; answers = rest.answers ∙ joined old k num (map answer_number (run (table_judge t) u' (proposals_of n v actions (drop n ls) (drop v vs))).answers) (length actions) (omega arith); shaped = rest.shaped })
     where
       joined : (old : List ℕ) (k num : ℕ) (more : List ℕ) (c : ℕ) → k < length old
           → take (suc k) (set old k num) ++ (more ++ drop (suc k + c) (set old k num)) ≡ take k old ++ (num ∷ more ++ drop (k + suc c) old)
@@ -367,8 +367,8 @@ module _ (t : List ℕ) (phase : ℕ) (l : List ℕ) (k : List ℤ) (actions ls 
         let one = eq_of (length ls) (length m.automata * length actions) (and_left (eqb (length ls) (length m.automata * length actions)) _ sizes) in
         let one' = eq_of (length vs) (length m.variables * length actions) (and_right (eqb (length ls) (length m.automata * length actions)) _ sizes) in
         let agrees = go_on_exact t m e actions ls vs u (shaped_of t m e u b.known) one one' old 0 (omega arith) in
-        let count : length (map answerNumber run_of.answers) ≡ 0 + length actions =
-        length-map run_of.answers answerNumber ∙ run_length (table_judge t) u _ ∙ proposals_length _ _ actions ls vs ∙ sym (zero-add (length actions)) in
+        let count : length (map answer_number run_of.answers) ≡ 0 + length actions =
+        length-map run_of.answers answer_number ∙ run_length (table_judge t) u _ ∙ proposals_length _ _ actions ls vs ∙ sym (zero-add (length actions)) in
         let start : state_of q l k ≡ held u = ap (λ (p : Phase). state_of p l k) (sym (phase_held q)) in
         let end = run_of.end in
         let shaped = agrees.shaped in

@@ -10,7 +10,7 @@ use Rattle.model.specs.Runs.{Proposal, to_step, to_environment, table_judge, Run
 use Rattle.judge_runs.specs.declared.Ran.{Ran}
 use Rattle.judge_runs.specs.declared.Ran.TheVariants.{Ended, Refused, Uneven, AnswersShort, EndShort}
 use Rattle.judge_rows.specs.Phases.{phase_for}
-use Rattle.judge_call.specs.Answers.{answerNumber}
+use Rattle.judge_call.specs.Answers.{answer_number}
 use Rattle.judge_turn.specs.Turns.{environment_mark}
 use Rattle.judge_lists.specs.Lists.{in_front}
 
@@ -37,34 +37,34 @@ pub data RunAnswer : Type 0 where
   ran : Run Answer → RunAnswer
 
 -- the tests are true where the fault is there
-unfoldable pub is_uneven : Model → (actions newLocations : List ℕ) (newValues : List ℤ) → Bool
-is_uneven m actions newLocations newValues =
+unfoldable pub is_uneven : Model → (actions new_locations : List ℕ) (new_values : List ℤ) → Bool
+is_uneven m actions new_locations new_values =
     not
-    (eqb (length newLocations) (length m.automata * length actions) &&
-    eqb (length newValues) (length m.variables * length actions))
+    (eqb (length new_locations) (length m.automata * length actions) &&
+    eqb (length new_values) (length m.variables * length actions))
 
-unfoldable pub lacks_end : Model → (endLocations endValues : ℕ) → Bool
-lacks_end m endLocations endValues =
-    not (leb (length m.automata) endLocations && leb (length m.variables) endValues)
+unfoldable pub lacks_end : Model → (end_locations end_values : ℕ) → Bool
+lacks_end m end_locations end_values =
+    not (leb (length m.automata) end_locations && leb (length m.variables) end_values)
 
 -- from state s: rows 21 to 23 of it; then the list's own faults in this order; then the run
-unfoldable pub run_from : (table : List ℕ) → Model → State → (actions newLocations : List ℕ) (newValues : List ℤ)
-    → (answers endLocations endValues : ℕ) → RunAnswer
-run_from table m s actions newLocations newValues answers endLocations endValues =
+unfoldable pub run_from : (table : List ℕ) → Model → State → (actions new_locations : List ℕ) (new_values : List ℤ)
+    → (answers end_locations end_values : ℕ) → RunAnswer
+run_from table m s actions new_locations new_values answers end_locations end_values =
     cond (row21 m s) (not_run 21)
     (cond (row22 m s) (not_run 22)
     (cond (row23 m s) (not_run 23)
-    (cond (is_uneven m actions newLocations newValues) uneven
+    (cond (is_uneven m actions new_locations new_values) uneven
     (cond (ltb answers (length actions)) answers_short
-    (cond (lacks_end m endLocations endValues) end_short
+    (cond (lacks_end m end_locations end_values) end_short
     (ran
     (run (table_judge table) s
-    (proposals_of (length m.automata) (length m.variables) actions newLocations newValues))))))))
+    (proposals_of (length m.automata) (length m.variables) actions new_locations new_values))))))))
 
 -- the whole call: rows 18, 19 and 20 come first. The last three numbers are the lengths of the lent memory.
 unfoldable pub run_answer : (table : List ℕ) (phase : ℕ) (locations : List ℕ) (values : List ℤ)
-    → (actions newLocations : List ℕ) (newValues : List ℤ) (answers endLocations endValues : ℕ) → RunAnswer
-run_answer table phase locations values actions newLocations newValues answers endLocations endValues =
+    → (actions new_locations : List ℕ) (new_values : List ℤ) (answers end_locations end_values : ℕ) → RunAnswer
+run_answer table phase locations values actions new_locations new_values answers end_locations end_values =
     elim (open_table table) [
       | unopened row ↦ not_run row
       | opened m ↦
@@ -72,7 +72,7 @@ run_answer table phase locations values actions newLocations newValues answers e
             | none ↦ not_run 20
             | some p ↦
                 run_from table m (record { phase = p; locations = locations; values = values }) actions
-                newLocations newValues answers endLocations endValues
+                new_locations new_values answers end_locations end_values
           ]
     ]
 
@@ -94,7 +94,7 @@ lent_after given end_short old = old
 
 -- the answers' numbers; the locations and the values at the end
 unfoldable pub answers_after : RunAnswer → List ℕ → List ℕ
-answers_after = lent_after (λ r. map answerNumber r.answers)
+answers_after = lent_after (λ r. map answer_number r.answers)
 
 unfoldable pub locations_after : RunAnswer → List ℕ → List ℕ
 locations_after = lent_after (λ r. r.end.locations)

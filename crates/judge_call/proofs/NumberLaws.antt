@@ -6,45 +6,45 @@ use Rattle.model.specs.Table.{row18, model_of, Opened, unopened, opened, open_ta
 use Rattle.model.specs.Rules as R
 use Rattle.model.specs.Judge as J
 use Rattle.model.specs.Runs.{Proposal, to_step, to_environment, phase_number, call_of, table_judge}
-use Rattle.judge_call.specs.Answers.{answer_of, answerNumber}
+use Rattle.judge_call.specs.Answers.{answer_of, answer_number}
 use Rattle.judge_call.specs.declared.Answer.{Answer}
 use Rattle.judge_call.specs.declared.Answer.TheVariants.{Yes, Marked, No, Refused}
 
 -- `number`
 module _ (x : Answer) where
-  pub number_no : x ≡ No → 0 ≡ answerNumber (answer_of x) % 2 ^ 32
-  unfolding answerNumber answer_of
+  pub number_no : x ≡ No → 0 ≡ answer_number (answer_of x) % 2 ^ 32
+  unfolding answer_number answer_of
   number_no h = rw h
 
-  pub number_yes : x ≡ Yes → 1 ≡ answerNumber (answer_of x) % 2 ^ 32
-  unfolding answerNumber answer_of
+  pub number_yes : x ≡ Yes → 1 ≡ answer_number (answer_of x) % 2 ^ 32
+  unfolding answer_number answer_of
   number_yes h = rw h
 
   module _ (mark : Bool) (h : x ≡ Marked mark) where
-    pub number_marked : mark ≡ true → 2 ≡ answerNumber (answer_of x) % 2 ^ 32
-    unfolding answerNumber answer_of
+    pub number_marked : mark ≡ true → 2 ≡ answer_number (answer_of x) % 2 ^ 32
+    unfolding answer_number answer_of
     number_marked i = rw (h, i)
 
-    pub number_unmarked : mark ≡ false → 1 ≡ answerNumber (answer_of x) % 2 ^ 32
-    unfolding answerNumber answer_of
+    pub number_unmarked : mark ≡ false → 1 ≡ answer_number (answer_of x) % 2 ^ 32
+    unfolding answer_number answer_of
     number_unmarked i = rw (h, i)
 
-  pub number_refused : (row r : ℕ) → x ≡ Refused row → r ≡ (100 + row) % 2 ^ 32 → r ≡ answerNumber (answer_of x) % 2 ^ 32
-  unfolding answerNumber answer_of
+  pub number_refused : (row r : ℕ) → x ≡ Refused row → r ≡ (100 + row) % 2 ^ 32 → r ≡ answer_number (answer_of x) % 2 ^ 32
+  unfolding answer_number answer_of
   number_refused row r h e = rw h e
 
 pub ruleset number_laws = (number_no, number_yes, number_marked, number_unmarked, number_refused)
 
 -- the number fits 32 bits
 pub record Fits (a : J.Answer) : Type 0 where
-  pub below : answerNumber a < 2 ^ 32
+  pub below : answer_number a < 2 ^ 32
 
 fits_cond : (b : Bool) {x y : J.Answer} → Fits x → Fits y → Fits (cond b x y)
 fits_cond true f g = f
 fits_cond false f g = g
 
 fits_marked : (mark : Bool) → Fits (J.marked mark)
-unfolding answerNumber
+unfolding answer_number
 fits_marked true = record { below = lit< tt }
 fits_marked false = record { below = lit< tt }
 
@@ -63,12 +63,12 @@ open_cases t P first second good = go (row18 (length t)) refl
 
 module _ (t : List ℕ) (phase : ℕ) (l : List ℕ) (v : List ℤ) where
   phase_fits : (judge : R.Phase → J.Answer) (o : Option R.Phase) → ((p : R.Phase) → Fits (judge p)) → Fits (elim o [ none ↦ J.refused 20 | some p ↦ judge p ])
-  unfolding answerNumber
+  unfolding answer_number
   phase_fits judge none f = record { below = lit< tt }
   phase_fits judge (some p) f = f p
 
   call_fits : (judge : Model → R.State → J.Answer) → ((m : Model) (s : R.State) → Fits (judge m s)) → Fits (J.judge_at t phase l v judge)
-  unfolding J.judge_at answerNumber
+  unfolding J.judge_at answer_number
   call_fits judge f =
       open_cases t
       (λ o. Fits (elim o [ unopened row ↦ J.refused row | opened m ↦ elim (J.phase_of phase) [ none ↦ J.refused 20 | some p ↦ judge m (record { phase = p; locations = l; values = v }) ] ]))
@@ -77,7 +77,7 @@ module _ (t : List ℕ) (phase : ℕ) (l : List ℕ) (v : List ℤ) where
       (λ m. phase_fits (λ p. judge m (record { phase = p; locations = l; values = v })) (J.phase_of phase) (λ p. f m (record { phase = p; locations = l; values = v })))
 
   pub environment_fits : (v' : List ℤ) → Fits (J.environment_answer t phase l v v')
-  unfolding J.environment_answer J.judge_environment answerNumber
+  unfolding J.environment_answer J.judge_environment answer_number
   environment_fits v' =
       call_fits (λ m s. J.judge_environment m s v')
       (λ m s.
@@ -87,7 +87,7 @@ module _ (t : List ℕ) (phase : ℕ) (l : List ℕ) (v : List ℤ) where
       (fits_cond (J.environment_holds m s (R.changed s v')) (record { below = lit< tt }) (record { below = lit< tt })))))
 
   pub step_fits : (a : ℕ) (l' : List ℕ) (v' : List ℤ) → Fits (J.step_answer t phase l v a l' v')
-  unfolding J.step_answer J.judge_to answerNumber
+  unfolding J.step_answer J.judge_to answer_number
   step_fits a l' v' =
       call_fits (λ m s. J.judge_step m s a l' v')
       (λ m s.
@@ -98,8 +98,8 @@ module _ (t : List ℕ) (phase : ℕ) (l : List ℕ) (v : List ℤ) where
       (fits_cond (J.step_holds m s a (R.reached l' v')) (fits_marked (in_set m a m.tree)) (record { below = lit< tt }))))))
 
 -- so the code's number, which could wrap, is the answer's
-pub unwrapped : {r : ℕ} {x a : J.Answer} → Fits a → x ≡ a → r ≡ answerNumber x % 2 ^ 32 → r ≡ answerNumber a
-unwrapped fits e h = h ∙ ap (λ (y : J.Answer). answerNumber y % 2 ^ 32) e ∙ mod-eq_of_lt fits.below
+pub unwrapped : {r : ℕ} {x a : J.Answer} → Fits a → x ≡ a → r ≡ answer_number x % 2 ^ 32 → r ≡ answer_number a
+unwrapped fits e h = h ∙ ap (λ (y : J.Answer). answer_number y % 2 ^ 32) e ∙ mod-eq_of_lt fits.below
 
 pub judge_fits : (t : List ℕ) (s : R.State) (p : Proposal) → Fits (table_judge t s p)
 unfolding table_judge call_of J.answer_to

@@ -11,8 +11,8 @@ answer_of No = J.no
 answer_of (Refused row) = J.refused row
 
 -- 0 no, 1 yes, 2 yes with the mark true; from 100 up, 100 + the row that refuses
-unfoldable pub answerNumber : J.Answer → ℕ
-answerNumber J.no = 0
-answerNumber J.yes = 1
-answerNumber (J.marked mark) = cond mark 2 1
-answerNumber (J.refused row) = 100 + row
+unfoldable pub answer_number : J.Answer → ℕ
+answer_number J.no = 0
+answer_number J.yes = 1
+answer_number (J.marked mark) = cond mark 2 1
+answer_number (J.refused row) = 100 + row

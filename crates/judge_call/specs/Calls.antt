@@ -40,18 +40,18 @@ module _ (words : List ℕ) (x : Layout) where
         | true ↦ elim (owned_keep_at words x s t) [ true ↦ Yes | false ↦ No ]
       ]
 
-  abbrev pub environment_in : (locations : List ℕ) (values newValues : List ℤ) → Phase → Answer
-  environment_in locations values newValues phase =
-      environment_by (state_of phase locations values) (state_of Running locations newValues)
+  abbrev pub environment_in : (locations : List ℕ) (values new_values : List ℤ) → Phase → Answer
+  environment_in locations values new_values phase =
+      environment_by (state_of phase locations values) (state_of Running locations new_values)
 
-  unfoldable pub environment_on : (phase : ℕ) (locations : List ℕ) (values newValues : List ℤ) → Answer
-  environment_on phase locations values newValues =
-      then_rules (admitted_on words x phase locations values locations newValues)
-      (environment_in locations values newValues)
+  unfoldable pub environment_on : (phase : ℕ) (locations : List ℕ) (values new_values : List ℤ) → Answer
+  environment_on phase locations values new_values =
+      then_rules (admitted_on words x phase locations values locations new_values)
+      (environment_in locations values new_values)
 
   -- where s has passed the rows
-  unfoldable pub environment_from : (s : State) (newValues : List ℤ) (t : State) → Answer
-  environment_from s newValues t = then_answer (values_checked words x newValues) (environment_by s t)
+  unfoldable pub environment_from : (s : State) (new_values : List ℤ) (t : State) → Answer
+  environment_from s new_values t = then_answer (values_checked words x new_values) (environment_by s t)
 
   -- the step judge: row 24; then what holds of every automaton and of the composition; then whether some automata can
   -- take the action, and its mark
@@ -71,33 +71,33 @@ module _ (words : List ℕ) (x : Layout) where
               ]
         ]
 
-    abbrev pub step_in : (locations : List ℕ) (values : List ℤ) (action : ℕ) (newLocations : List ℕ)
-        → (newValues : List ℤ) → Phase → Answer
-    step_in locations values action newLocations newValues phase =
-        step_by (state_of phase locations values) action (state_of Running newLocations newValues)
+    abbrev pub step_in : (locations : List ℕ) (values : List ℤ) (action : ℕ) (new_locations : List ℕ)
+        → (new_values : List ℤ) → Phase → Answer
+    step_in locations values action new_locations new_values phase =
+        step_by (state_of phase locations values) action (state_of Running new_locations new_values)
 
-    unfoldable pub step_on : (phase : ℕ) (locations : List ℕ) (values : List ℤ) (action : ℕ) (newLocations : List ℕ)
-        → (newValues : List ℤ) → Answer
-    step_on phase locations values action newLocations newValues =
-        then_rules (admitted_on words x phase locations values newLocations newValues)
-        (step_in locations values action newLocations newValues)
+    unfoldable pub step_on : (phase : ℕ) (locations : List ℕ) (values : List ℤ) (action : ℕ) (new_locations : List ℕ)
+        → (new_values : List ℤ) → Answer
+    step_on phase locations values action new_locations new_values =
+        then_rules (admitted_on words x phase locations values new_locations new_values)
+        (step_in locations values action new_locations new_values)
 
-    unfoldable pub step_from : (s : State) (action : ℕ) (newLocations : List ℕ) (newValues : List ℤ) (t : State)
+    unfoldable pub step_from : (s : State) (action : ℕ) (new_locations : List ℕ) (new_values : List ℤ) (t : State)
         → Answer
-    step_from s action newLocations newValues t =
-        then_answer (state_checked words x newLocations newValues) (step_by s action t)
+    step_from s action new_locations new_values t =
+        then_answer (state_checked words x new_locations new_values) (step_by s action t)
 
 -- over any table: the check, and then by its layout
 abbrev pub own_of : (table : List ℕ) → List ℕ
 own_of table = own_sets table (layout_of table).sets
 
-unfoldable pub environment_at : (table : List ℕ) (phase : ℕ) (locations : List ℕ) (values newValues : List ℤ) → Answer
-environment_at table phase locations values newValues =
+unfoldable pub environment_at : (table : List ℕ) (phase : ℕ) (locations : List ℕ) (values new_values : List ℤ) → Answer
+environment_at table phase locations values new_values =
     then_answer (answered (open_table table))
-    (environment_on table (layout_of table) phase locations values newValues)
+    (environment_on table (layout_of table) phase locations values new_values)
 
 unfoldable pub step_at : (table : List ℕ) (phase : ℕ) (locations : List ℕ) (values : List ℤ) (action : ℕ)
-    → (newLocations : List ℕ) (newValues : List ℤ) → Answer
-step_at table phase locations values action newLocations newValues =
+    → (new_locations : List ℕ) (new_values : List ℤ) → Answer
+step_at table phase locations values action new_locations new_values =
     then_answer (answered (open_table table))
-    (step_on table (layout_of table) (own_of table) phase locations values action newLocations newValues)
+    (step_on table (layout_of table) (own_of table) phase locations values action new_locations new_values)

@@ -8,7 +8,7 @@ mod taken;
 
 ghost use Rattle.std.specs.Prelude.{◌≡◌, ◌%◌, ◌^◌};
 ghost use Rattle.model.specs.Judge.{step_answer, environment_answer};
-ghost use Rattle.judge_call.specs.Answers.{answer_of, answerNumber};
+ghost use Rattle.judge_call.specs.Answers.{answer_of, answer_number};
 
 pub use judgement::{environment_from, step_from};
 use model::Checked;
@@ -74,7 +74,7 @@ pub fn step(
 // An answer as one number: 0 no, 1 yes, 2 yes with the mark true; 100 + row refused. The sum wraps on no answer that a
 // judge gives.
 pub fn number(answer: Answer) -> u32
-    ensures { result ≡ answerNumber (answer_of answer) % 2 ^ 32 }
+    ensures { result ≡ answer_number (answer_of answer) % 2 ^ 32 }
 {
     match answer {
         Answer::No => 0,

@@ -30,18 +30,18 @@ module _ (words : List ℕ) (x : Layout) where
       ]
 
   -- of the states before and after
-  unfoldable pub lists_checked : (locations : List ℕ) (values : List ℤ) (newLocations : List ℕ)
-      → (newValues : List ℤ) → Checked
-  lists_checked locations values newLocations newValues =
+  unfoldable pub lists_checked : (locations : List ℕ) (values : List ℤ) (new_locations : List ℕ)
+      → (new_values : List ℤ) → Checked
+  lists_checked locations values new_locations new_values =
       elim
       (not (lengths_fit x (length locations) (length values)) ||
-      not (lengths_fit x (length newLocations) (length newValues))) [
+      not (lengths_fit x (length new_locations) (length new_values))) [
         | true ↦ C.Refused 21
         | false ↦
-            elim (not (locations_known words x locations) || not (locations_known words x newLocations)) [
+            elim (not (locations_known words x locations) || not (locations_known words x new_locations)) [
               | true ↦ C.Refused 22
               | false ↦
-                  elim (not (values_known words x values) || not (values_known words x newValues)) [
+                  elim (not (values_known words x values) || not (values_known words x new_values)) [
                     | true ↦ C.Refused 23
                     | false ↦ C.Good
                   ]
@@ -59,10 +59,10 @@ then_phase (In phase) lists = then_lists lists phase
 
 module _ (words : List ℕ) (x : Layout) where
   -- rows 20 to 23
-  unfoldable pub admitted_on : (phase : ℕ) (locations : List ℕ) (values : List ℤ) (newLocations : List ℕ)
-      → (newValues : List ℤ) → Admitted
-  admitted_on phase locations values newLocations newValues =
-      then_phase (phase_read phase) (lists_checked words x locations values newLocations newValues)
+  unfoldable pub admitted_on : (phase : ℕ) (locations : List ℕ) (values : List ℤ) (new_locations : List ℕ)
+      → (new_values : List ℤ) → Admitted
+  admitted_on phase locations values new_locations new_values =
+      then_phase (phase_read phase) (lists_checked words x locations values new_locations new_values)
 
 -- rows 20 to 23 of the state that a run starts from
 unfoldable pub begun_on : (words : List ℕ) → Layout → (locations : List ℕ) (values : List ℤ) (phase : ℕ) → Admitted

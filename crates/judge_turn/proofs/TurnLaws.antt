@@ -11,7 +11,7 @@ use Rattle.judge_rows.specs.declared.State.{State}
 use Rattle.judge_turn.specs.declared.Turn.{Turn}
 use Rattle.judge_call.specs.declared.Answer.{Answer}
 use Rattle.judge_call.specs.declared.Answer.TheVariants.{Yes, Marked, No, Refused}
-use Rattle.judge_call.specs.Answers.{answer_of, answerNumber}
+use Rattle.judge_call.specs.Answers.{answer_of, answer_number}
 use Rattle.judge_rows.specs.States.{state_of}
 use Rattle.judge_call.specs.Calls.{environment_from, step_from}
 use Rattle.judge_turn.specs.Turns.{environment_mark, judged_on, proposed_on, moved_to, turn_on}
@@ -62,7 +62,7 @@ pub ruleset moved_laws = (moved_yes, moved_marked, moved_no, moved_refused)
 
 -- `put`
 pub turn_is : (w : List ℕ) (x : Layout) (own : List ℕ) (s : State) (a : ℕ) (l' : List ℕ) (v' : List ℤ) (t : State) (y : Answer) (num : ℕ) (r : State)
-    → t ≡ proposed_on s a l' v' → y ≡ judged_on w x own s a l' v' t → num ≡ answerNumber (answer_of y) % 2 ^ 32 → r ≡ moved_to y s t
+    → t ≡ proposed_on s a l' v' → y ≡ judged_on w x own s a l' v' t → num ≡ answer_number (answer_of y) % 2 ^ 32 → r ≡ moved_to y s t
     → ◌≡◌ {A = Turn} (record { number = num; state = r }) (turn_on w x own s a l' v')
 unfolding turn_on
 turn_is w x own s a l' v' t y num r g e f h = rw (f, h, e, g)

@@ -6,7 +6,7 @@ use Rattle.judge_rows.specs.declared.State.{State}
 use Rattle.judge_turn.specs.declared.Turn.{Turn}
 use Rattle.judge_call.specs.declared.Answer.{Answer}
 use Rattle.judge_call.specs.declared.Answer.TheVariants as A
-use Rattle.judge_call.specs.Answers.{answer_of, answerNumber}
+use Rattle.judge_call.specs.Answers.{answer_of, answer_number}
 use Rattle.judge_rows.specs.States.{state_of}
 use Rattle.judge_call.specs.Calls.{environment_from, step_from}
 
@@ -18,18 +18,18 @@ environment_mark = 4294967295
 -- one proposal, from the state s that the run is in to the proposed state t
 unfoldable pub judged_on : (words : List ℕ) → Layout → (own : List ℕ) → State → (action : ℕ) → List ℕ → List ℤ
     → State → Answer
-judged_on words x own s action newLocations newValues t =
+judged_on words x own s action new_locations new_values t =
     elim (eqb action environment_mark) [
-      | true ↦ environment_from words x s newValues t
-      | false ↦ step_from words x own s action newLocations newValues t
+      | true ↦ environment_from words x s new_values t
+      | false ↦ step_from words x own s action new_locations new_values t
     ]
 
 -- the state that is proposed
 unfoldable pub proposed_on : State → (action : ℕ) → List ℕ → List ℤ → State
-proposed_on s action newLocations newValues =
+proposed_on s action new_locations new_values =
     elim (eqb action environment_mark) [
-      | true ↦ state_of Running s.locations newValues
-      | false ↦ state_of Running newLocations newValues
+      | true ↦ state_of Running s.locations new_values
+      | false ↦ state_of Running new_locations new_values
     ]
 
 -- only a yes moves the run
@@ -41,7 +41,7 @@ moved_to (A.Refused row) s t = s
 
 -- one proposal: its answer's number, and the state after it
 unfoldable pub turn_on : (words : List ℕ) → Layout → (own : List ℕ) → State → (action : ℕ) → List ℕ → List ℤ → Turn
-turn_on words x own s action newLocations newValues =
-    let t = proposed_on s action newLocations newValues in
-    let answer = judged_on words x own s action newLocations newValues t in
-    record { number = answerNumber (answer_of answer) % 2 ^ 32; state = moved_to answer s t }
+turn_on words x own s action new_locations new_values =
+    let t = proposed_on s action new_locations new_values in
+    let answer = judged_on words x own s action new_locations new_values t in
+    record { number = answer_number (answer_of answer) % 2 ^ 32; state = moved_to answer s t }

@@ -5,7 +5,7 @@
 
 ghost use Rattle.std.specs.Prelude.{◌≤◌, length};
 
-use libc::{STDERR_FILENO, STDIN_FILENO, STDOUT_FILENO};
+use std::io::{Read, Stderr, Stdin, Write};
 
 // One byte more than a text may have, so that a longer input shows.
 const BYTES: usize = model::Model::BYTES + 1;
@@ -18,23 +18,25 @@ struct Input {
 }
 
 // Reads until the input ends, the bytes are full or a read fails.
-fn read_all(bytes: &mut [u8]) -> Input
+fn read_all(mut stdin: Stdin, bytes: &mut [u8]) -> Input
     ensures { result.length ≤ length bytes.new }
 {
     let mut n = 0;
     while n < bytes.len() {
-        let got = libc::read(STDIN_FILENO, &mut bytes[n..]);
-        if got < 0 {
-            return Input {
-                length: n,
-                failed: true,
-            };
+        match stdin.read(&mut bytes[n..]) {
+            Ok(more) => {
+                if more == 0 {
+                    break;
+                }
+                n += more;
+            }
+            Err(_) => {
+                return Input {
+                    length: n,
+                    failed: true,
+                };
+            }
         }
-        let more = io::count(got, &bytes[n..]);
-        if more == 0 {
-            break;
-        }
-        n += more;
     }
     Input {
         length: n,
@@ -42,18 +44,23 @@ fn read_all(bytes: &mut [u8]) -> Input
     }
 }
 
-fn main() {
+// What is lost where standard error takes no line is lost.
+fn say(mut stderr: Stderr, line: &[u8]) -> bool {
+    stderr.write_all(line).is_ok()
+}
+
+fn main(rt: HostRuntime) {
     let mut bytes = [0u8; BYTES];
-    let input = read_all(&mut bytes);
+    let input = read_all(rt.stdin(), &mut bytes);
     if input.failed {
-        io::write_all(STDERR_FILENO, b"linearize: a read failed\n");
+        say(rt.stderr(), b"linearize: a read failed\n");
         return;
     }
     let n = input.length;
     let printed = merge_output::output(&bytes[..n]);
     let out = printed.bytes;
     let k = printed.length;
-    if !io::write_all(STDOUT_FILENO, &out[..k]) {
-        io::write_all(STDERR_FILENO, b"linearize: a write failed\n");
+    if rt.stdout().write_all(&out[..k]).is_err() {
+        say(rt.stderr(), b"linearize: a write failed\n");
     }
 }

@@ -28,7 +28,7 @@ use Rattle.reader.proofs.LineBound.{refusal_line}
 use Rattle.merger.specs.declared.Outcome.{Outcome}
 use Rattle.merger.specs.declared.Outcome.TheVariants.{Merged, Refused}
 use Rattle.merge_output.specs.declared.Printed.{Printed}
-use Rattle.merger.specs.Answers.{mergeOf}
+use Rattle.merger.specs.Answers.{merge_of}
 use Rattle.merger.specs.Outcome.{passed_on, outcome, outcome_after}
 use Rattle.merge_output.specs.Printed.{place_of, printed, Put, Stands}
 
@@ -142,7 +142,7 @@ module _ (text zeros : Bytes) (are : zeros ≡ replicate 65536 0) where
 
   -- which of them, by the outcome
   in_text : (n edges : ℕ) → outcome text (length zeros) ≡ Merged n edges → Printing text (outcome_after text zeros) n
-  unfolding outcome passed_on mergeOf
+  unfolding outcome passed_on merge_of
   in_text n edges e = go (read_answer text table_words) refl
     where
       never : (row line : ℕ) → Refused row line ≡ Merged n edges → ⊥
@@ -160,7 +160,7 @@ module _ (text zeros : Bytes) (are : zeros ≡ replicate 65536 0) where
       go (Reader.accepted m) f = in_model m f (merge_answer (table_of m) (length zeros)) refl
 
   in_row : (row line : ℕ) → outcome text (length zeros) ≡ Refused row line → Refusing text (outcome_after text zeros) row line
-  unfolding outcome passed_on mergeOf
+  unfolding outcome passed_on merge_of
   in_row row line e = go (read_answer text table_words) refl
     where
       both : (x y : ℕ) → Refused x y ≡ Refused row line → Refusing text (outcome_after text zeros) x y → Refusing text (outcome_after text zeros) row line

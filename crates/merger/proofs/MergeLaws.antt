@@ -27,7 +27,7 @@ use Rattle.merge_words.specs.Linearize.{refused_by, merged_to}
 use Rattle.merge_table.specs.Linearization.{linear_model, linearization_of, linearization}
 use Rattle.merger.specs.declared.MergeAnswer.{MergeAnswer}
 use Rattle.merger.specs.declared.MergeAnswer.TheVariants as A
-use Rattle.merger.specs.Answers.{mergeOf, reportedOf}
+use Rattle.merger.specs.Answers.{merge_of, reported_of}
 
 -- no refusal has row 0
 open_row : (t : List ℕ) (row : ℕ) → open_table t ≡ unopened row → row ≡ 0 → ⊥
@@ -75,9 +75,9 @@ module _ (t : List ℕ) (l : Linearization) (e : l ≡ linearization t) where
       go (opened m) p = rw (p, merge_answer) (in_model m p (merge_fault m) refl)
 
   module _ (h : l.row ≡ 0 → ⊥) (old : Bytes) where
-    pub merge_refused : A.Refused l.row ≡ mergeOf (merge_answer t (length old))
-    unfolding mergeOf
-    merge_refused = sym (ap mergeOf (answers_row h (length old)))
+    pub merge_refused : A.Refused l.row ≡ merge_of (merge_answer t (length old))
+    unfolding merge_of
+    merge_refused = sym (ap merge_of (answers_row h (length old)))
 
     pub merge_untouched : old ≡ merge_after (merge_answer t (length old)) old
     unfolding merge_after
@@ -119,30 +119,30 @@ module _ (m : Model) (t : List ℕ) (p : open_table t ≡ opened m) (q : merge_f
   in_words = rw (p, merge_answer)
 
   said : (b : Bool) → row35 (length old) (text_of (linear m)) ≡ b
-      → (reportedOf w (merged_count m) ≡ mergeOf (merge_model m (length old))) × (new ≡ merge_after (merge_model m (length old)) old)
-  unfolding merge_model copy_answer given buffer_after reportedOf mergeOf merge_after
+      → (reported_of w (merged_count m) ≡ merge_of (merge_model m (length old))) × (new ≡ merge_after (merge_model m (length old)) old)
+  unfolding merge_model copy_answer given buffer_after reported_of merge_of merge_after
   said true f =
       let c : copy_answer (text_of (linear m)) (length old) ≡ F.unwritten 35 = rw (f, copy_answer) in
       let g : merge_model m (length old) ≡ unmerged 35 = rw (q, merge_model, f) in (
-        ap (λ (x : WriteAnswer). reportedOf x (merged_count m)) (a.answer ∙ ap given c) ∙ sym (ap mergeOf g),
+        ap (λ (x : WriteAnswer). reported_of x (merged_count m)) (a.answer ∙ ap given c) ∙ sym (ap merge_of g),
         a.memory ∙ ap (λ (x : F.WriteAnswer). buffer_after x old) c ∙ sym (ap (λ (x : Answer). merge_after x old) g),
       )
   said false f =
       let c : copy_answer (text_of (linear m)) (length old) ≡ F.written (text_of (linear m)) = rw (f, copy_answer) in
       let g : merge_model m (length old) ≡ merged (text_of (linear m)) (merged_count m) = rw (q, merge_model, f) in (
-        ap (λ (x : WriteAnswer). reportedOf x (merged_count m)) (a.answer ∙ ap given c) ∙ sym (ap mergeOf g),
+        ap (λ (x : WriteAnswer). reported_of x (merged_count m)) (a.answer ∙ ap given c) ∙ sym (ap merge_of g),
         a.memory ∙ ap (λ (x : F.WriteAnswer). buffer_after x old) c ∙ sym (ap (λ (x : Answer). merge_after x old) g),
       )
 
-  pub said_of : (reportedOf w (merged_count m) ≡ mergeOf (merge_answer t (length old))) × (new ≡ merge_after (merge_answer t (length old)) old)
+  pub said_of : (reported_of w (merged_count m) ≡ merge_of (merge_answer t (length old))) × (new ≡ merge_after (merge_answer t (length old)) old)
   said_of =
       let s = said (row35 (length old) (text_of (linear m))) refl in
-      (s.0 ∙ sym (ap mergeOf in_words), s.1 ∙ sym (ap (λ (x : Answer). merge_after x old) in_words))
+      (s.0 ∙ sym (ap merge_of in_words), s.1 ∙ sym (ap (λ (x : Answer). merge_after x old) in_words))
 
 -- the words of the merged model's table spell its text
 module _ (t : List ℕ) (l : Linearization) (e : l ≡ linearization t) (h : l.row ≡ 0) (ws : List ℕ) (ew : ws ≡ l.table) (old new : Bytes) (w : WriteAnswer)
     (a : Answered (words_answer 65536 ws (length old)) old new w) where
-  both : (reportedOf w l.edges ≡ mergeOf (merge_answer t (length old))) × (new ≡ merge_after (merge_answer t (length old)) old)
+  both : (reported_of w l.edges ≡ merge_of (merge_answer t (length old))) × (new ≡ merge_after (merge_answer t (length old)) old)
   both =
       let f = found_merged t l e h in
       let m = f.model in
@@ -152,9 +152,9 @@ module _ (t : List ℕ) (l : Linearization) (e : l ≡ linearization t) (h : l.r
       let spelled = words_text (linear m) law ws _ (table_sheet ws [] (linear m) stands) 65536 (omega arith) old in
       let b : Answered (copy_answer (text_of (linear m)) (length old)) old new w = subst (λ (x : F.WriteAnswer). Answered x old new w) spelled a in
       let r = said_of m t f.opens f.unrefused old new w b in
-      (ap (reportedOf w) f.edges ∙ r.0, r.1)
+      (ap (reported_of w) f.edges ∙ r.0, r.1)
 
-  pub merge_answered : (r : MergeAnswer) → r ≡ reportedOf w l.edges → r ≡ mergeOf (merge_answer t (length old))
+  pub merge_answered : (r : MergeAnswer) → r ≡ reported_of w l.edges → r ≡ merge_of (merge_answer t (length old))
   merge_answered r g = g ∙ both.0
 
   pub merge_written : new ≡ merge_after (merge_answer t (length old)) old
@@ -163,12 +163,12 @@ module _ (t : List ℕ) (l : Linearization) (e : l ≡ linearization t) (h : l.r
 pub ruleset merge_laws = (merge_refused, merge_untouched, merge_answered, merge_written)
 
 -- `reported`
-pub reported_text : (w : WriteAnswer) (n edges : ℕ) → w ≡ W.Written n → A.Merged n edges ≡ reportedOf w edges
-unfolding reportedOf
-reported_text w n edges e = sym (ap (λ (x : WriteAnswer). reportedOf x edges) e)
+pub reported_text : (w : WriteAnswer) (n edges : ℕ) → w ≡ W.Written n → A.Merged n edges ≡ reported_of w edges
+unfolding reported_of
+reported_text w n edges e = sym (ap (λ (x : WriteAnswer). reported_of x edges) e)
 
-pub reported_row : (w : WriteAnswer) (row edges : ℕ) → w ≡ W.Refused row → A.Refused row ≡ reportedOf w edges
-unfolding reportedOf
-reported_row w row edges e = sym (ap (λ (x : WriteAnswer). reportedOf x edges) e)
+pub reported_row : (w : WriteAnswer) (row edges : ℕ) → w ≡ W.Refused row → A.Refused row ≡ reported_of w edges
+unfolding reported_of
+reported_row w row edges e = sym (ap (λ (x : WriteAnswer). reported_of x edges) e)
 
 pub ruleset reported_laws = (reported_text, reported_row)

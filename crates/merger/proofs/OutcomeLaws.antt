@@ -18,7 +18,7 @@ use Rattle.merger.specs.declared.MergeAnswer.{MergeAnswer}
 use Rattle.merger.specs.declared.MergeAnswer.TheVariants as A
 use Rattle.merger.specs.declared.Outcome.{Outcome}
 use Rattle.merger.specs.declared.Outcome.TheVariants.{Merged, Refused}
-use Rattle.merger.specs.Answers.{mergeOf}
+use Rattle.merger.specs.Answers.{merge_of}
 use Rattle.merger.specs.Outcome.{passed_on, outcome, outcome_after}
 
 -- `passed_on`
@@ -79,10 +79,10 @@ module _ (text : Bytes) (a : ReadAnswer) (e : a ≡ read_of (read_answer text (l
         let all : drop table_words zeros ≡ [] = drop_of_length-le zeros few in
         g ∙ rw (h, table_after) (ap (λ (l : List ℕ). table_of read_model.0 ++ l) all ∙ append-nil (table_of read_model.0))
 
-    pub merge_text_merged : (b : MergeAnswer) (r : Outcome) → b ≡ mergeOf (merge_answer table (length old)) → r ≡ passed_on b → r ≡ outcome text (length old)
+    pub merge_text_merged : (b : MergeAnswer) (r : Outcome) → b ≡ merge_of (merge_answer table (length old)) → r ≡ passed_on b → r ≡ outcome text (length old)
     unfolding outcome
     merge_text_merged b r eb er =
-        er ∙ ap passed_on (eb ∙ ap (λ (t : List ℕ). mergeOf (merge_answer t (length old))) read_table) ∙ rw (read_model.1, outcome)
+        er ∙ ap passed_on (eb ∙ ap (λ (t : List ℕ). merge_of (merge_answer t (length old))) read_table) ∙ rw (read_model.1, outcome)
 
     pub merge_text_written : (new : Bytes) → new ≡ merge_after (merge_answer table (length old)) old → new ≡ outcome_after text old
     unfolding outcome_after

@@ -7,11 +7,11 @@ use Rattle.merger.specs.declared.MergeAnswer.{MergeAnswer}
 use Rattle.merger.specs.declared.MergeAnswer.TheVariants as A
 
 -- the length that is reported is that of the text, the count of edges the definition's
-unfoldable pub mergeOf : M.MergeAnswer → MergeAnswer
-mergeOf (M.unmerged row) = A.Refused row
-mergeOf (M.merged text edges) = A.Merged (length text) edges
+unfoldable pub merge_of : M.MergeAnswer → MergeAnswer
+merge_of (M.unmerged row) = A.Refused row
+merge_of (M.merged text edges) = A.Merged (length text) edges
 
 -- what the writer says, with a count of edges
-unfoldable pub reportedOf : W.WriteAnswer → (edges : ℕ) → MergeAnswer
-reportedOf (Written n) edges = A.Merged n edges
-reportedOf (Refused row) edges = A.Refused row
+unfoldable pub reported_of : W.WriteAnswer → (edges : ℕ) → MergeAnswer
+reported_of (Written n) edges = A.Merged n edges
+reported_of (Refused row) edges = A.Refused row

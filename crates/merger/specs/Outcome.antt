@@ -9,7 +9,7 @@ use Rattle.merger.specs.declared.MergeAnswer.{MergeAnswer}
 use Rattle.merger.specs.declared.MergeAnswer.TheVariants as A
 use Rattle.merger.specs.declared.Outcome.{Outcome}
 use Rattle.merger.specs.declared.Outcome.TheVariants.{Merged, Refused}
-use Rattle.merger.specs.Answers.{mergeOf}
+use Rattle.merger.specs.Answers.{merge_of}
 
 -- a refusal of the merger's has line 0
 unfoldable pub passed_on : MergeAnswer → Outcome
@@ -20,7 +20,7 @@ unfoldable pub outcome : Bytes → (buffer : ℕ) → Outcome
 outcome text buffer =
     elim (read_answer text table_words) [
       | refused row line ↦ Refused row line
-      | accepted m ↦ passed_on (mergeOf (merge_answer (table_of m) buffer))
+      | accepted m ↦ passed_on (merge_of (merge_answer (table_of m) buffer))
     ]
 
 -- the lent buffer afterwards; after a refusal as it was

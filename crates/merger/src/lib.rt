@@ -3,7 +3,7 @@
 
 ghost use Rattle.std.specs.Prelude.{◌≡◌, length};
 ghost use Rattle.format.specs.Merger.{merge_answer, merge_after};
-ghost use Rattle.merger.specs.Answers.{mergeOf, reportedOf};
+ghost use Rattle.merger.specs.Answers.{merge_of, reported_of};
 ghost use Rattle.merger.specs.Outcome.{passed_on, outcome, outcome_after};
 
 use model::Model;
@@ -26,7 +26,7 @@ pub enum Outcome {
 
 // What was written, with the count of edges.
 fn reported(answer: WriteAnswer, edges: usize) -> MergeAnswer
-    ensures { result ≡ reportedOf answer edges }
+    ensures { result ≡ reported_of answer edges }
 {
     match answer {
         WriteAnswer::Written(n) => MergeAnswer::Merged(n, edges),
@@ -36,7 +36,7 @@ fn reported(answer: WriteAnswer, edges: usize) -> MergeAnswer
 
 // Writes the text of the merged automaton. Rows 18, 19 and 31 to 35; a refusal has written nothing.
 pub fn merge(table: &[u32], out: &mut [u8]) -> MergeAnswer
-    ensures value { result ≡ mergeOf (merge_answer table.now (length out.old)) }
+    ensures value { result ≡ merge_of (merge_answer table.now (length out.old)) }
     ensures out_after { out.new
         ≡ merge_after (merge_answer table.now (length out.old)) out.old }
 {

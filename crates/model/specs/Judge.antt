@@ -124,12 +124,12 @@ judge_at table phase locations values judge =
     ]
 
 unfoldable pub step_answer : List ℕ → (phase : ℕ) → List ℕ → List ℤ → (action : ℕ) → List ℕ → List ℤ → Answer
-step_answer table phase locations values action newLocations newValues =
-    judge_at table phase locations values (λ m s. judge_step m s action newLocations newValues)
+step_answer table phase locations values action new_locations new_values =
+    judge_at table phase locations values (λ m s. judge_step m s action new_locations new_values)
 
 unfoldable pub environment_answer : List ℕ → (phase : ℕ) → List ℕ → List ℤ → List ℤ → Answer
-environment_answer table phase locations values newValues =
-    judge_at table phase locations values (λ m s. judge_environment m s newValues)
+environment_answer table phase locations values new_values =
+    judge_at table phase locations values (λ m s. judge_environment m s new_values)
 
 -- a call of either judge, as it is made
 pub data Call : Type 0 where
@@ -137,9 +137,9 @@ pub data Call : Type 0 where
   environment : (phase : ℕ) → List ℕ → List ℤ → List ℤ → Call
 
 unfoldable pub answer_to : List ℕ → Call → Answer
-answer_to table (step phase locations values action newLocations newValues) =
-    step_answer table phase locations values action newLocations newValues
-answer_to table (environment phase locations values newValues) = environment_answer table phase locations values newValues
+answer_to table (step phase locations values action new_locations new_values) =
+    step_answer table phase locations values action new_locations new_values
+answer_to table (environment phase locations values new_values) = environment_answer table phase locations values new_values
 
 -- no row refuses the call
 pub record StepPasses (m : Model) (s : State) (a : ℕ) (t : State) : Type 0 where

@@ -30,7 +30,7 @@ use Rattle.read_words.specs.Codes.{stray_code}
 use Rattle.read_words.specs.declared.reading.Words.{Words}
 use Rattle.read_words.specs.declared.reading.Words.TheVariants as Words
 use Rattle.read_words.specs.Read.{answer, count, written, Reads}
-use Rattle.read_words.proofs.Answers.{read-all-words, read-stray-word, never-full, words-read, half-as-many, said_read}
+use Rattle.read_words.proofs.Answers.{read_all_words, read_stray_word, never_full, words_read, half_as_many, said_read}
 use Rattle.read_form.proofs.Outcomes.{same_row}
 use Rattle.model.proofs.Tests.{not_leb}
 use Rattle.read_nodes.specs.declared.Nodes.{Nodes}
@@ -97,16 +97,16 @@ module _ (part : Bytes) (sound : sounds [] (tokens part) ≡ true) where
         let f = read_front part (blank room) after n k in
         let s = said_read (codes_of part) room n (sym e) in
         record {
-          coded = sym f.0 ∙ (read-all-words part (blank room) after n sound k).front;
-          back = ap (map word_of) (sym f.0) ∙ words-read part (blank room) after n sound k;
-          few = omega (arith, f.1, s.0, half-as-many part);
+          coded = sym f.0 ∙ (read_all_words part (blank room) after n sound k).front;
+          back = ap (map word_of) (sym f.0) ∙ words_read part (blank room) after n sound k;
+          few = omega (arith, f.1, s.0, half_as_many part);
         }
 
     unspelled : answer (codes_of part) room ≡ Words.Stray → read_pred the_words ≡ none
-    unspelled e = read-stray-word part (blank room) after sound (rw e at (reads_are part room))
+    unspelled e = read_stray_word part (blank room) after sound (rw e at (reads_are part room))
 
     unfilled : length part ≤ 2 * room → answer (codes_of part) room ≡ Words.Full → ⊥
-    unfilled l e = never-full part (blank room) after (omega (arith, length-replicate {A = ℕ} room 0)) (rw e at (reads_are part room))
+    unfilled l e = never_full part (blank room) after (omega (arith, length-replicate {A = ℕ} room 0)) (rw e at (reads_are part room))
 
   -- the predicate that they make
   made : lacks (read_pred the_words) ≡ false → read_pred the_words ≡ some (text_pred part)
@@ -279,7 +279,7 @@ module _ (part : Bytes) (room high : ℕ) (enough : length part ≤ 2 * room) (s
   pub answer_same : (most : ℕ) → length part ≤ 2 * most → answer (codes_of part) room ≡ answer (codes_of part) most
   unfolding answer count codes_of
   answer_same most l =
-      let g = half-as-many part in
+      let g = half_as_many part in
       rw (le-leb (gap stray_code (codes_of part)) room (omega arith), le-leb (gap stray_code (codes_of part)) most (omega arith), answer)
 
   module _ (o : Bool) (variables : ℕ) (ranges : List ℕ) (before most top : ℕ) (up : length part ≤ 2 * most) (over : length part ≤ 2 * top) where

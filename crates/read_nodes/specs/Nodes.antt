@@ -31,13 +31,13 @@ extent_fault ranges before nodes =
     (broken 11 (not (leb (before + length nodes) max_nodes))
     none))
 
-module _ (oldOnly : Bool) (variables : ℕ) (ranges : List ℕ) (before : ℕ) where
+module _ (old_only : Bool) (variables : ℕ) (ranges : List ℕ) (before : ℕ) where
   -- rows 6 to 11
   unfoldable pub nodes_fault : (nodes : List ℕ) → Option ℕ
   nodes_fault nodes =
       broken 6 (lacks (read_pred (map word_of nodes)))
       (broken 7 (names_outside variables (map word_of nodes))
-      (broken 8 (oldOnly && names_new (map word_of nodes))
+      (broken 8 (old_only && names_new (map word_of nodes))
       (extent_fault ranges before nodes)))
 
   -- with room for so many sorts
@@ -56,10 +56,10 @@ codes_of part = codes Word (tokens part)
 
 -- with room for so many nodes, and for so many sorts
 unfoldable pub nodes_read :
-    (part : Bytes) (oldOnly : Bool) (variables : ℕ) (ranges : List ℕ) (before room high : ℕ) → Nodes
-nodes_read part oldOnly variables ranges before room high =
+    (part : Bytes) (old_only : Bool) (variables : ℕ) (ranges : List ℕ) (before room high : ℕ) → Nodes
+nodes_read part old_only variables ranges before room high =
     elim (sounds [] (tokens part)) [
-      | true ↦ on_words oldOnly variables ranges before high (codes_of part) (answer (codes_of part) room)
+      | true ↦ on_words old_only variables ranges before high (codes_of part) (answer (codes_of part) room)
       | false ↦ Unsound 3
     ]
 

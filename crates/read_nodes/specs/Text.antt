@@ -14,12 +14,12 @@ use Rattle.format.specs.Tokens.{tokens, sounds, read_words}
 unfoldable pub text_pred : Bytes → Pred
 text_pred part = or_else (all P.none) (read_pred (read_words (tokens part)))
 
-unfoldable pub text_fault : (declared : List Range) (before : ℕ) (oldOnly : Bool) → Bytes → (rest : Option ℕ) → Option ℕ
-text_fault declared before oldOnly part rest =
+unfoldable pub text_fault : (declared : List Range) (before : ℕ) (old_only : Bool) → Bytes → (rest : Option ℕ) → Option ℕ
+text_fault declared before old_only part rest =
     broken 3 (not (sounds [] (tokens part)))
     (broken 6 (lacks (read_pred (read_words (tokens part))))
     (broken 7 (names_outside (length declared) (read_words (tokens part)))
-    (broken 8 (oldOnly && names_new (read_words (tokens part)))
+    (broken 8 (old_only && names_new (read_words (tokens part)))
     (broken 9 (is_too_deep (text_pred part))
     (broken 10 (exceeds_span declared (text_pred part))
     (broken 11 (passes_nodes before (read_words (tokens part)))

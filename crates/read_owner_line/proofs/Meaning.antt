@@ -24,9 +24,9 @@ told none o = Sound (owner_word o)
 told (some row) o = Fault row
 
 -- the three tests of the line in one order, here and there
-by_tests : (two isNobody inside : Bool) (n : ℕ)
-    → elim two as (λ x. OwnerRead) [ true ↦ Fault 2 | false ↦ elim isNobody as (λ x. OwnerRead) [ true ↦ Sound 0 | false ↦ elim inside as (λ x. OwnerRead) [ true ↦ Sound (suc n) | false ↦ Fault 3 ] ] ]
-    ≡ told (broken 2 two (broken 3 (not (isNobody || inside)) none)) (elim isNobody as (λ x. Option ℕ) [ true ↦ none | false ↦ some n ])
+by_tests : (two is_nobody inside : Bool) (n : ℕ)
+    → elim two as (λ x. OwnerRead) [ true ↦ Fault 2 | false ↦ elim is_nobody as (λ x. OwnerRead) [ true ↦ Sound 0 | false ↦ elim inside as (λ x. OwnerRead) [ true ↦ Sound (suc n) | false ↦ Fault 3 ] ] ]
+    ≡ told (broken 2 two (broken 3 (not (is_nobody || inside)) none)) (elim is_nobody as (λ x. Option ℕ) [ true ↦ none | false ↦ some n ])
 unfolding told broken owner_word
 by_tests true b c n = refl
 by_tests false true c n = refl

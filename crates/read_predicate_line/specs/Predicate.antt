@@ -20,9 +20,9 @@ abbrev pub most_words : ℕ
 most_words = 32768
 
 -- what is read of the bytes, with room for so many nodes and sorts; the ranges stand in the table
-unfoldable pub predicate_read : (part : Bytes) (oldOnly : Bool) → Counts → (words : List ℕ) (room high : ℕ) → Nodes
-predicate_read part oldOnly c words room high =
-    nodes_read part oldOnly c.variables (ranges_in words c.variables) c.nodes room high
+unfoldable pub predicate_read : (part : Bytes) (old_only : Bool) → Counts → (words : List ℕ) (room high : ℕ) → Nodes
+predicate_read part old_only c words room high =
+    nodes_read part old_only c.variables (ranges_in words c.variables) c.nodes room high
 
 -- and the row that it breaks; where there is no room, it has more words than a text can have
 unfoldable pub row_in : Nodes → Option ℕ
@@ -30,8 +30,8 @@ row_in (Are n) = none
 row_in (Unsound row) = some row
 row_in Full = some 6
 
-unfoldable pub predicate_fault : (part : Bytes) (oldOnly : Bool) → Counts → (words : List ℕ) (room high : ℕ) → Option ℕ
-predicate_fault part oldOnly c words room high = row_in (predicate_read part oldOnly c words room high)
+unfoldable pub predicate_fault : (part : Bytes) (old_only : Bool) → Counts → (words : List ℕ) (room high : ℕ) → Option ℕ
+predicate_fault part old_only c words room high = row_in (predicate_read part old_only c words room high)
 
 -- a line with a predicate: the answer, and the buffer after it
 abbrev pub line_told : Option ℕ → (nodes at : ℕ) (new : List ℕ) → LineRead

@@ -32,30 +32,30 @@ use Rattle.text_bytes.proofs.FindLaws.{gap_on}
 use Rattle.read_words.proofs.ReadLaws.{gap_stop, gap_nil}
 
 -- no code is stray: the codes are those of the words
-agree-all : (cs : List ℕ) (ws : List Word) → Agree cs ws → Free stray_code cs → (cs ≡ map code ws) × Free stray ws
-agree-all cs ws done f = (refl, tt)
-agree-all cs ws (halt c w _ _ e h) f = absurd (f.0 e)
-agree-all cs ws (next c w ds vs e n a) f =
-    let i = agree-all ds vs a f.1 in
+agree_all : (cs : List ℕ) (ws : List Word) → Agree cs ws → Free stray_code cs → (cs ≡ map code ws) × Free stray ws
+agree_all cs ws done f = (refl, tt)
+agree_all cs ws (halt c w _ _ e h) f = absurd (f.0 e)
+agree_all cs ws (next c w ds vs e n a) f =
+    let i = agree_all ds vs a f.1 in
     (ap (λ (x : ℕ). x ∷ ds) e ∙ ap (λ (l : List ℕ). code w ∷ l) i.0, ((λ z. n (e ∙ ap code z)), i.1))
 
 -- one is stray: the words make no stack
-stack-stray : (w : Word) (ws : List Word) → w ≡ stray → stack (w ∷ ws) ≡ none
+stack_stray : (w : Word) (ws : List Word) → w ≡ stray → stack (w ∷ ws) ≡ none
 unfolding stack
-stack-stray w ws h = rw h (go (stack ws))
+stack_stray w ws h = rw h (go (stack ws))
   where
     go : (o : Option Stack) → on_some (push stray) o ≡ none
     go none = unfold on_some in refl
     go (some s) = unfold on_some push in refl
 
-stack-none : (w : Word) (ws : List Word) → stack ws ≡ none → stack (w ∷ ws) ≡ none
+stack_none : (w : Word) (ws : List Word) → stack ws ≡ none → stack (w ∷ ws) ≡ none
 unfolding stack on_some
-stack-none w ws h = rw h
+stack_none w ws h = rw h
 
-agree-stray : (cs : List ℕ) (ws : List Word) → Agree cs ws → gap stray_code cs < length cs → stack ws ≡ none
-agree-stray cs ws done l = absurd (omega arith)
-agree-stray cs ws (halt c w ds vs e h) l = stack-stray w vs h
-agree-stray cs ws (next c w ds vs e n a) l = stack-none w vs (agree-stray ds vs a (omega (arith, gap_on stray_code c ds n)))
+agree_stray : (cs : List ℕ) (ws : List Word) → Agree cs ws → gap stray_code cs < length cs → stack ws ≡ none
+agree_stray cs ws done l = absurd (omega arith)
+agree_stray cs ws (halt c w ds vs e h) l = stack_stray w vs h
+agree_stray cs ws (next c w ds vs e n a) l = stack_none w vs (agree_stray ds vs a (omega (arith, gap_on stray_code c ds n)))
 
 -- what an answer says of the codes
 module _ (cs : List ℕ) (room : ℕ) where
@@ -72,9 +72,9 @@ module _ (cs : List ℕ) (room : ℕ) where
       go true h true k z = absurd (let q : ◌≡◌ {A = ℕ} 0 1 = cc in omega arith)
       go false h v k z = absurd (let q : ◌≡◌ {A = ℕ} 0 1 = cc in omega arith)
 
-  said-stray : Stray ≡ answer cs room → gap stray_code cs < length cs
+  said_stray : Stray ≡ answer cs room → gap stray_code cs < length cs
   unfolding answer count
-  said-stray e = go (leb (gap stray_code cs) room) (ltb (gap stray_code cs) (length cs)) refl e
+  said_stray e = go (leb (gap stray_code cs) room) (ltb (gap stray_code cs) (length cs)) refl e
     where
       go : (u v : Bool) → ltb (gap stray_code cs) (length cs) ≡ v
           → Stray ≡ elim u as (λ x. Words) [ true ↦ elim v as (λ x. Words) [ true ↦ Stray | false ↦ Read (gap stray_code cs) ] | false ↦ Full ]
@@ -83,9 +83,9 @@ module _ (cs : List ℕ) (room : ℕ) where
       go true false k z = absurd (let q : ◌≡◌ {A = ℕ} 0 1 = cc in omega arith)
       go false v k z = absurd (let q : ◌≡◌ {A = ℕ} 0 1 = cc in omega arith)
 
-  said-full : Full ≡ answer cs room → room < gap stray_code cs
+  said_full : Full ≡ answer cs room → room < gap stray_code cs
   unfolding answer count
-  said-full e = go (leb (gap stray_code cs) room) refl (ltb (gap stray_code cs) (length cs)) e
+  said_full e = go (leb (gap stray_code cs) room) refl (ltb (gap stray_code cs) (length cs)) e
     where
       go : (u : Bool) → leb (gap stray_code cs) room ≡ u → (v : Bool)
           → Full ≡ elim u as (λ x. Words) [ true ↦ elim v as (λ x. Words) [ true ↦ Stray | false ↦ Read (gap stray_code cs) ] | false ↦ Full ]
@@ -102,15 +102,15 @@ pub record AllRead (part old new : List ℕ) (n : ℕ) : Type 0 where
   pub whole : new ≡ map code (read_words (tokens part)) ++ drop n old
   pub fits : n ≤ length old
 
-pub read-all-words : (part old new : List ℕ) (n : ℕ) → sounds [] (tokens part) ≡ true → Reads part old new (Read n) → AllRead part old new n
+pub read_all_words : (part old new : List ℕ) (n : ℕ) → sounds [] (tokens part) ≡ true → Reads part old new (Read n) → AllRead part old new n
 unfolding written count
-read-all-words part old new n h r =
+read_all_words part old new n h r =
     let cs = codes Due.Word (tokens part) in
     let i = said_read cs (length old) n r.answered in
     let t : take n cs ≡ cs = take_all n cs i.2 in
     let g : gap stray_code cs ≡ n = sym i.0 in
     let f : Free stray_code cs = rw (g, t) at (gap_free stray_code cs) in
-    let j = agree-all cs (read_words (tokens part)) (agree part h) f in
+    let j = agree_all cs (read_words (tokens part)) (agree part h) f in
     let l : length cs ≡ n = omega (arith, i.2, i.0, gap_within stray_code cs) in
     let m : length cs ≤ length old = omega (arith, i.1) in
     let w : new ≡ cs ++ drop n old = r.memory ∙ rw (g, t, take_all (length old) cs m) in
@@ -123,29 +123,29 @@ read-all-words part old new n h r =
     }
 
 -- Stray: the words are ill-formed
-pub read-stray-word : (part old new : List ℕ) → sounds [] (tokens part) ≡ true → Reads part old new Stray → read_pred (read_words (tokens part)) ≡ none
+pub read_stray_word : (part old new : List ℕ) → sounds [] (tokens part) ≡ true → Reads part old new Stray → read_pred (read_words (tokens part)) ≡ none
 unfolding read_pred on_some
-read-stray-word part old new h r =
-    rw (agree-stray (codes Due.Word (tokens part)) (read_words (tokens part)) (agree part h) (said-stray (codes Due.Word (tokens part)) (length old) r.answered))
+read_stray_word part old new h r =
+    rw (agree_stray (codes Due.Word (tokens part)) (read_words (tokens part)) (agree part h) (said_stray (codes Due.Word (tokens part)) (length old) r.answered))
 
 -- Full: not where there is a place for every two bytes. A token that spells a word has a byte, and a space after it.
 unfoldable spread : List Bytes → ℕ
 spread [] = 0
 spread (t ∷ ts) = length t + 1 + spread ts
 
-spread-onto : (b : ℕ) (ss : List Bytes) (n : ℕ) → spread ss ≡ suc n → spread (onto b ss) ≡ suc (suc n)
+spread_onto : (b : ℕ) (ss : List Bytes) (n : ℕ) → spread ss ≡ suc n → spread (onto b ss) ≡ suc (suc n)
 unfolding spread onto
-spread-onto b [] n h = absurd (omega arith)
-spread-onto b (s ∷ ss) n h = omega arith
+spread_onto b [] n h = absurd (omega arith)
+spread_onto b (s ∷ ss) n h = omega arith
 
-spread-parts : (c : ℕ) (s : Bytes) → spread (parts c s) ≡ suc (length s)
+spread_parts : (c : ℕ) (s : Bytes) → spread (parts c s) ≡ suc (length s)
 unfolding parts spread
-spread-parts c [] = refl
-spread-parts c (b ∷ t) = go (eqb b c) (spread-parts c t)
+spread_parts c [] = refl
+spread_parts c (b ∷ t) = go (eqb b c) (spread_parts c t)
   where
     go : (v : Bool) → spread (parts c t) ≡ suc (length t) → spread (elim v as (λ x. List Bytes) [ true ↦ [] ∷ parts c t | false ↦ onto b (parts c t) ]) ≡ suc (suc (length t))
     go true ih = omega arith
-    go false ih = spread-onto b (parts c t) (length t) ih
+    go false ih = spread_onto b (parts c t) (length t) ih
 
 empty_code : (due : Due) → code_as due [] ≡ stray_code
 unfolding code_as word_code count_code numeral find same
@@ -161,9 +161,9 @@ gap_up c cs = go (eqb c stray_code)
     go true = omega arith
     go false = omega arith
 
-gap-token : (due : Due) (t : Bytes) (cs : List ℕ) → 2 * gap stray_code (code_as due t ∷ cs) ≤ length t + 1 + 2 * gap stray_code cs
-gap-token due [] cs = rw (empty_code due, gap_stop stray_code cs) (omega arith)
-gap-token due (b ∷ t) cs = omega (arith, gap_up (code_as due (b ∷ t)) cs)
+gap_token : (due : Due) (t : Bytes) (cs : List ℕ) → 2 * gap stray_code (code_as due t ∷ cs) ≤ length t + 1 + 2 * gap stray_code cs
+gap_token due [] cs = rw (empty_code due, gap_stop stray_code cs) (omega arith)
+gap_token due (b ∷ t) cs = omega (arith, gap_up (code_as due (b ∷ t)) cs)
 
 two_bytes : (due : Due) (ts : List Bytes) → 2 * gap stray_code (codes due ts) ≤ spread ts
 unfolding codes spread
@@ -176,23 +176,23 @@ two_bytes due (t ∷ ts) = go (is_word (due_after due t)) (two_bytes (due_after 
   where
     go : (v : Bool) → 2 * gap stray_code (codes (due_after due t) ts) ≤ spread ts
         → 2 * gap stray_code (elim v as (λ x. List ℕ) [ true ↦ code_as due t ∷ codes (due_after due t) ts | false ↦ codes (due_after due t) ts ]) ≤ length t + 1 + spread ts
-    go true ih = omega (arith, gap-token due t (codes (due_after due t) ts))
+    go true ih = omega (arith, gap_token due t (codes (due_after due t) ts))
     go false ih = omega arith
 
 -- so many words at most are read of so many bytes
-pub half-as-many : (part : List ℕ) → 2 * gap stray_code (codes Due.Word (tokens part)) ≤ suc (length part)
+pub half_as_many : (part : List ℕ) → 2 * gap stray_code (codes Due.Word (tokens part)) ≤ suc (length part)
 unfolding tokens
-half-as-many part = omega (arith, two_bytes Due.Word (parts space part), spread-parts space part)
+half_as_many part = omega (arith, two_bytes Due.Word (parts space part), spread_parts space part)
 
-pub never-full : (part old new : List ℕ) → length part ≤ 2 * length old → Reads part old new Full → ⊥
-never-full part old new l r =
-    let i = said-full (codes Due.Word (tokens part)) (length old) r.answered in
-    omega (arith, i, half-as-many part)
+pub never_full : (part old new : List ℕ) → length part ≤ 2 * length old → Reads part old new Full → ⊥
+never_full part old new l r =
+    let i = said_full (codes Due.Word (tokens part)) (length old) r.answered in
+    omega (arith, i, half_as_many part)
 
 -- the words that were read, read back from their codes: `well_formed` of them is row 6
-pub words-read : (part old new : List ℕ) (n : ℕ) → sounds [] (tokens part) ≡ true → Reads part old new (Read n) → map word_of (take n new) ≡ read_words (tokens part)
+pub words_read : (part old new : List ℕ) (n : ℕ) → sounds [] (tokens part) ≡ true → Reads part old new (Read n) → map word_of (take n new) ≡ read_words (tokens part)
 unfolding same
-words-read part old new n h r =
-    let i = read-all-words part old new n h r in
+words_read part old new n h r =
+    let i = read_all_words part old new n h r in
     let s = tokens_back [] (tokens part) (plain_by [] refl refl refl) h i.free in
     ap (map word_of) i.front ∙ words_back (read_words (tokens part)) s.ranged

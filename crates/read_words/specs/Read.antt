@@ -1,5 +1,5 @@
 -- The words of the tokens as codes, what `read` answers of them and what it leaves. Where row 3 is not broken they are
--- the codes of `read_words`, up to the first stray one: the laws read-all-words, read-stray-word and never-full.
+-- the codes of `read_words`, up to the first stray one: the laws read_all_words, read_stray_word and never_full.
 use Rattle.std.specs.Prelude.{ℕ, ◌≡◌, Bool, true, false, List, [], ◌∷◌, ◌++◌, length, take, drop, leb, ltb}
 use Rattle.model.specs.Basic.{same}
 use Rattle.format.specs.Bytes.{Bytes, bytes}

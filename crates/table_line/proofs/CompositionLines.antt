@@ -25,7 +25,7 @@ use Rattle.model.proofs.Decode.{unbroken, none_lacks}
 use Rattle.model.proofs.LimitLines.{starts_clear, tree_line}
 use Rattle.line_order.specs.declared.Counts.{Counts}
 use Rattle.line_order.specs.Due.{number_of}
-use Rattle.line_order.specs.Counts.{with_nodes as countNodes, nodes_of, Counted, capped}
+use Rattle.line_order.specs.Counts.{with_nodes as count_nodes, nodes_of, Counted, capped}
 use Rattle.line_order.proofs.CountsLaws.{add_fits}
 use Rattle.line_order.proofs.CappedLaws.{capped_few, rises_capped}
 use Rattle.table_tree.specs.declared.checked.TreeCheck as TreeCheck
@@ -85,7 +85,7 @@ capped_fault r c = go (tree_in_range c) refl
 
 module _ (t : List ℕ) (r : Reading) (c : Counts) (k : Counted r c) (d : Declared t r) where
   -- behind P's with so many nodes
-  counted_with : (total : ℕ) → c.nodes + total ≤ max_nodes → Counted (with_nodes r total) (countNodes c total)
+  counted_with : (total : ℕ) → c.nodes + total ≤ max_nodes → Counted (with_nodes r total) (count_nodes c total)
   unfolding with_nodes variable_count location_count
   counted_with total l =
       record {
@@ -144,13 +144,13 @@ module _ (t : List ℕ) (r : Reading) (c : Counts) (k : Counted r c) (d : Declar
   starts_back : (count at total number nodes next : ℕ) → c.nodes + total ≤ max_nodes → starts_from t c count at total ≡ Sound number nodes next → SomeStarts count at total number nodes next
   unfolding starts_from behind_pred with_nodes
   starts_back zero at total number nodes next l h = ([], refl, no_starts_lem at total number nodes next l h)
-  starts_back (suc count) at total number nodes next l h = go (starts_back count) (location_at t at (countNodes c total)) refl h
+  starts_back (suc count) at total number nodes next l h = go (starts_back count) (location_at t at (count_nodes c total)) refl h
     where
       go : ((at total number nodes next : ℕ) → c.nodes + total ≤ max_nodes → starts_from t c count at total ≡ Sound number nodes next → SomeStarts count at total number nodes next)
-          → (line : Line) → location_at t at (countNodes c total) ≡ line → behind_pred (λ m n. starts_from t c count n (total + m)) line ≡ Sound number nodes next → SomeStarts (suc count) at total number nodes next
+          → (line : Line) → location_at t at (count_nodes c total) ≡ line → behind_pred (λ m n. starts_from t c count n (total + m)) line ≡ Sound number nodes next → SomeStarts (suc count) at total number nodes next
       go ih Bad e h = let z : ◌≡◌ {A = ℕ} 0 1 = cc in absurd (omega arith)
       go ih (Sound x m n) e h =
-          let a = location_back t (with_nodes r total) (countNodes c total) (counted_with total l) (declared_with total) at x m n e in
+          let a = location_back t (with_nodes r total) (count_nodes c total) (counted_with total l) (declared_with total) at x m n e in
           let p = a.pred in
           let size : node_count p ≡ m = cc in
           let end : at + length (pred_words p) ≡ n = cc in
@@ -164,7 +164,7 @@ module _ (t : List ℕ) (r : Reading) (c : Counts) (k : Counted r c) (d : Declar
       let long = length-append (words p) (flat_map words ps) in
       let wide = length-append (pred_words p) (flat_map pred_words ps) in
       let e' = e ∙ append_assoc (pred_words p) (flat_map pred_words ps) rest in
-      let first = location_of t (with_nodes r total) (countNodes c total) (counted_with total (omega (arith, k.nodes))) (declared_with total) at p (flat_map pred_words ps ++ rest) (lawful p (Memᴰ.head refl)) (omega arith) e' in
+      let first = location_of t (with_nodes r total) (count_nodes c total) (counted_with total (omega (arith, k.nodes))) (declared_with total) at p (flat_map pred_words ps ++ rest) (lawful p (Memᴰ.head refl)) (omega arith) e' in
       let others = starts_of ps (at + length (pred_words p)) (total + length (words p)) rest (λ q i. lawful q (Memᴰ.tail i)) (omega arith) (later t (pred_words p) at (length (pred_words p)) (flat_map pred_words ps ++ rest) e' refl) in
       ap (behind_pred (λ m n. starts_from t c (length ps) n (total + m))) first ∙ others ∙ ap₂ (λ (m n : ℕ). Sound 0 m n) (omega arith) (omega arith)
 

@@ -36,7 +36,7 @@ use Rattle.theorem_definition4.proofs.Definition4Is.{linear_is, opened_limited, 
 use Rattle.theorem_definition4.proofs.Unique.{linearizations_same}
 use Rattle.merger.specs.declared.MergeAnswer.TheVariants as Merge
 use Rattle.merger.specs.declared.Outcome.TheVariants as Outcome
-use Rattle.merger.specs.Answers.{mergeOf}
+use Rattle.merger.specs.Answers.{merge_of}
 use Rattle.merger.specs.Outcome.{outcome, outcome_after}
 use Rattle.theorem_demands.specs.Rows.{merger_rows}
 use Rattle.theorem_demands.specs.Exactly.{IsMergedText, MergedInto, ReadsAndWritesExactly}
@@ -132,17 +132,17 @@ into m text edges lent i =
     record { is_merged = subst (λ (s : Bytes). IsMergedText m s edges) (sym e) i; its_length = ap length e }
 
 merges : (t : List ℕ) (lent : Bytes) (bytes edges : ℕ)
-    → mergeOf (merge_answer t (length lent)) ≡ Merge.Merged bytes edges
+    → merge_of (merge_answer t (length lent)) ≡ Merge.Merged bytes edges
     → (m : Model) × (open_table t ≡ opened m) × MergedInto m bytes edges (merge_after (merge_answer t (length lent)) lent)
-unfolding mergeOf merge_after
+unfolding merge_of merge_after
 merges t lent bytes edges h = go (merge_answer t (length lent)) refl
   where
     go : (x : MergeAnswer) → merge_answer t (length lent) ≡ x
         → (m : Model) × (open_table t ≡ opened m) × MergedInto m bytes edges (merge_after (merge_answer t (length lent)) lent)
     go (unmerged row) e =
-        absurd (let q : Merge.Refused row ≡ Merge.Merged bytes edges = ap mergeOf (sym e) ∙ h in let z : ◌≡◌ {A = ℕ} 0 1 = cc in omega arith)
+        absurd (let q : Merge.Refused row ≡ Merge.Merged bytes edges = ap merge_of (sym e) ∙ h in let z : ◌≡◌ {A = ℕ} 0 1 = cc in omega arith)
     go (merged text count) e =
-        let q : Merge.Merged (length text) count ≡ Merge.Merged bytes edges = ap mergeOf (sym e) ∙ h in
+        let q : Merge.Merged (length text) count ≡ Merge.Merged bytes edges = ap merge_of (sym e) ∙ h in
         let n : length text ≡ bytes = cc in
         let c : count ≡ edges = cc in
         let m = (merge_is_definition_4 t (length lent) text count).0 e in

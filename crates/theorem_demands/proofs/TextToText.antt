@@ -19,7 +19,7 @@ use Rattle.format.proofs.Smallest.{rises_from}
 use Rattle.format.proofs.Exact.{accepted_then}
 use Rattle.format.proofs.TextRuns.{program_refuses_text}
 use Rattle.merger.specs.declared.Outcome.TheVariants.{Merged, Refused}
-use Rattle.merger.specs.Answers.{mergeOf}
+use Rattle.merger.specs.Answers.{merge_of}
 use Rattle.merger.specs.Outcome.{passed_on, outcome, outcome_after}
 use Rattle.theorem_demands.specs.Rows.{TextFault, of_text, of_merge, merger_rows}
 use Rattle.theorem_demands.specs.Calls.{PutInto, TextCall}
@@ -62,7 +62,7 @@ module _ (text lent : Bytes) where
         → outcome text (length lent) ≡ Merged (length text') edges → outcome_after text lent ≡ with_text text' lent → Ends
 
   pub ends : Ends
-  unfolding outcome outcome_after mergeOf passed_on merge_after
+  unfolding outcome outcome_after merge_of passed_on merge_after
   ends = go (read_answer text table_words) refl
     where
       merges : (m : Model) → read_answer text table_words ≡ accepted m → (x : MergeAnswer)
@@ -85,7 +85,7 @@ module _ (text lent : Bytes) where
   fault_of row line h (gives m text' edges e f o k) = absurd (no_outcome row line (length text') edges (sym h ∙ o))
 
   fault_told : (row line : ℕ) → TextFault text (length lent) row line → outcome text (length lent) ≡ Refused row line
-  unfolding outcome mergeOf passed_on
+  unfolding outcome merge_of passed_on
   fault_told row line (of_text f) = rw ((faults_exact text table_words row line).1 f, outcome)
   fault_told row line (of_merge {m = m} e s) = rw (e, outcome, (merge_row text m e (length lent) row).1 s)
 

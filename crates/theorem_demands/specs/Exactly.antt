@@ -14,7 +14,7 @@ use Rattle.format.specs.Program.{program_output}
 use Rattle.theorem_definition4.specs.Definition4.{IsLinearization}
 use Rattle.merger.specs.declared.MergeAnswer.TheVariants as Merge
 use Rattle.merger.specs.declared.Outcome.TheVariants as Outcome
-use Rattle.merger.specs.Answers.{mergeOf}
+use Rattle.merger.specs.Answers.{merge_of}
 use Rattle.merger.specs.Outcome.{outcome, outcome_after}
 use Rattle.theorem_demands.specs.Rows.{merger_rows}
 use Rattle.theorem_demands.specs.Order.{EdgesInOrder}
@@ -65,7 +65,7 @@ pub record ReadsAndWritesExactly : Type 0 where
       → table_after text lent ≡ take table_words table ++ drop table_words lent
   -- what the merger writes, with the length and the count that it reports, is the merged text of the table's sheet
   pub merges : (table : List ℕ) (lent : Bytes) (bytes edges : ℕ)
-      → mergeOf (merge_answer table (length lent)) ≡ Merge.Merged bytes edges
+      → merge_of (merge_answer table (length lent)) ≡ Merge.Merged bytes edges
       → (m : Model) × (open_table table ≡ opened m)
       × MergedInto m bytes edges (merge_after (merge_answer table (length lent)) lent)
   -- from text to text likewise

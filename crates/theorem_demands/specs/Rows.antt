@@ -57,15 +57,15 @@ row20 phase = not (eqb phase 0) && not (eqb phase 1)
 
 -- the step judge's: rows 21 to 23 are about the old lists and the new, whatever the phase
 unfoldable pub step_rows : (phase : ℕ) → List ℕ → List ℤ → (action : ℕ) → List ℕ → List ℤ → Model → Conditions
-step_rows phase locations values action newLocations newValues m =
+step_rows phase locations values action new_locations new_values m =
     let s = reached locations values in
-    let t = reached newLocations newValues in
+    let t = reached new_locations new_values in
     (20, row20 phase) ∷ (21, row21 m s || row21 m t) ∷ (22, row22 m s || row22 m t) ∷ (23, row23 m s || row23 m t) ∷
     (24, row24 m action) ∷ []
 
 -- the environment judge's, which has one list of locations and no action
 unfoldable pub environment_rows : (phase : ℕ) → List ℕ → List ℤ → List ℤ → Model → Conditions
-environment_rows phase locations values newValues m =
+environment_rows phase locations values new_values m =
     let s = reached locations values in
-    let t = reached locations newValues in
+    let t = reached locations new_values in
     (20, row20 phase) ∷ (21, row21 m s || row21 m t) ∷ (22, row22 m s) ∷ (23, row23 m s || row23 m t) ∷ []

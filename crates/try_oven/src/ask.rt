@@ -1,7 +1,9 @@
 // One case: it is put to the judge and written as one line, the call and then the answer. False where a write failed.
 use crate::show::{self};
+use std::io::Stdout;
 
 pub(crate) fn step(
+    screen: Stdout,
     table: &[u32],
     phase: u32,
     locations: &[u32],
@@ -19,16 +21,17 @@ pub(crate) fn step(
         new_locations,
         new_values,
     );
-    show::phase(phase)
-        & show::place(locations, values)
-        & show::text(b" action ")
-        & show::number(action)
-        & show::text(b" to ")
-        & show::place(new_locations, new_values)
-        & show::answer(answer)
+    show::phase(screen, phase)
+        & show::place(screen, locations, values)
+        & show::text(screen, b" action ")
+        & show::number(screen, action)
+        & show::text(screen, b" to ")
+        & show::place(screen, new_locations, new_values)
+        & show::answer(screen, answer)
 }
 
 pub(crate) fn environment(
+    screen: Stdout,
     table: &[u32],
     phase: u32,
     locations: &[u32],
@@ -36,15 +39,16 @@ pub(crate) fn environment(
     new_values: &[i32],
 ) -> bool {
     let answer = judge::environment(table, phase, locations, values, new_values);
-    show::phase(phase)
-        & show::place(locations, values)
-        & show::text(b" environment to ")
-        & show::place(locations, new_values)
-        & show::answer(answer)
+    show::phase(screen, phase)
+        & show::place(screen, locations, values)
+        & show::text(screen, b" environment to ")
+        & show::place(screen, locations, new_values)
+        & show::answer(screen, answer)
 }
 
 // A step on the oven: the locations of door and steam, then v0.
 pub(crate) fn oven(
+    screen: Stdout,
     table: &[u32],
     phase: u32,
     door: u32,
@@ -59,11 +63,12 @@ pub(crate) fn oven(
     let before = [v0];
     let new = [new_door, new_steam];
     let after = [new_v0];
-    step(table, phase, &old, &before, action, &new, &after)
+    step(screen, table, phase, &old, &before, action, &new, &after)
 }
 
 // An environment step on the oven.
 pub(crate) fn outside(
+    screen: Stdout,
     table: &[u32],
     phase: u32,
     door: u32,
@@ -74,5 +79,5 @@ pub(crate) fn outside(
     let old = [door, steam];
     let before = [v0];
     let after = [new_v0];
-    environment(table, phase, &old, &before, &after)
+    environment(screen, table, phase, &old, &before, &after)
 }

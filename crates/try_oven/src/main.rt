@@ -6,10 +6,21 @@ mod oven;
 mod sheets;
 mod show;
 
-use libc::STDERR_FILENO;
+use std::io::{Stderr, Write};
 
-fn main() {
-    if !(oven::cases() & oven::one_sided() & oven::wrong() & oven::pair() & oven::lamp()) {
-        io::write_all(STDERR_FILENO, b"try_oven: a write failed\n");
+// What is lost where standard error takes no line is lost.
+fn say(mut stderr: Stderr, line: &[u8]) -> bool {
+    stderr.write_all(line).is_ok()
+}
+
+fn main(rt: HostRuntime) {
+    let screen = rt.stdout();
+    if !(oven::cases(screen)
+        & oven::one_sided(screen)
+        & oven::wrong(screen)
+        & oven::pair(screen)
+        & oven::lamp(screen))
+    {
+        say(rt.stderr(), b"try_oven: a write failed\n");
     }
 }

@@ -2,60 +2,69 @@
 use crate::ask::{self};
 use crate::sheets::{self};
 use crate::show::{self};
+use std::io::Stdout;
 
-fn steps(t: &[u32]) -> bool {
-    show::text(b"On the oven\n")
-        & ask::oven(t, 0, 0, 0, 1, 1, 1, 0, 0)
-        & ask::oven(t, 0, 0, 0, 0, 2, 0, 0, 1)
-        & ask::oven(t, 1, 1, 0, 0, 2, 1, 0, 1)
-        & ask::oven(t, 0, 1, 0, 0, 2, 1, 0, 0)
-        & ask::outside(t, 1, 1, 0, 0, 0)
-        & ask::outside(t, 1, 1, 0, 0, 1)
-        & ask::oven(t, 1, 0, 0, 1, 1, 1, 0, 1)
-        & ask::oven(t, 1, 0, 0, 1, 0, 0, 0, 1)
+fn steps(screen: Stdout, t: &[u32]) -> bool {
+    show::text(screen, b"On the oven\n")
+        & ask::oven(screen, t, 0, 0, 0, 1, 1, 1, 0, 0)
+        & ask::oven(screen, t, 0, 0, 0, 0, 2, 0, 0, 1)
+        & ask::oven(screen, t, 1, 1, 0, 0, 2, 1, 0, 1)
+        & ask::oven(screen, t, 0, 1, 0, 0, 2, 1, 0, 0)
+        & ask::outside(screen, t, 1, 1, 0, 0, 0)
+        & ask::outside(screen, t, 1, 1, 0, 0, 1)
+        & ask::oven(screen, t, 1, 0, 0, 1, 1, 1, 0, 1)
+        & ask::oven(screen, t, 1, 0, 0, 1, 0, 0, 0, 1)
 }
 
-pub(crate) fn cases() -> bool {
+pub(crate) fn cases(screen: Stdout) -> bool {
     let t = sheets::oven();
-    steps(&t)
+    steps(screen, &t)
 }
 
 // The door shares nothing: it does not take 1 alone, and the steam does.
-pub(crate) fn one_sided() -> bool {
+pub(crate) fn one_sided(screen: Stdout) -> bool {
     let t = sheets::one_sided();
     show::text(
+        screen,
         b"Wrong: a sheet takes alone what only the other side shares (sync= in the door sheet)\n",
-    ) & ask::oven(&t, 0, 0, 0, 0, 1, 1, 0, 0)
-        & ask::oven(&t, 1, 0, 0, 0, 1, 1, 0, 0)
-        & ask::oven(&t, 1, 0, 0, 0, 1, 0, 0, 0)
+    ) & ask::oven(screen, &t, 0, 0, 0, 0, 1, 1, 0, 0)
+        & ask::oven(screen, &t, 1, 0, 0, 0, 1, 1, 0, 0)
+        & ask::oven(screen, &t, 1, 0, 0, 0, 1, 0, 0, 0)
 }
 
-pub(crate) fn wrong() -> bool {
+pub(crate) fn wrong(screen: Stdout) -> bool {
     let t = sheets::oven();
-    show::text(b"Wrong: v0 held still because the door sheet does not write it\n")
-        & ask::oven(&t, 1, 0, 0, 1, 1, 1, 0, 0)
-        & show::text(b"Wrong: a still sheet's inv skipped after the step\n")
-        & ask::oven(&t, 1, 1, 0, 0, 2, 1, 0, 1)
-        & ask::oven(&t, 1, 0, 0, 0, 2, 0, 0, 1)
-        & show::text(b"Wrong: init tested again in phase 1\n")
-        & ask::outside(&t, 0, 1, 0, 0, 0)
-        & ask::outside(&t, 1, 1, 0, 0, 0)
+    show::text(
+        screen,
+        b"Wrong: v0 held still because the door sheet does not write it\n",
+    ) & ask::oven(screen, &t, 1, 0, 0, 1, 1, 1, 0, 0)
+        & show::text(
+            screen,
+            b"Wrong: a still sheet's inv skipped after the step\n",
+        )
+        & ask::oven(screen, &t, 1, 1, 0, 0, 2, 1, 0, 1)
+        & ask::oven(screen, &t, 1, 0, 0, 0, 2, 0, 0, 1)
+        & show::text(screen, b"Wrong: init tested again in phase 1\n")
+        & ask::outside(screen, &t, 0, 1, 0, 0, 0)
+        & ask::outside(screen, &t, 1, 1, 0, 0, 0)
 }
 
-fn both(t: &[u32], first: u32, second: u32) -> bool {
+fn both(screen: Stdout, t: &[u32], first: u32, second: u32) -> bool {
     let old = [0, 0];
     let new = [first, second];
     let before = [0i32; 1];
     let after = [0i32; 1];
-    ask::step(t, 0, &old, &before[..0], 1, &new, &after[..0])
+    ask::step(screen, t, 0, &old, &before[..0], 1, &new, &after[..0])
 }
 
-pub(crate) fn pair() -> bool {
+pub(crate) fn pair(screen: Stdout) -> bool {
     let t = sheets::pair();
-    show::text(b"Wrong: syn binds the sheets inside it (syn 1 par a0 a1)\n")
-        & both(&t, 1, 0)
-        & both(&t, 0, 1)
-        & both(&t, 1, 1)
+    show::text(
+        screen,
+        b"Wrong: syn binds the sheets inside it (syn 1 par a0 a1)\n",
+    ) & both(screen, &t, 1, 0)
+        & both(screen, &t, 0, 1)
+        & both(screen, &t, 1, 1)
 }
 
 fn three(t: &[u32], v0: i32, action: u32, door: u32, lamp: u32, new_v0: i32) -> bool {
@@ -63,14 +72,16 @@ fn three(t: &[u32], v0: i32, action: u32, door: u32, lamp: u32, new_v0: i32) -> 
     let before = [v0];
     let new = [door, 0, lamp];
     let after = [new_v0];
-    ask::step(t, 0, &old, &before, action, &new, &after)
+    ask::step(screen, t, 0, &old, &before, action, &new, &after)
 }
 
 // Three sheets share action 1: all take it, or none.
-pub(crate) fn lamp() -> bool {
+pub(crate) fn lamp(screen: Stdout) -> bool {
     let t = sheets::lamp();
-    show::text(b"With a lamp sheet that shares action 1 (par par a0 a1 a2)\n")
-        & three(&t, 1, 1, 1, 1, 0)
+    show::text(
+        screen,
+        b"With a lamp sheet that shares action 1 (par par a0 a1 a2)\n",
+    ) & three(&t, 1, 1, 1, 1, 0)
         & three(&t, 1, 1, 1, 0, 0)
         & three(&t, 1, 1, 0, 1, 0)
         & three(&t, 0, 2, 0, 0, 1)

@@ -26,18 +26,18 @@ use Rattle.table_places.proofs.OutlineLaws.{reach_drop}
 use Rattle.write_words.proofs.JoinLaws.{is_none, joined_snoc, map-append}
 
 -- `member`
-module _ (isIn first : Bool) (k : ℕ) (at : Written) (old : Bytes) where
-  pub member_out : not isIn ≡ true → Grew (member_text isIn first k) at old old at
+module _ (is_in first : Bool) (k : ℕ) (at : Written) (old : Bytes) where
+  pub member_out : not is_in ≡ true → Grew (member_text is_in first k) at old old at
   unfolding member_text
-  member_out h = go isIn h
+  member_out h = go is_in h
     where
       go : (b : Bool) → not b ≡ true → Grew (member_text b first k) at old old at
       go true e = absurd (true≢false (sym e))
       go false e = grew_none at old
 
-  pub member_in : not isIn ≡ false → (a r : Written) (mid new : Bytes) → Grew (between first (44 ∷ [])) at old mid a → Grew (decimal k) a mid new r → Grew (member_text isIn first k) at old new r
+  pub member_in : not is_in ≡ false → (a r : Written) (mid new : Bytes) → Grew (between first (44 ∷ [])) at old mid a → Grew (decimal k) a mid new r → Grew (member_text is_in first k) at old new r
   unfolding member_text
-  member_in h a r mid new g i = go isIn h
+  member_in h a r mid new g i = go is_in h
     where
       go : (b : Bool) → not b ≡ false → Grew (member_text b first k) at old new r
       go true e = grew_then (between first (44 ∷ [])) (decimal k) at a r old mid new g i
@@ -106,13 +106,13 @@ module _ (both : ℕ) (at : Written) (old : Bytes) where
   unfolding is_none count_up keep
   members_first = refl
 
-  module _ (k : ℕ) (isIn first : Bool) (e : isIn ≡ bit both k) (f : first ≡ is_none (members_below both k)) where
-    pub members_on : (cur : Bytes) (end : Written) → Grew (text_of_list (members_below both k)) at old cur end → (r : Written) (new : Bytes) → Grew (member_text isIn first k) end cur new r → Grew (text_of_list (members_below both (k + 1))) at old new r
+  module _ (k : ℕ) (is_in first : Bool) (e : is_in ≡ bit both k) (f : first ≡ is_none (members_below both k)) where
+    pub members_on : (cur : Bytes) (end : Written) → Grew (text_of_list (members_below both k)) at old cur end → (r : Written) (new : Bytes) → Grew (member_text is_in first k) end cur new r → Grew (text_of_list (members_below both (k + 1))) at old new r
     members_on cur end inv r new g =
-        rw (below_text both k isIn (sym e), ← f) (grew_then (text_of_list (members_below both k)) (member_text isIn first k) at end r old cur new inv g)
+        rw (below_text both k is_in (sym e), ← f) (grew_then (text_of_list (members_below both k)) (member_text is_in first k) at end r old cur new inv g)
 
-    pub members_later : (first && not isIn) ≡ is_none (members_below both (k + 1))
-    members_later = rw f (sym (below_none both k isIn (sym e)))
+    pub members_later : (first && not is_in) ≡ is_none (members_below both (k + 1))
+    members_later = rw f (sym (below_none both k is_in (sym e)))
 
   pub members_all : (k : ℕ) → k ≤ 64 → 64 ≤ k → (cur : Bytes) (end : Written) → Grew (text_of_list (members_below both k)) at old cur end → Grew (members_text both) at old cur end
   unfolding members_text

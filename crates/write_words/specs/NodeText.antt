@@ -79,7 +79,7 @@ set_text low high = text_of_list (set_of low high)
 unfoldable pub members_text : ℕ → Bytes
 members_text both = text_of_list (keep (bit both) (count_up 0 64))
 
-unfoldable pub member_text : (isIn first : Bool) → ℕ → Bytes
+unfoldable pub member_text : (is_in first : Bool) → ℕ → Bytes
 member_text true first k = between first (comma ∷ []) ++ decimal k
 member_text false first k = []
 
