@@ -67,7 +67,15 @@ pub(crate) fn pair(screen: Stdout) -> bool {
         & both(screen, &t, 1, 1)
 }
 
-fn three(t: &[u32], v0: i32, action: u32, door: u32, lamp: u32, new_v0: i32) -> bool {
+fn three(
+    screen: Stdout,
+    t: &[u32],
+    v0: i32,
+    action: u32,
+    door: u32,
+    lamp: u32,
+    new_v0: i32,
+) -> bool {
     let old = [0, 0, 0];
     let before = [v0];
     let new = [door, 0, lamp];
@@ -81,9 +89,9 @@ pub(crate) fn lamp(screen: Stdout) -> bool {
     show::text(
         screen,
         b"With a lamp sheet that shares action 1 (par par a0 a1 a2)\n",
-    ) & three(&t, 1, 1, 1, 1, 0)
-        & three(&t, 1, 1, 1, 0, 0)
-        & three(&t, 1, 1, 0, 1, 0)
-        & three(&t, 0, 2, 0, 0, 1)
-        & three(&t, 0, 2, 0, 1, 1)
+    ) & three(screen, &t, 1, 1, 1, 1, 0)
+        & three(screen, &t, 1, 1, 1, 0, 0)
+        & three(screen, &t, 1, 1, 0, 1, 0)
+        & three(screen, &t, 0, 2, 0, 0, 1)
+        & three(screen, &t, 0, 2, 0, 1, 1)
 }
