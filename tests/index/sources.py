@@ -23,7 +23,7 @@ SIGNATURE = re.compile(rf'((?:(?:pub|unfoldable|abbrev|record|data) )*)({WORD}(?
 HEADER = re.compile(rf'((?:pub |unfoldable |abbrev )*)(module|record|data|mutual)\b(?: ({WORD}))?')
 LONG_HEADER = re.compile(r'^ *(?:pub )?(?:module|(?:record|data) [^{\s])[^=]*?\bwhere$', re.M)
 LAW = re.compile(rf'(?:pub )?({WORD}) : (.*)')
-FROM_KIT = re.compile(r'^use (?!Rattle·)[^{\n]*\{([^}\n]*)\}', re.M)
+IMPORT = re.compile(r'^(?:ghost )?use ([\w.]+)\.\{([^}]*)\}', re.M)
 
 
 def read_files():
@@ -164,8 +164,9 @@ def functions_of(text):
 
 
 def handed_on(root):
-    """What the root of a crate makes public of its modules, or of other crates."""
-    return set(re.findall(r'^pub use (?:\w+::)*(\w+);', root, re.M))
+    """What the root of a crate makes public of its modules, or of other crates: `pub use a::b;`, `pub use a::{b, c};`."""
+    names = re.findall(r'^pub use (?:\w+::)*(?:(\w+)|\{([^}]*)\});', root, re.M)
+    return {name for one, group in names for name in [one, *re.findall(r'\w+', group)] if name}
 
 
 class Repository:
@@ -184,6 +185,10 @@ class Repository:
     def statements(self):
         return [one for path in self.paths(r'crates/.*\.antt') for one in statements_of(path, self.texts[path])]
 
+    def is_own(self, module):
+        """Is it a module of one of these crates, and not of the kit?"""
+        return module.startswith('Rattle.') and module.split('.')[1] in self.sees
+
     def laws(self):
         return [one for one in self.statements if one.kind == 'law' and '/proofs/' in one.path]
 
@@ -195,14 +200,17 @@ class Repository:
 
     @functools.cached_property
     def names(self):
-        """All that a name in a document can stand for: statements, modules, functions, crates, and what the kit has."""
+        """All that a name in a document can stand for: statements, modules, crates, functions with their parameters, and
+        what the kit has."""
         known = {one.name for one in self.statements} | set(self.sees) | self.functions
         for path in self.paths(r'crates/.*\.antt'):
             known.add(os.path.splitext(os.path.basename(path))[0])
-            for names in FROM_KIT.findall(self.texts[path]):
-                known |= {name.strip() for name in names.split(',')}
+            for module, names in IMPORT.findall(self.texts[path]):
+                known |= set() if self.is_own(module) else {name.strip() for name in names.split(',')}
         for path in self.paths(r'crates/.*\.rt'):
             known |= set(re.findall(r'\b(?:struct|enum|const|mod) (\w+)', self.texts[path]))
+            for parameters in re.findall(r'\bfn \w+(?:<[^>]*>)?\(([^)]*)\)', self.texts[path]):
+                known |= set(re.findall(r'(\w+):', parameters))
         return known
 
     def types(self, crate):
