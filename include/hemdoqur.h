@@ -1,6 +1,6 @@
 /* Sheets of a deck oven for C and C++: read, written, merged and judged.
  *
- * Link with libexports.a, which `rt staticlib exports` makes in target/staticlib (x86-64 Linux). Of the C library it
+ * Link with libexports.a, which `rt lib` in crates/exports makes in its folder out/ (x86-64 Linux). Of the C library it
  * needs memcpy and memset, and nothing else.
  *
  * A slice is a pointer and a length: so many elements may be read there, and written where the pointer is not const.

@@ -1,7 +1,8 @@
 //! The proved sheet functions for Rust. They keep nothing between calls, and every slice of any length and content is allowed.
 //!
-//! The crate links `libexports.a`, which `rt staticlib exports` makes for x86-64 Linux: that of the repository's target/staticlib, or
-//! of the folder that `HEMDOQUR_LIB` names. `include/hemdoqur.h` says how much stack each function needs.
+//! The crate links `libexports.a`, which `rt lib` makes in crates/exports for x86-64 Linux: that of the repository's
+//! crates/exports/out, or of the folder that `HEMDOQUR_LIB` names. `include/hemdoqur.h` says how much stack each function
+//! needs.
 //!
 //! A host reads a text, asks for the `size` of the sheet, and makes its lists of locations and values by it:
 //!
