@@ -40,8 +40,11 @@ def crate_of(path):
 
 
 def listed(repository):
-    """The statements that docs/THEOREMS.md has. A name that a function has too stands for the function."""
-    named = {span for path in (PROMISES, ARCHITECTURE) for span in spans(repository.texts[path])} - repository.functions
+    """The statements that docs/THEOREMS.md has. A name that a function, a definition or a crate has too stands for that, and
+    a law of this name is named with its module."""
+    others = {one.name for one in repository.statements if one.kind == 'definition'} | {*repository.sees}
+    named = {span for path in (PROMISES, ARCHITECTURE) for span in spans(repository.texts[path])}
+    named -= repository.functions | others
     chosen = [one for one in repository.statements
               if crate_of(one.path).startswith('theorem_') and one.kind in ('law', 'type')]
     return chosen + [one for one in repository.laws() if one not in chosen

@@ -37,14 +37,16 @@ def read_files():
 
 
 def wings_of(text):
-    """The wings of crates.txt, with what each crate sees; crates of the kit are left out."""
+    """The wings of crates.txt, with what each crate sees; crates of the kit are left out, and what stands behind a crate's
+    name, as staticlib, too."""
     wings, sees = [], {}
     for line in text.splitlines():
         if line.startswith('#'):
             name, _, knows = line[1:].partition(':')
             wings.append(Wing(name.strip(), knows.strip(), []))
         elif ':' in line:
-            crate, _, needs = line.partition(':')
+            head, _, needs = line.partition(':')
+            crate = head.split()[0]
             wings[-1].crates.append(crate)
             sees[crate] = needs.split()
     return ([wing for wing in wings if wing.crates],
