@@ -1,10 +1,12 @@
 -- What the evaluator answers on any words. On the words of a lawful predicate it is what the predicate means: the law
 -- evaluate_lawful.
-use Rattle.std.specs.Prelude.{Bool, true, false, not, cond, ◌&&◌, ◌||◌, List, ℕ, zero, suc, ◌+◌, ℤ, pos, ◌+ℤ◌, ◌-ℤ◌, ◌*ℤ◌, length, get_or, ltb}
+use Rattle.std.specs.Prelude.{Bool, true, false, not, cond, ◌&&◌, ◌||◌, List, ℕ, zero, suc, ◌+◌, ℤ, pos, ◌+ℤ◌, ◌-ℤ◌}
+use Rattle.std.specs.Prelude.{◌*ℤ◌, length, get_or, ltb}
 use Rattle.std.specs.Int.Signed.{le_z}
 use Rattle.model.specs.Basic.{eq_z}
 use Rattle.model.specs.Bounds.{max_nodes}
-use Rattle.model.specs.Predicate.{Word, all_of, any_of, not_word, imp_word, eq_word, le_word, num_word, old_word, new_word}
+use Rattle.model.specs.Predicate.{Word, all_of, any_of, not_word, imp_word, eq_word, le_word, num_word, old_word}
+use Rattle.model.specs.Predicate.{new_word}
 use Rattle.model.specs.Predicate.{add_word, sub_word, mul_word, if_word, stray}
 use Rattle.model.specs.Table.{word_of}
 use Rattle.arithmetic.specs.Cut.{cut}

@@ -1,7 +1,8 @@
 -- How many nodes the evaluator reads, on any words: the calls that use a node, counted along the definitions of
 -- Evaluate. They are as many as the count of nodes left falls by: the laws reads_exact and reads_bounded.
 use Rattle.std.specs.Prelude.{true, false, List, ℕ, zero, suc, ◌+◌, ℤ, length, get_or, ltb}
-use Rattle.model.specs.Predicate.{Word, all_of, any_of, not_word, imp_word, eq_word, le_word, num_word, old_word, new_word}
+use Rattle.model.specs.Predicate.{Word, all_of, any_of, not_word, imp_word, eq_word, le_word, num_word, old_word}
+use Rattle.model.specs.Predicate.{new_word}
 use Rattle.model.specs.Predicate.{add_word, sub_word, mul_word, if_word, stray}
 use Rattle.model.specs.Table.{word_of}
 use Rattle.evaluator.specs.Evaluate.{Predicates, Expressions, predicate_within, expression_within}

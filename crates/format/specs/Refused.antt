@@ -47,8 +47,8 @@ owner_rows l = (2, owner_row2 l) ∷ (3, owner_row3 l) ∷ []
 pub data Stops : Behind → Reading → List Key → List Line → (row n : ℕ) → Type 0 where
   extra : {r : Reading} {l : Line} {ls : List Line} → Stops nothing r [] (l ∷ ls) 2 1
   lacking : {r : Reading} {k : Key} {ks : List Key} → Stops nothing r (k ∷ ks) [] 2 1
-  faulty : {r : Reading} {k : Key} {ks : List Key} {l : Line} {ls : List Line} {row : ℕ} → Smallest (line_rows r k l) row
-      → Stops nothing r (k ∷ ks) (l ∷ ls) row 1
+  faulty : {r : Reading} {k : Key} {ks : List Key} {l : Line} {ls : List Line} {row : ℕ}
+      → Smallest (line_rows r k l) row → Stops nothing r (k ∷ ks) (l ∷ ls) row 1
   later : {r : Reading} {k : Key} {ks : List Key} {l : Line} {ls : List Line} {row n : ℕ} → Unbroken (line_rows r k l)
       → Stops (behind r.model.format (entry k l)) (noted r (entry k l))
       (then_due r.model.format (entry k l) ++ ks) ls row n

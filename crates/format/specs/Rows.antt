@@ -4,15 +4,18 @@ use Rattle.std.specs.Prelude.{ℕ, ◌+◌, Bool, true, false, not, ◌&&◌, �
 use mathlib.Core.List.{List, [], ◌∷◌, map, flat_map}
 use Rattle.std.proofs.Math.Option.{Option, none, some}
 use Rattle.model.specs.Basic.{every, exists, lacks, or_else}
-use Rattle.model.specs.Bounds.{first_format, last_format, max_actions, max_variables, max_automata, max_locations, max_edges}
+use Rattle.model.specs.Bounds.{first_format, last_format, max_actions, max_variables, max_automata, max_locations}
+use Rattle.model.specs.Bounds.{max_edges}
 use Rattle.model.specs.Bounds.{last_location, least_number, greatest_number}
 use Rattle.model.specs.Predicate as P
 use Rattle.model.specs.Predicate.{Pred, Range, range, Word, words, all, names_outside, names_new}
 use Rattle.model.specs.Composition.{Tree, Node, leaf}
 use Rattle.model.specs.Parse.{read_pred, read_tree, with_starts}
 use Rattle.model.specs.Lines.{Key, Entry, format, actions, variables, variable, automata, sync, locations, init, inv}
-use Rattle.model.specs.Lines.{edges, edge, compose, format_line, actions_line, variables_line, variable_line, automata_line}
-use Rattle.model.specs.Lines.{sync_line, locations_line, init_line, inv_line, edges_line, edge_line, compose_line, Reading}
+use Rattle.model.specs.Lines.{edges, edge, compose, format_line, actions_line, variables_line, variable_line}
+use Rattle.model.specs.Lines.{automata_line}
+use Rattle.model.specs.Lines.{sync_line, locations_line, init_line, inv_line, edges_line, edge_line, compose_line}
+use Rattle.model.specs.Lines.{Reading}
 use Rattle.model.specs.Limits.{rises, is_crossed, is_too_deep, exceeds_span, passes_nodes, is_astray, is_disordered}
 use Rattle.model.specs.Limits.{is_too_large, passes_edges, is_beyond, variable_count, broken}
 use Rattle.format.specs.Bytes.{Bytes, begins, parts, comma}
@@ -163,7 +166,8 @@ row7 r k l =
 -- Row 8: does a location's predicate, or a start condition, read values of after a step?
 unfoldable pub row8 : Key → Line → Bool
 row8 k l =
-    is k compose && exists (λ p. names_new (words p)) (the_starts l) || (is k init || is k inv) && names_new (words_in k l)
+    is k compose && exists (λ p. names_new (words p)) (the_starts l) ||
+    (is k init || is k inv) && names_new (words_in k l)
 
 -- Row 9: is the predicate nested too deep?
 unfoldable pub row9 : Key → Line → Bool

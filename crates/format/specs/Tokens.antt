@@ -3,7 +3,8 @@
 use Rattle.std.specs.Prelude.{ℕ, zero, suc, ◌+◌, Bool, true, false, ◌&&◌, ◌||◌, List, [], ◌∷◌, map, ℤ, pos, eqb}
 use Rattle.model.specs.Basic.{every, same}
 use Rattle.model.specs.Bounds.{max_actions, max_operands, last_variable, last_automaton, least_number, greatest_number}
-use Rattle.model.specs.Predicate.{Word, all_of, any_of, not_word, imp_word, eq_word, le_word, num_word, old_word, new_word}
+use Rattle.model.specs.Predicate.{Word, all_of, any_of, not_word, imp_word, eq_word, le_word, num_word, old_word}
+use Rattle.model.specs.Predicate.{new_word}
 use Rattle.model.specs.Predicate.{add_word, sub_word, mul_word, if_word, stray}
 use Rattle.model.specs.Composition.{Node, par_node, syn_node, leaf_node, stray_node}
 use Rattle.model.specs.Parse.{ini_alone}

@@ -1,3 +1,2 @@
 // The format of the sheet text. Its definitions stand in specs/, their laws in proofs/.
 #![tactic(auto)]
-

@@ -1,6 +1,7 @@
 -- A list of proposals put to the judges over one table, as a caller gives it: three lists, and room for the answers and
 -- for the state at the end.
-use Rattle.std.specs.Prelude.{Bool, true, false, not, cond, ◌&&◌, List, [], ◌∷◌, map, ℕ, ◌*◌, ℤ, length, take, drop, eqb, ltb, leb}
+use Rattle.std.specs.Prelude.{Bool, true, false, not, cond, ◌&&◌, List, [], ◌∷◌, map, ℕ, ◌*◌, ℤ, length, take, drop}
+use Rattle.std.specs.Prelude.{eqb, ltb, leb}
 use Rattle.std.proofs.Math.Option.{none, some}
 use Rattle.model.specs.Model.{Model}
 use Rattle.model.specs.Table.{unopened, opened, open_table}

@@ -4,7 +4,8 @@ use Rattle.std.specs.Prelude.{Bool, true, false, ◌&&◌, List, ℕ, zero, suc,
 use Rattle.model.specs.Bounds.{max_edges}
 use Rattle.evaluator.specs.Evaluate.{evaluate}
 use Rattle.table_places.specs.declared.layout.Layout.{Layout}
-use Rattle.table_places.specs.Outline.{nodes_place, after_predicate, edge_from, edge_action, edge_to, update_place, first_edge}
+use Rattle.table_places.specs.Outline.{nodes_place, after_predicate, edge_from, edge_action, edge_to, update_place}
+use Rattle.table_places.specs.Outline.{first_edge}
 use Rattle.table_places.specs.Layout.{automata_of}
 use Rattle.table_writes.specs.Sets.{all_variables, rest_of}
 use Rattle.judge_candidates.specs.declared.edges.Leg.{Leg}
@@ -41,7 +42,8 @@ fits_at t leg at =
 
 -- the mask of the variables that an edge's update does not mention
 unfoldable pub rest_at : (t : List ℕ) (at : ℕ) → ℕ
-rest_at t at = rest_of all_variables (take (get_or t (update_place t at) 0) (drop (nodes_place t (update_place t at)) t))
+rest_at t at =
+    rest_of all_variables (take (get_or t (update_place t at) 0) (drop (nodes_place t (update_place t at)) t))
 
 -- what a step asks of automaton k's edge
 unfoldable pub leg_of : (old new : List ℕ) (action k : ℕ) → Leg

@@ -1,7 +1,8 @@
 -- Can the automata that take an action each choose one of their edges so that every changed variable is mentioned?
 -- Sets of variables are numbers, bit K for variable K. An edge is given by the set of the variables that its update
 -- does not mention, an automaton by the group of its edges.
-use Rattle.std.specs.Prelude.{ℕ, suc, ◌+◌, ◌-◌, Bool, true, false, not, ◌&&◌, ◌||◌, List, [], ◌∷◌, map, get_or, eqb, leb, ltb}
+use Rattle.std.specs.Prelude.{ℕ, suc, ◌+◌, ◌-◌, Bool, true, false, not, ◌&&◌, ◌||◌, List, [], ◌∷◌, map, get_or, eqb}
+use Rattle.std.specs.Prelude.{leb, ltb}
 use Rattle.std.specs.Int.Bits.{bit_and}
 use Rattle.std.specs.Int.Count.{ones}
 use Rattle.model.specs.Basic.{every, exists, keep, count_up}

@@ -22,4 +22,5 @@ pub record Offers (m : Model) (s : State) (a : ℕ) (t : State) (masks first : L
   pub rising : (k : ℕ) → k < length m.automata → get_or first k 0 ≤ get_or first (suc k) 0
   pub inside : get_or first (length m.automata) 0 ≤ length masks
   pub offered : (k : ℕ) → k < length m.automata
-      → take (get_or first (suc k) 0 - get_or first k 0) (drop (get_or first k 0) masks) ≡ map rest_mask (candidates m s a t k)
+      → take (get_or first (suc k) 0 - get_or first k 0) (drop (get_or first k 0) masks)
+      ≡ map rest_mask (candidates m s a t k)

@@ -20,7 +20,8 @@ part_at words Inv at j = after_predicate words (location_at words (first_locatio
 
 module _ (words : List ℕ) (x : Layout) where
   unfoldable pub part_holds : (values : List ℤ) (at : ℕ) → Bool
-  part_holds values at = evaluate words (take (variables_of x) values) (take (variables_of x) values) (nodes_place words at)
+  part_holds values at =
+      evaluate words (take (variables_of x) values) (take (variables_of x) values) (nodes_place words at)
 
   unfoldable pub location_holds : Part → State → (at k : ℕ) → Bool
   location_holds part s at k = part_holds s.values (part_at words part at (get_or s.locations k 0))

@@ -13,7 +13,10 @@ edge_length t at = capped (4 + get_or t (update_place t at) 0)
 unfoldable pub same_run : (t : List ℕ) (at other n : ℕ) → Bool
 same_run t at other zero = true
 same_run t at other (suc n) =
-    elim (eqb (get_or t at 0) (get_or t other 0)) [ true ↦ same_run t (reach t at 1) (reach t other 1) n | false ↦ false ]
+    elim (eqb (get_or t at 0) (get_or t other 0)) [
+      | true ↦ same_run t (reach t at 1) (reach t other 1) n
+      | false ↦ false
+    ]
 
 unfoldable pub same_edge_at : (t : List ℕ) (at other : ℕ) → Bool
 same_edge_at t at other = same_run t at other (edge_length t at)

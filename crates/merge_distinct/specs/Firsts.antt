@@ -1,5 +1,6 @@
 -- The edges of an automaton that repeat no earlier one, by their places in a table.
-use Rattle.std.specs.Prelude.{◌≡◌, Bool, true, false, List, [], ◌∷◌, ◌++◌, ℕ, zero, suc, ◌+◌, ◌≤◌, length, get_or, take, leb}
+use Rattle.std.specs.Prelude.{◌≡◌, Bool, true, false, List, [], ◌∷◌, ◌++◌, ℕ, zero, suc, ◌+◌, ◌≤◌, length, get_or, take}
+use Rattle.std.specs.Prelude.{leb}
 use Rattle.model.specs.Basic.{exists}
 use Rattle.model.specs.Bounds.{max_edges}
 use Rattle.table_places.specs.AtMost.{at_most}

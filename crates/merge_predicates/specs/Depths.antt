@@ -2,7 +2,8 @@
 -- depth_of_lem.
 use Rattle.std.specs.Prelude.{Bool, true, false, ◌||◌, List, ℕ, zero, suc, ◌+◌, get_or, ltb}
 use Rattle.model.specs.Bounds.{max_depth}
-use Rattle.model.specs.Predicate.{Word, all_of, any_of, not_word, imp_word, eq_word, le_word, num_word, old_word, new_word}
+use Rattle.model.specs.Predicate.{Word, all_of, any_of, not_word, imp_word, eq_word, le_word, num_word, old_word}
+use Rattle.model.specs.Predicate.{new_word}
 use Rattle.model.specs.Predicate.{add_word, sub_word, mul_word, if_word, stray}
 use Rattle.model.specs.Table.{word_of}
 use Rattle.table_places.specs.Outline.{reach, nodes_place, after_predicate}

@@ -14,7 +14,8 @@ use Rattle.merge_words.specs.Linearize.{refused_by, merged_to}
 
 -- of a model: rows 31 to 34, or the merged model's table and its count of edges
 unfoldable pub linear_model : Model → Linearization
-linear_model m = elim (merge_fault m) [ some row ↦ refused_by row | none ↦ merged_to (merged_count m) (table_of (linear m)) ]
+linear_model m =
+    elim (merge_fault m) [ some row ↦ refused_by row | none ↦ merged_to (merged_count m) (table_of (linear m)) ]
 
 -- of a table: rows 18 and 19 first
 unfoldable pub linearization_of : Opened → Linearization

@@ -30,7 +30,8 @@ under_at t action edges = under_from t action (get_or t edges 0) (first_edge t e
 -- of n automata, from automaton i on; of all
 unfoldable pub counts_from : (t edges : List ℕ) (action i n : ℕ) → List ℕ
 counts_from t edges action i zero = []
-counts_from t edges action i (suc n) = narrow (under_at t action (get_or edges i 0)) ∷ counts_from t edges action (i + 1) n
+counts_from t edges action i (suc n) =
+    narrow (under_at t action (get_or edges i 0)) ∷ counts_from t edges action (i + 1) n
 
 unfoldable pub counts_of : (t : List ℕ) (x : Layout) (action : ℕ) → List ℕ
 counts_of t x action = sets (replicate max_automata 0) 0 (counts_from t x.edges action 0 (automata_of x))

@@ -1,5 +1,6 @@
 -- Where the edges of a merged edge stand, from what each automaton takes. A layout says where the automata's edges are.
-use Rattle.std.specs.Prelude.{Bool, true, false, not, ◌&&◌, List, [], ◌∷◌, ℕ, zero, suc, ◌+◌, ◌-◌, get_or, length, replicate, eqb}
+use Rattle.std.specs.Prelude.{Bool, true, false, not, ◌&&◌, List, [], ◌∷◌, ℕ, zero, suc, ◌+◌, ◌-◌, get_or, length}
+use Rattle.std.specs.Prelude.{replicate, eqb}
 use Rattle.std.proofs.lemmas.List.Edits.{sets}
 use Rattle.model.specs.Bounds.{max_automata}
 use Rattle.table_places.specs.declared.layout.Layout.{Layout}

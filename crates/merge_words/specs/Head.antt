@@ -36,7 +36,8 @@ variables_from t k (suc n) = variable_at t (range_at t k) ++ variables_from t (k
 unfoldable pub pointers_from : (t places : List ℕ) (i n : ℕ) → List ℕ
 pointers_from t places i zero = []
 pointers_from t places i (suc n) =
-    bias ∷ upward (last_location_at t (get_or places i 0)) ∷ pointer_owner_word (format_in t) ∷ pointers_from t places (i + 1) n
+    bias ∷ upward (last_location_at t (get_or places i 0)) ∷ pointer_owner_word (format_in t) ∷
+    pointers_from t places (i + 1) n
 
 -- format, actions, V + N, the model's variables, the pointers, and one automaton
 unfoldable pub head_words : (t : List ℕ) (x : Layout) → List ℕ

@@ -139,7 +139,8 @@ pub data Call : Type 0 where
 unfoldable pub answer_to : List ℕ → Call → Answer
 answer_to table (step phase locations values action new_locations new_values) =
     step_answer table phase locations values action new_locations new_values
-answer_to table (environment phase locations values new_values) = environment_answer table phase locations values new_values
+answer_to table (environment phase locations values new_values) =
+    environment_answer table phase locations values new_values
 
 -- no row refuses the call
 pub record StepPasses (m : Model) (s : State) (a : ℕ) (t : State) : Type 0 where

@@ -10,7 +10,8 @@ use Rattle.model.specs.Bounds.{first_format, last_format, max_actions, max_varia
 use Rattle.model.specs.Bounds.{max_edges, max_operands, max_depth, max_nodes, max_tree_nodes, last_variable}
 use Rattle.model.specs.Bounds.{last_location, last_automaton, least_number, greatest_number, owners_format}
 use Rattle.model.specs.Predicate.{Pred, Word, Range, words, depth, all_stay, names_outside, names_new, all_of, any_of}
-use Rattle.model.specs.Predicate.{not_word, imp_word, eq_word, le_word, num_word, old_word, new_word, add_word, sub_word}
+use Rattle.model.specs.Predicate.{not_word, imp_word, eq_word, le_word, num_word, old_word, new_word, add_word}
+use Rattle.model.specs.Predicate.{sub_word}
 use Rattle.model.specs.Predicate.{mul_word, if_word, stray, written}
 use Rattle.model.specs.Composition.{Tree, par, syn, ini, leaf, leaves, starts, tree_size}
 use Rattle.model.specs.Model.{Edge, Model, edge_total}

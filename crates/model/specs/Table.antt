@@ -1,5 +1,6 @@
 -- The table of a model (docs/TABLE.md): line after line as words, then zeros up to 16,384 words.
-use Rattle.std.specs.Prelude.{ℕ, zero, suc, ◌+◌, ◌-◌, ◌*◌, ◌/◌, ◌%◌, ◌^◌, Bool, true, false, ◌&&◌, length, get_or, take, drop, replicate, ℤ, pos, negsuc, eqb, leb, ltb}
+use Rattle.std.specs.Prelude.{ℕ, zero, suc, ◌+◌, ◌-◌, ◌*◌, ◌/◌, ◌%◌, ◌^◌, Bool, true, false, ◌&&◌, length, get_or, take}
+use Rattle.std.specs.Prelude.{drop, replicate, ℤ, pos, negsuc, eqb, leb, ltb}
 use mathlib.Core.List.{List, [], ◌∷◌, ◌++◌, map, flat_map}
 use Rattle.std.proofs.Math.Option.{Option, none, some}
 use Rattle.model.specs.Basic.{keep, same, count_up, on_some, lacks}
@@ -34,9 +35,9 @@ high_bits (k ∷ ks) = elim (leb k 31) [ true ↦ high_bits ks | false ↦ 2 ^ (
 unfoldable pub set_words : List ℕ → List ℕ
 set_words list = low_bits list ∷ high_bits list ∷ []
 
--- A node of a predicate is one word. A number has the words from `first_number_word` on; any other node has a kind and an
--- argument in a word below. Code that reads or makes such words calls the crate node_words, and proofs cite its laws:
--- nobody else looks into a node's word.
+-- A node of a predicate is one word. A number has the words from `first_number_word` on; any other node has a kind
+-- and an argument in a word below. Code that reads or makes such words calls the crate node_words, and proofs cite its
+-- laws: nobody else looks into a node's word.
 unfoldable pub node_word : (kind argument : ℕ) → ℕ
 node_word kind k = kind + 16 * k
 
@@ -117,8 +118,8 @@ set_of low high = keep (bit low) (count_up 0 32) ++ keep (λ k. bit high (k - 32
 -- the words by their kinds, all with one argument; the kind 6 is no word's
 unfoldable pub kinds : ℕ → List Word
 kinds k =
-    all_of k ∷ any_of k ∷ not_word ∷ imp_word ∷ eq_word ∷ le_word ∷ stray ∷ old_word k ∷ new_word k ∷ add_word ∷ sub_word ∷
-    mul_word ∷ if_word ∷ []
+    all_of k ∷ any_of k ∷ not_word ∷ imp_word ∷ eq_word ∷ le_word ∷ stray ∷ old_word k ∷ new_word k ∷ add_word ∷
+    sub_word ∷ mul_word ∷ if_word ∷ []
 
 unfoldable pub word_of : ℕ → Word
 word_of w =
@@ -190,7 +191,8 @@ and_pred p others = on_some (λ t. split (p ∷ t.item) t.rest) others
 unfoldable pub split_preds : ℕ → List ℕ → Option (Split (List Pred))
 split_preds zero ws = split [] ws
 split_preds (suc k) [] = none
-split_preds (suc k) (n ∷ ws) = on_some (λ p. and_pred p (split_preds k (drop n ws))) (read_pred (map word_of (take n ws)))
+split_preds (suc k) (n ∷ ws) =
+    on_some (λ p. and_pred p (split_preds k (drop n ws))) (read_pred (map word_of (take n ws)))
 
 unfoldable pub split_starts : List ℕ → Option (Split (List Pred))
 split_starts [] = none
@@ -237,7 +239,8 @@ is_table_of t m = limits m && same (take table_words t) (table_of m)
 
 -- the model whose table this is
 unfoldable pub model_of : List ℕ → Option Model
-model_of t = on_some (λ m. elim (is_table_of t m) [ true ↦ some m | false ↦ none ]) (decode table_words at_first due_at_first t)
+model_of t =
+    on_some (λ m. elim (is_table_of t m) [ true ↦ some m | false ↦ none ]) (decode table_words at_first due_at_first t)
 
 -- Row 18, for a table of so many words. Row 19: it is no model's table, and so no text's (the law given_by_text).
 unfoldable pub row18 : (words : ℕ) → Bool
@@ -253,4 +256,7 @@ pub data Opened : Type 0 where
 
 unfoldable pub open_table : List ℕ → Opened
 open_table t =
-    elim (row18 (length t)) [ true ↦ unopened 18 | false ↦ elim (model_of t) [ none ↦ unopened 19 | some m ↦ opened m ] ]
+    elim (row18 (length t)) [
+      | true ↦ unopened 18
+      | false ↦ elim (model_of t) [ none ↦ unopened 19 | some m ↦ opened m ]
+    ]

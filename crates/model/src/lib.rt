@@ -2,7 +2,6 @@
 // specs/.
 #![tactic(auto)]
 
-
 // What a sheet says, within these limits (specs/Bounds.antt).
 #[derive(Drop)]
 pub struct Model {}

@@ -1,7 +1,8 @@
 -- The nodes of predicates as the code has them, each beside the word of the definitions that it stands for, and the
 -- table words that hold them.
 use Rattle.std.specs.Prelude.{ℕ, ◌%◌}
-use Rattle.model.specs.Predicate.{Word, all_of, any_of, not_word, imp_word, eq_word, le_word, num_word, old_word, new_word}
+use Rattle.model.specs.Predicate.{Word, all_of, any_of, not_word, imp_word, eq_word, le_word, num_word, old_word}
+use Rattle.model.specs.Predicate.{new_word}
 use Rattle.model.specs.Predicate.{add_word, sub_word, mul_word, if_word, stray}
 use Rattle.model.specs.Table.{biased, unbiased, code, word_of}
 use Rattle.node_words.specs.declared.Node.{Node}

@@ -4,8 +4,10 @@ use Rattle.std.specs.Prelude.{ℕ, ◌≤◌, ◌≡◌, Bool, List, map, length
 use Rattle.std.proofs.Math.Option.{none, some}
 use Rattle.model.specs.Bounds.{max_bytes}
 use Rattle.model.specs.Predicate.{words}
-use Rattle.model.specs.Lines.{Key as LineKey, Entry, format_line, actions_line, variables_line, variable_line, automata_line}
-use Rattle.model.specs.Lines.{sync_line, locations_line, init_line, inv_line, edges_line, edge_line, compose_line, Reading}
+use Rattle.model.specs.Lines.{Key as LineKey, Entry, format_line, actions_line, variables_line, variable_line}
+use Rattle.model.specs.Lines.{automata_line}
+use Rattle.model.specs.Lines.{sync_line, locations_line, init_line, inv_line, edges_line, edge_line, compose_line}
+use Rattle.model.specs.Lines.{Reading}
 use Rattle.model.specs.Table.{code, line_words}
 use Rattle.table_writes.specs.Sets.{all_variables, rest_of}
 use Rattle.line_order.specs.declared.Key.{Key}

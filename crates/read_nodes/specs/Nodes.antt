@@ -42,7 +42,8 @@ module _ (old_only : Bool) (variables : ℕ) (ranges : List ℕ) (before : ℕ) 
 
   -- with room for so many sorts
   unfoldable pub judged_in : (high : ℕ) (nodes : List ℕ) → Nodes
-  judged_in high nodes = elim (leb (length nodes) high) [ true ↦ told (length nodes) (nodes_fault nodes) | false ↦ Full ]
+  judged_in high nodes =
+      elim (leb (length nodes) high) [ true ↦ told (length nodes) (nodes_fault nodes) | false ↦ Full ]
 
   -- by what reading the words came to, of which these are the codes
   unfoldable pub on_words : (high : ℕ) (nodes : List ℕ) → Words → Nodes

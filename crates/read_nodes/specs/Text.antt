@@ -14,7 +14,8 @@ use Rattle.format.specs.Tokens.{tokens, sounds, read_words}
 unfoldable pub text_pred : Bytes → Pred
 text_pred part = or_else (all P.none) (read_pred (read_words (tokens part)))
 
-unfoldable pub text_fault : (declared : List Range) (before : ℕ) (old_only : Bool) → Bytes → (rest : Option ℕ) → Option ℕ
+unfoldable pub text_fault : (declared : List Range) (before : ℕ) (old_only : Bool) → Bytes → (rest : Option ℕ)
+    → Option ℕ
 text_fault declared before old_only part rest =
     broken 3 (not (sounds [] (tokens part)))
     (broken 6 (lacks (read_pred (read_words (tokens part))))

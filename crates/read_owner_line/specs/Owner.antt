@@ -1,4 +1,5 @@
--- The line `owner=` as the code reads it: the rows of `owner_fault` and the word of `the_owner`, by the laws of Meaning.
+-- The line `owner=` as the code reads it: the rows of `owner_fault` and the word of `the_owner`, by the laws of
+-- Meaning.
 use Rattle.std.specs.Prelude.{ℕ, suc, Bool, true, false, pos}
 use Rattle.model.specs.Basic.{same}
 use Rattle.model.specs.Bounds.{last_automaton}
@@ -23,4 +24,5 @@ owner_in v =
     ]
 
 unfoldable pub owner_read : Bytes → (ended : Bool) → OwnerRead
-owner_read s ended = elim (misformed owner_name 1 s ended) [ true ↦ Fault 2 | false ↦ owner_in (value_after owner_name s) ]
+owner_read s ended =
+    elim (misformed owner_name 1 s ended) [ true ↦ Fault 2 | false ↦ owner_in (value_after owner_name s) ]

@@ -35,7 +35,8 @@ take_off (suc k) sort [] = none
 take_off (suc k) sort (x ∷ s) = elim (beq x sort) [ true ↦ take_off k sort s | false ↦ none ]
 
 unfoldable pub push_sort : Arity → List Bool → Option (List Bool)
-push_sort (Takes p x sort) s = on_some (λ s₁. on_some (λ s₂. some (sort ∷ s₂)) (take_off x false s₁)) (take_off p true s)
+push_sort (Takes p x sort) s =
+    on_some (λ s₁. on_some (λ s₂. some (sort ∷ s₂)) (take_off x false s₁)) (take_off p true s)
 push_sort Stray s = none
 
 unfoldable pub sort_stack : List Word → Option (List Bool)

@@ -26,7 +26,8 @@ value_fault c words v room high =
 -- the words that it says
 unfoldable pub value_words : Bytes → List ℕ
 value_words v =
-    natural_of (field_in 0 v) ∷ natural_of (field_in 1 v) ∷ natural_of (field_in 2 v) ∷ counted (codes_of (field_in 3 v))
+    natural_of (field_in 0 v) ∷ natural_of (field_in 1 v) ∷ natural_of (field_in 2 v) ∷
+    counted (codes_of (field_in 3 v))
 
 -- the answer: beside the nodes and the next place, the variables whose new value no node names
 abbrev pub edge_told : Option ℕ → (nodes : List ℕ) (at : ℕ) (new : List ℕ) → LineRead

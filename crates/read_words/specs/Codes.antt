@@ -20,7 +20,8 @@ word_with Old = old_word
 word_with New = new_word
 
 unfoldable pub number_code : Bytes → ℕ
-number_code s = elim (within least_number greatest_number s) [ true ↦ code (num_word (integer_of s)) | false ↦ stray_code ]
+number_code s =
+    elim (within least_number greatest_number s) [ true ↦ code (num_word (integer_of s)) | false ↦ stray_code ]
 
 unfoldable pub argument_code : Numbered → (high : ℕ) → Bytes → ℕ
 argument_code which high s =

@@ -1,6 +1,7 @@
--- What the reader answers, line by line, and what it leaves in the lent table. It is what `read_answer` and `table_after`
--- say: the laws answer_exact and after_exact.
-use Rattle.std.specs.Prelude.{ℕ, zero, suc, ◌+◌, ◌-◌, Bool, true, false, not, ◌&&◌, ◌||◌, List, ◌++◌, length, take, drop, set, replicate, eqb, leb, ltb}
+-- What the reader answers, line by line, and what it leaves in the lent table. It is what `read_answer` and
+-- `table_after` say: the laws answer_exact and after_exact.
+use Rattle.std.specs.Prelude.{ℕ, zero, suc, ◌+◌, ◌-◌, Bool, true, false, not, ◌&&◌, ◌||◌, List, ◌++◌, length, take}
+use Rattle.std.specs.Prelude.{drop, set, replicate, eqb, leb, ltb}
 use Rattle.model.specs.Bounds.{max_bytes, table_words, owners_format}
 use Rattle.model.specs.Table.{row18}
 use Rattle.line_order.specs.Due.{is_end, is_listed, is_owned, due_first, due_after}

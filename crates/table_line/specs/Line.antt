@@ -1,7 +1,9 @@
 -- What the words of one line say, on any words: `line_at`. That it is exact is the law line_exact.
-use Rattle.std.specs.Prelude.{ℕ, zero, suc, ◌+◌, ◌-◌, ◌*◌, Bool, true, false, not, ◌&&◌, ◌||◌, List, map, length, get_or, take, drop, eqb, leb, ltb}
+use Rattle.std.specs.Prelude.{ℕ, zero, suc, ◌+◌, ◌-◌, ◌*◌, Bool, true, false, not, ◌&&◌, ◌||◌, List, map, length}
+use Rattle.std.specs.Prelude.{get_or, take, drop, eqb, leb, ltb}
 use Rattle.model.specs.Basic.{every}
-use Rattle.model.specs.Bounds.{first_format, last_format, max_actions, max_variables, max_automata, max_locations, max_edges}
+use Rattle.model.specs.Bounds.{first_format, last_format, max_actions, max_variables, max_automata, max_locations}
+use Rattle.model.specs.Bounds.{max_edges}
 use Rattle.model.specs.Bounds.{max_nodes, last_location, last_biased, owners_format}
 use Rattle.model.specs.Predicate.{names_outside, names_new}
 use Rattle.model.specs.Limits.{rises}

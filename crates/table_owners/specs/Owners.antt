@@ -1,5 +1,5 @@
--- Rows 50 and 51 from the words of variables, three each. On the words of a model's variables they are `is_beyond` of an
--- owner and `writes_foreign`: the laws beyond_is and foreign_is.
+-- Rows 50 and 51 from the words of variables, three each. On the words of a model's variables they are `is_beyond` of
+-- an owner and `writes_foreign`: the laws beyond_is and foreign_is.
 use Rattle.std.specs.Prelude.{ℕ, ◌+◌, ◌*◌, ◌/◌, Bool, not, ◌&&◌, List, length, get_or, eqb, ltb}
 use Rattle.model.specs.Basic.{exists, count_up}
 use Rattle.model.specs.Bounds.{max_variables}

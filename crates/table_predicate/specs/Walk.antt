@@ -1,6 +1,7 @@
 -- What the walk finds on any words. On the words of a predicate it is what rows 9 and 10 ask: the laws walk-of,
 -- walk_deep and walk_back.
-use Rattle.std.specs.Prelude.{Bool, true, false, not, ◌&&◌, ◌||◌, List, [], ◌∷◌, ℕ, zero, suc, ◌+◌, ℤ, pos, ◌+ℤ◌, ◌-ℤ◌, length, get_or, ltb}
+use Rattle.std.specs.Prelude.{Bool, true, false, not, ◌&&◌, ◌||◌, List, [], ◌∷◌, ℕ, zero, suc, ◌+◌, ℤ, pos, ◌+ℤ◌, ◌-ℤ◌}
+use Rattle.std.specs.Prelude.{length, get_or, ltb}
 use Rattle.std.specs.Int.Signed.{le_z}
 use Rattle.model.specs.Bounds.{least_value, greatest_value, max_depth}
 use Rattle.model.specs.Predicate.{Word, Range, range, hull, times, all_of, any_of, not_word, imp_word, eq_word, le_word}
@@ -102,7 +103,8 @@ predicate_by P E if_word w = unsound w
 predicate_by P E stray w = unsound w
 
 -- the same for expressions, given the declared ranges; no expression begins with the first words or the last
-unfoldable pub expression_by : (P : Walked → Walked) (E : Walked → Reach) (declared : List Range) → Word → Walked → Reach
+unfoldable pub expression_by : (P : Walked → Walked) (E : Walked → Reach) (declared : List Range) → Word → Walked
+    → Reach
 expression_by P E declared (all_of k) w = unreached (unsound w)
 expression_by P E declared (any_of k) w = unreached (unsound w)
 expression_by P E declared not_word w = unreached (unsound w)
@@ -130,8 +132,8 @@ module _ (words ranges : List ℕ) where
     pub expression_at : (left : ℕ) → Walked → Reach
     expression_at zero w = unreached (deeper w)
     expression_at (suc n) w =
-        expression_by (λ v. predicate_at n v) (λ v. expression_at n v) (declared_of ranges) (meant (entered words w).node)
-        (entered words w).walk
+        expression_by (λ v. predicate_at n v) (λ v. expression_at n v) (declared_of ranges)
+        (meant (entered words w).node) (entered words w).walk
 
   -- from a place on
   unfoldable pub walk_at : (at : ℕ) → Walked

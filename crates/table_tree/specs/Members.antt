@@ -1,4 +1,5 @@
--- Membership in the synchronising set of a subtree, from its words. On a tree's words it is `in_set`: the law in_set_of.
+-- Membership in the synchronising set of a subtree, from its words. On a tree's words it is `in_set`: the law
+-- in_set_of.
 use Rattle.std.specs.Prelude.{Bool, false, ◌||◌, List, ℕ, zero, suc, get_or}
 use Rattle.model.specs.Basic.{member}
 use Rattle.model.specs.Bounds.{max_tree_nodes}

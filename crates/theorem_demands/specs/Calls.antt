@@ -136,7 +136,8 @@ pub record EveryCallAnswers : Type 0 where
   -- the merged text of a text is
   pub linearizes : (text lent : Bytes) → TextCall text lent
   -- the program (merge_output::output) prints a refusal with its row and line, where there is one
-  pub prints : (text : Bytes) (row line : ℕ) → TextFault text max_bytes row line → program_output text ≡ refusal row line
+  pub prints : (text : Bytes) (row line : ℕ) → TextFault text max_bytes row line
+      → program_output text ≡ refusal row line
   -- a step is judged
   pub judges_steps : (table : List ℕ) (phase : ℕ) (locations : List ℕ) (values : List ℤ)
       → (action : ℕ) (locations' : List ℕ) (values' : List ℤ)

@@ -8,7 +8,8 @@ use Rattle.model.specs.Table.{opened, open_table}
 use Rattle.model.specs.Rules.{State, reached, changed, Environment}
 use Rattle.model.specs.Linear.{linear}
 use Rattle.model.specs.Judge.{Answer, no, refused, has_values, row21, row22, row23}
-use Rattle.model.specs.Runs.{IsState, Proposal, to_step, to_environment, proposed, Judge, table_judge, goes, Run, and_then}
+use Rattle.model.specs.Runs.{IsState, Proposal, to_step, to_environment, proposed, Judge, table_judge, goes, Run}
+use Rattle.model.specs.Runs.{and_then}
 use Rattle.model.specs.Runs.{beside, Reply, put, not_put, AllAlike}
 use Rattle.theorem_runs.specs.Demand.{pointers_in}
 
@@ -89,7 +90,8 @@ pub record OwnedRuns (m : Model) (table table' : List ℕ) (s : State) (ps : Lis
   -- the answers are alike, place by place, and the merged run ends beside the composition's
   pub answers : AllAlike (free_run m (table_judge table) s ps).answers
       (free_merged_run m (table_judge table') (beside s) ps).answers
-  pub end : (free_merged_run m (table_judge table') (beside s) ps).end ≡ beside (free_run m (table_judge table) s ps).end
+  pub end : (free_merged_run m (table_judge table') (beside s) ps).end
+      ≡ beside (free_run m (table_judge table) s ps).end
   -- and at each point of the list both can change in the same way
   pub changes : (before after : List Free) → ps ≡ before ++ after
       → ChangesAlike m (free_run m (table_judge table) s before).end

@@ -30,7 +30,8 @@ unfoldable pub field_text : ℕ → Bytes
 field_text n = decimal n ++ (comma ∷ [])
 
 unfoldable pub edge_text : List ℕ → Bytes
-edge_text ws = field_text (get_or ws 0 0) ++ field_text (get_or ws 1 0) ++ field_text (get_or ws 2 0) ++ predicate_text (drop 3 ws)
+edge_text ws =
+    field_text (get_or ws 0 0) ++ field_text (get_or ws 1 0) ++ field_text (get_or ws 2 0) ++ predicate_text (drop 3 ws)
 
 -- the P's of the tree: they stand behind its nodes, after their number
 unfoldable pub starts_behind : List ℕ → List ℕ
