@@ -1,7 +1,7 @@
 -- Row 10 is what the evaluator needs: an expression's value lies in its interval, so in a predicate whose intervals all stay
 -- in the span no number on the way leaves the range of an i64.
-use mathlib.Core.Path.{◌≡◌, refl, sym, ◌∙◌}
-use mathlib.Core.Bool.{Bool, true, false, ◌||◌, true≢false}
+use mathlib.Core.Path.{◌≡◌, sym, ◌∙◌}
+use mathlib.Core.Bool.{true, false, ◌||◌}
 use mathlib.Core.List.{List, ◌++◌}
 use Prim.Native.Nat.{ℕ}
 use borrow.Author.Tests.{leb-false}

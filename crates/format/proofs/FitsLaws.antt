@@ -22,7 +22,7 @@ use Rattle.model.specs.Lawful.{location_nodes, automaton_nodes, node_total, Lawf
 use Rattle.model.proofs.LimitLines.{tree_ranged}
 use Rattle.model.proofs.Tests.{every_append}
 use Rattle.model.proofs.Lists.{flat_append, keep_append, keep_first, keep_skip, keep_empty, keep_length}
-use Rattle.format.specs.Bytes.{LF, Bytes, bytes, led_by, joined, space, comma, '0}
+use Rattle.format.specs.Bytes.{LF, Bytes, led_by, joined, space, comma, '0}
 use Rattle.format.specs.Number.{decimal_in, decimal, signed}
 use Rattle.format.specs.Spelling as S
 use Rattle.format.specs.Spelling.{spelling, value_text, line_text, writes_key, owner_key, none_word, behind, owner_said, behind_text, entry_text, text_of, spelled, text_of_pred, text_of_list, text_of_owner, spelled_node, text_of_tree}

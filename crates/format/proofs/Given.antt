@@ -1,16 +1,16 @@
 -- The reader's answer and row 19, all told: with the limits known part by part, a text's length follows, and so does which
 -- tables an accepted text gives.
 use Prim.Native.Nat.{ℕ, ◌≤◌}
-use mathlib.Core.Path.{◌≡◌, refl, ap}
-use mathlib.Core.Bool.{Bool, true, false}
+use mathlib.Core.Path.{◌≡◌, refl}
+use mathlib.Core.Bool.{true, false}
 use mathlib.Core.List.{List}
 use mathlib.Core.Logic.{◌↔◌}
 use native.Mathlib.Omega.{arith}
-use lib.ListN.{length, take}
+use lib.ListN.{length}
 use Rattle.model.specs.Bounds.{max_bytes, table_words}
 use Rattle.model.specs.Model.{Model}
 use Rattle.model.specs.Limits.{limits}
-use Rattle.model.specs.Table.{table_of, row19}
+use Rattle.model.specs.Table.{row19}
 use Rattle.model.proofs.LimitsLaws.{lawful_is}
 use Rattle.model.proofs.TableLaws.{table_given}
 use Rattle.format.specs.Bytes.{Bytes}

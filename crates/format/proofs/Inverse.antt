@@ -16,7 +16,7 @@ use Rattle.format.specs.Bytes.{Bytes}
 use Rattle.format.specs.Spelling.{text_of}
 use Rattle.format.specs.Reader.{accepted, read_answer}
 use Rattle.format.specs.Writer.{written, write_answer, row35}
-use Rattle.format.proofs.Exact.{Exactly, accepted_then, then_accepted}
+use Rattle.format.proofs.Exact.{accepted_then, then_accepted}
 use Rattle.format.proofs.FitsLaws.{text_fits}
 
 -- what was read is written back, whatever follows the table

@@ -1,17 +1,16 @@
 -- What the line of an entry breaks by itself, and what is left to the line behind it: the rows of a variable's owner, and row 51
 -- for what an edge writes.
-use Prim.Native.Nat.{ℕ, suc}
+use Prim.Native.Nat.{ℕ}
 use mathlib.Core.Path.{◌≡◌, refl, sym, ◌∙◌, ap}
 use mathlib.Core.Bool.{false, not}
-use mathlib.Core.List.{List, [], ◌∷◌}
+use mathlib.Core.List.{List}
 use mathlib.Core.Option.{Option, none, some}
 use lib.Dec.{leb}
-use lib.ListN.{length}
 use Rattle.model.specs.Basic.{lacks}
 use Rattle.model.specs.Bounds.{first_format, owners_format}
 use Rattle.model.specs.Limits.{broken, content_fault, fault_of, is_astray, is_early, is_foreign, location_count, location_fault, numbers_in_range, owner_in_range, passes_edges, pred_fault, starts_fault, variable_count, writes_foreign}
 use Rattle.model.specs.Lines.{Entry, Reading, actions_line, add_edge, automata_line, compose_line, edge_line, edges_line, format_line, init_line, inv_line, key_of, locations_line, noted, on_last, sync_line, variable_line, variables_line, with_automata, with_model, with_pred}
-use Rattle.model.specs.Model.{Automaton, Edge}
+use Rattle.model.specs.Model.{Edge}
 use Rattle.model.specs.Predicate.{Range, names_outside, words, written}
 use Rattle.model.proofs.LinesLaws.{length_on_last}
 use Rattle.model.proofs.Decode.{none_lacks, unbroken}

@@ -12,7 +12,6 @@ use lib.IntN.{ℤ, pos, negsuc}
 use Rattle.model.specs.Basic.{between, every, exists, lacks, or_else}
 use Rattle.model.specs.Bounds.{first_format, greatest_number, last_format, last_location, least_number, max_actions, max_automata, max_edges, max_locations, max_variables}
 use Rattle.model.specs.Composition.{Tree, leaf}
-use Rattle.model.specs.Limits.{broken}
 use Rattle.model.specs.Lines.{Entry, Key, Reading, actions, automata, compose, edge, edges, format, init, inv, key_of, locations, sync, variable, variables}
 use Rattle.model.specs.Parse.{read_pred, read_tree}
 use Rattle.model.specs.Predicate as P

@@ -10,10 +10,9 @@ use borrow.Author.Tests.{leb-true, eqb-true, le-leb}
 use lib.Dec.{eqb, leb}
 use lib.IntN.{ℤ, pos, negsuc}
 use Rattle.model.specs.Basic.{between, every, same}
-use Rattle.model.specs.Bounds.{greatest_number, last_variable, least_number, max_actions, max_operands}
-use Rattle.model.specs.Composition.{syn}
+use Rattle.model.specs.Bounds.{greatest_number, last_variable, least_number, max_operands}
 use Rattle.model.specs.Limits.{in_range}
-use Rattle.model.specs.Predicate.{Word, all, all_of, any, any_of, new_word, num_word, old_word, stray}
+use Rattle.model.specs.Predicate.{Word, all_of, any_of, new_word, num_word, old_word, stray}
 use Rattle.model.proofs.Tests.{and_intro, and_left, and_right, or_cases}
 use Rattle.format.specs.Bytes.{'a, 'n, 'v, Bytes, bytes}
 use Rattle.format.specs.Number.{natural_of, decimal, digit, integer_of, is_between, number, signed, within}

@@ -1,16 +1,15 @@
 -- Tokens and words are one to one.
 use Prim.Native.Nat.{ℕ, suc, ◌≤◌, ◌<◌}
 use mathlib.Core.Path.{◌≡◌, refl, ◌∙◌, ap}
-use mathlib.Core.Bool.{Bool, true, false, not, ◌&&◌}
+use mathlib.Core.Bool.{Bool, true, false, ◌&&◌}
 use mathlib.Core.List.{List, [], ◌∷◌, flat_map}
 use native.Mathlib.Omega.{arith}
 use borrow.Author.Tests.{leb-true, le-leb}
 use lib.IntN.{ℤ, pos, negsuc}
 use Rattle.model.specs.Basic.{between, every, or_else, same}
 use Rattle.model.specs.Bounds.{greatest_number, last_variable, least_number, max_operands}
-use Rattle.model.specs.Composition.{syn}
 use Rattle.model.specs.Limits.{in_range}
-use Rattle.model.specs.Predicate.{Word, add, add_word, all, all_of, any, any_of, eq, eq_word, if_word, imp, imp_word, le, le_word, mul, mul_word, new_word, not_word, num_word, old_word, stray, sub, sub_word}
+use Rattle.model.specs.Predicate.{Word, add_word, all_of, any_of, eq_word, if_word, imp_word, le_word, mul_word, new_word, not_word, num_word, old_word, stray, sub_word}
 use Rattle.model.proofs.Tests.{and_intro, and_left, and_right}
 use Rattle.format.specs.Bytes.{'n, 'v, Bytes, bytes, minus}
 use Rattle.format.specs.Number.{natural_of, decimal, digit, integer_of, is_between, signed, within}

@@ -1,6 +1,6 @@
 -- The line `writes=` breaks no row exactly if it is the one spelling of the list that is due.
 use Prim.Native.Nat.{ℕ}
-use mathlib.Core.Path.{◌≡◌, refl, sym, ◌∙◌, ap}
+use mathlib.Core.Path.{◌≡◌, sym, ◌∙◌, ap}
 use mathlib.Core.Bool.{Bool, true, false, not}
 use mathlib.Core.List.{List, ◌++◌, map}
 use mathlib.Core.Option.{none}
@@ -8,7 +8,7 @@ use borrow.Author.Tests.{not-false}
 use lib.Dec.{leb}
 use lib.IntN.{pos}
 use lib.ListN.{length, drop}
-use Rattle.model.specs.Basic.{every, exists, same}
+use Rattle.model.specs.Basic.{every, exists}
 use Rattle.model.specs.Bounds.{last_variable}
 use Rattle.model.specs.Limits.{ascends, broken, is_foreign, variable_count}
 use Rattle.model.specs.Lines.{Reading}

@@ -1,6 +1,6 @@
 -- The reader's answer: rows 18 and 1 are tried before any line; after that the first line with a fault decides.
 use Rattle.std.specs.Prelude.{ℕ, suc, ◌≡◌, Bool, true, false, List, [], ◌∷◌, ◌++◌, length, take, drop, eqb, ltb}
-use Rattle.std.proofs.Math.Option.{Option, none, some}
+use Rattle.std.proofs.Math.Option.{none, some}
 use Rattle.model.specs.Bounds.{max_bytes, table_words}
 use Rattle.model.specs.Model.{Model}
 use Rattle.model.specs.Lines.{Key, due_at_first, then_due, Reading, at_first, with_owner, noted}

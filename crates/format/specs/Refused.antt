@@ -2,7 +2,6 @@
 -- refusal_first.
 use Rattle.std.specs.Prelude.{ℕ, suc, ◌<◌, Bool, true}
 use mathlib.Core.List.{List, [], ◌∷◌, ◌++◌, Memᴰ}
-use Rattle.std.proofs.Math.Option.{Option, none, some}
 use Rattle.model.specs.Lines.{Key, Reading, with_owner, noted, then_due}
 use Rattle.format.specs.Rows.{Line, entry, row2, row3, row4, row5, row6, row7, row8, row9, row10, row11, row12}
 use Rattle.format.specs.Rows.{row13, row14, row15, row16, row50}

@@ -1,8 +1,8 @@
 -- "Refused", rows 2 to 16 and 50 as a line of the text breaks them: `true` is broken. A row decides only where no
 -- smaller row is broken, so it may take for granted that none is: what it says of other lines plays no part.
-use Rattle.std.specs.Prelude.{ℕ, ◌+◌, Bool, true, false, not, ◌&&◌, ◌||◌, length, get_or, drop, pos, eqb, leb}
+use Rattle.std.specs.Prelude.{ℕ, Bool, true, false, not, ◌&&◌, ◌||◌, length, get_or, drop, pos, eqb, leb}
 use mathlib.Core.List.{List, [], ◌∷◌, map, flat_map}
-use Rattle.std.proofs.Math.Option.{Option, none, some}
+use Rattle.std.proofs.Math.Option.{Option, none}
 use Rattle.model.specs.Basic.{every, exists, lacks, or_else}
 use Rattle.model.specs.Bounds.{first_format, last_format, max_actions, max_variables, max_automata, max_locations}
 use Rattle.model.specs.Bounds.{max_edges}

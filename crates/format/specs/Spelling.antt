@@ -3,11 +3,11 @@ use Rattle.std.specs.Prelude.{ℕ, true, false, leb}
 use mathlib.Core.List.{List, [], ◌∷◌, ◌++◌, map, flat_map}
 use Rattle.std.proofs.Math.Option.{Option, none, some}
 use Rattle.model.specs.Bounds.{writes_format, owners_format}
-use Rattle.model.specs.Predicate.{Pred, Range, Word, words, all_of, any_of, not_word, imp_word, eq_word, le_word}
+use Rattle.model.specs.Predicate.{Pred, Word, words, all_of, any_of, not_word, imp_word, eq_word, le_word}
 use Rattle.model.specs.Predicate.{num_word}
 use Rattle.model.specs.Predicate.{old_word, new_word, add_word, sub_word, mul_word, if_word, stray, written}
 use Rattle.model.specs.Composition.{Tree, Node, nodes, par_node, syn_node, ini_node, leaf_node, stray_node}
-use Rattle.model.specs.Model.{Edge, Model}
+use Rattle.model.specs.Model.{Model}
 use Rattle.model.specs.Lines.{Key, Entry, format, actions, variables, variable, automata, sync, locations, init, inv}
 use Rattle.model.specs.Lines.{edges, edge, compose, format_line, actions_line, variables_line, variable_line}
 use Rattle.model.specs.Lines.{automata_line}

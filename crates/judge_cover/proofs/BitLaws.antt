@@ -1,11 +1,11 @@
 -- Bits of numbers: of `&`, of equal numbers, and how many are set.
 use mathlib.Core.Path.{◌≡◌, refl, sym, ap, ◌∙◌}
-use mathlib.Core.Bool.{Bool, true, false, ◌&&◌, and_comm}
+use mathlib.Core.Bool.{Bool, true, false, ◌&&◌}
 use Prim.Native.Nat.{ℕ, zero, suc, ◌+◌, ◌/◌, ◌%◌, ◌^◌, ◌≤◌, ◌<◌, min}
 use native.Mathlib.Omega.{arith}
 use native.Mathlib.Nat.{pow-succ', div-one, div-div-eq-div-mul}
 use lib.Dec.{eqb}
-use lib.Bits.{bit_and, and_step, and_shr, and_zero_l, and_zero_r, and_comm as and-turned}
+use lib.Bits.{bit_and, and_step, and_shr, and_zero_l, and_comm as and-turned}
 use lib.Count.{ones, ones_step}
 use borrow.Author.Tests.{eqb-true, eqb-false}
 use Rattle.model.specs.Table.{bit}

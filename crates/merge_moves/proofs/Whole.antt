@@ -11,7 +11,7 @@ use Rattle.model.specs.Composition.{Tree, leaves, tree_size}
 use Rattle.model.specs.Model.{Model, automaton}
 use Rattle.model.specs.Moves.{under, moves, move_count}
 use Rattle.model.specs.Lawful.{Lawful}
-use Rattle.model.proofs.Numbered.{size, numbered, size_is, Leaves, leaves_in}
+use Rattle.model.proofs.Numbered.{numbered, size_is, Leaves, leaves_in}
 use Rattle.table_tree.specs.Nodes.{tree_words}
 use Rattle.table_tree.proofs.Standing.{begins}
 use Rattle.merge_moves.specs.Plan.{plan_at, fill_at}

@@ -8,7 +8,7 @@ use native.Mathlib.Omega.{arith}
 use lib.IntN.{ℤ, pos}
 use lib.ListN.{length, get_or, drop, length-append, length-map, get_or-append, get_or-map}
 use lib.Seq.{get_or-append-add, drop_at}
-use lib.Dec.{eqb, ltb}
+use lib.Dec.{eqb}
 use Rattle.model.specs.Basic.{between, each}
 use Rattle.model.specs.Predicate.{range}
 use Rattle.model.specs.Model.{Model, automaton, nobody, in_set}
@@ -17,7 +17,7 @@ use Rattle.model.specs.Rules.{State, at, val, reached, changed}
 use Rattle.model.specs.Linear.{linear, pointer, pointer_range}
 use Rattle.model.specs.Judge.{has_values, Answer, marked, yes, no, refused, range_of, row21, row22, row23, row24, environment_holds, step_holds, judge_to, judge_environment}
 use Rattle.model.specs.Runs.{IsState, Proposal, to_step, to_environment, proposed, model_judge, goes, Run, and_then, run, beside, translate, translates, Reply, put, not_put, merged_run, Alike, both_marked, both_yes, both_no, both_23, both_24, only_21, only_22, AllAlike, ended, then, RunsAlike}
-use Rattle.model.proofs.Tests.{of_le, lt_of, le_of, not-false, not-true, and_intro, and_left, and_right, and_same, eq_of, of_eq, each_intro, each_elim, each_ext, each_add, or_cases, or_none_left, or_none_right}
+use Rattle.model.proofs.Tests.{of_le, le_of, not-false, not-true, and_intro, and_left, and_same, of_eq, each_intro, each_ext, each_add, or_cases, or_none_left, or_none_right}
 use Rattle.model.proofs.Pointers.{pointer_value}
 use Rattle.model.proofs.Merged.{Shaped, shaped, step_same, environment_stays, marks_same}
 

@@ -10,7 +10,7 @@ use native.Mathlib.Omega.{arith}
 use lib.IntN.{ℤ}
 use lib.ListN.{length}
 use lib.Dec.{eqb}
-use Rattle.model.specs.Basic.{eq_z, each, every, exists, lacks, count_up}
+use Rattle.model.specs.Basic.{eq_z, every, exists, lacks, count_up}
 use Rattle.model.specs.Predicate.{Pred}
 use Rattle.model.specs.Composition.{Tree, par, syn, ini, leaf, leaves, starts}
 use Rattle.model.specs.Model.{Model, automaton, location, owner_of, in_set}

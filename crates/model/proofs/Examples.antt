@@ -2,16 +2,16 @@
 -- edges.
 use Prim.Native.Nat.{ℕ}
 use mathlib.Core.Path.{◌≡◌, refl}
-use mathlib.Core.Bool.{Bool, true, false}
+use mathlib.Core.Bool.{true, false}
 use mathlib.Core.List.{List, [], ◌∷◌, map}
-use lib.IntN.{ℤ, pos, negsuc}
+use lib.IntN.{pos, negsuc}
 use lib.Dec.{eqb}
 use Rattle.model.specs.Basic.{eq_z, exists, keep, once, member, count_up}
 use Rattle.model.specs.Predicate.{Pred, Range, range, all, negate, eq, num, old, add, sub, mul, choose, none, words, operands, node_count, depth, least, greatest, hull, times, interval}
 use Rattle.model.specs.Composition.{Tree, par, syn, leaf}
 use Rattle.model.specs.Model.{Model, Edge, Automaton, in_set}
 use Rattle.model.specs.Equal.{word_kind, word_number, same_word, same_words, same_edge}
-use Rattle.model.specs.Moves.{pairs, sides, under, moves, sides_count, move_count}
+use Rattle.model.specs.Moves.{pairs, sides, under, moves}
 
 -- an automaton whose edges under action 1 lead to these locations; `true` says nothing
 abbrev true' : Pred

@@ -10,15 +10,14 @@ use native.Mathlib.Nat.{zero-add, add-zero, add-suc, suc-add}
 use mathlib.Core.Option as O
 use mathlib.Core.Option.{Option}
 use lib.ListN.{length, get_or}
-use lib.Dec.{eqb}
-use Rattle.model.specs.Basic.{exists, sum}
+use Rattle.model.specs.Basic.{sum}
 use Rattle.model.specs.Bounds.{max_nodes, max_actions, max_locations, max_edges}
 use Rattle.model.specs.Predicate.{Range, node_count, written}
 use Rattle.model.specs.Composition.{leaf}
-use Rattle.model.specs.Model.{Location, Edge, Automaton, Model, automaton, nobody, edge_total}
+use Rattle.model.specs.Model.{Location, Edge, Automaton, Model, nobody, edge_total}
 use Rattle.model.specs.Lines.{Entry, format_line, actions_line, variable_line, automata_line, sync_line, init_line, inv_line, edges_line, edge_line, compose_line, location_lines, automaton_lines, variable_lines, lines, Reading, at_first, last_of, on_last, add_edge, with_model, with_automata, with_pred, noted}
 use Rattle.model.specs.Limits.{numbers_in_range, location_count, is_beyond, is_foreign, writes_foreign, content_fault, fault_of, within_limits, limits}
-use Rattle.model.specs.Lawful.{location_nodes, automaton_nodes, node_total, LawfulRange, LawfulOwner, LawfulLocation, LawfulEdge, LawfulAutomaton, Lawful}
+use Rattle.model.specs.Lawful.{location_nodes, automaton_nodes, node_total, LawfulRange, LawfulLocation, LawfulEdge, LawfulAutomaton, Lawful}
 use Rattle.model.proofs.Tests.{eq_of, of_eq, exists_none, none_exists}
 use Rattle.model.proofs.LinesLaws.{noted_all, noted_append, sheet, auto, noted_ranges, noted_locations, noted_automaton, noted_automata, length_on_last}
 use Rattle.model.proofs.LimitLines.{format_line_lem, actions_line_lem, variables_line_lem, variable_line_lem, Said, owner_lawful, lawful_owner, automata_line_lem, sync_line_lem, locations_line_lem, state_line, edges_line_lem, edge_line_lem, tree_line}

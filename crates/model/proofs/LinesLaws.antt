@@ -1,5 +1,5 @@
 -- The lines of a model: taken one after the other they give the model back, and they stand in the order that is due.
-use Prim.Native.Nat.{ℕ, zero, suc, ◌+◌}
+use Prim.Native.Nat.{ℕ, suc}
 use native.Mathlib.Omega.{arith}
 use mathlib.Core.Path.{◌≡◌, refl, sym, ◌∙◌, ap, ap₂}
 use mathlib.Core.Bool.{Bool, true, false}
@@ -8,10 +8,10 @@ use mathlib.Core.Option as O
 use mathlib.Core.Option.{Option}
 use lib.ListN.{length}
 use Rattle.model.specs.Basic.{every}
-use Rattle.model.specs.Predicate.{Pred, Range, node_count}
+use Rattle.model.specs.Predicate.{Range}
 use Rattle.model.specs.Composition.{Tree, leaf}
 use Rattle.model.specs.Model.{Location, Edge, Automaton, Model}
-use Rattle.model.specs.Lines.{Key, format, actions, variables, variable, automata, sync, locations, init, inv, edges, edge, compose, Entry, format_line, actions_line, variables_line, variable_line, automata_line, sync_line, locations_line, init_line, inv_line, edges_line, edge_line, compose_line, key_of, location_lines, automaton_lines, variable_lines, lines, due_at_first, repeat, then_due, Reading, at_first, with_model, with_automata, with_pred, with_nodes, on_last, add_location, add_edge, last_owner, with_owner, noted}
+use Rattle.model.specs.Lines.{Key, variable, automata, sync, locations, init, inv, edges, edge, compose, Entry, format_line, actions_line, variables_line, variable_line, automata_line, sync_line, locations_line, init_line, inv_line, edges_line, edge_line, compose_line, key_of, location_lines, automaton_lines, variable_lines, lines, due_at_first, repeat, then_due, Reading, at_first, with_model, with_automata, with_pred, with_nodes, on_last, add_location, add_edge, last_owner, with_owner, noted}
 use Rattle.model.proofs.Tests.{and_intro, and_left, and_right, every_append, never}
 
 -- the lines of a block, and what they are taken to

@@ -11,7 +11,7 @@ use lib.IntN.{ℤ, pos}
 use lib.ListN.{length, get_or, length-append, length-map, get_or-append}
 use lib.Dec.{eqb, leb, ltb}
 use Rattle.model.specs.Basic.{eq_z, each, every, exists, keep, once, member, lacks, count_up}
-use Rattle.model.specs.Predicate.{Pred, all, preds, holds, words, named, is_outside, names_outside, mentions}
+use Rattle.model.specs.Predicate.{Pred, holds, words, named, is_outside, names_outside, mentions}
 use Rattle.model.specs.Composition.{Tree, par, syn, ini, leaf, leaves, starts}
 use Rattle.model.specs.Model.{Model, Location, Edge, Automaton, automaton, location, owner_of, nobody, nowhere, in_set}
 use Rattle.model.specs.Limits.{rises, tree_rises}

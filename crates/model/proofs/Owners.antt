@@ -1,23 +1,22 @@
 -- Owners: what row 51 says of an edge's variables, and who owns what in the merged sheet.
 use Prim.Native.Nat.{ℕ, zero, suc, ◌+◌, ◌≤◌, ◌<◌}
 use mathlib.Core.Path.{◌≡◌, refl, sym, ap, ◌∙◌, subst}
-use mathlib.Core.Bool.{Bool, true, false, not, ◌&&◌, ◌||◌, true≢false}
+use mathlib.Core.Bool.{Bool, true, false, not, ◌&&◌, true≢false}
 use mathlib.Core.List.{List, [], ◌∷◌, ◌++◌, map, Memᴰ}
-use mathlib.Core.Logic.{◌⊎◌, inl, inr}
 use mathlib.Core.Option.{Option, none, some}
 use native.Mathlib.Omega.{arith}
 use borrow.Author.Tests.{leb-true, leb-false, le-leb, lt-leb}
 use lib.ListN.{length, get_or, length-append, length-map, get_or-append, get_or-map}
 use lib.Seq.{get_or-append-add}
 use lib.Dec.{eqb, leb}
-use Rattle.model.specs.Basic.{exists, keep, lacks, count_up, member}
+use Rattle.model.specs.Basic.{exists, lacks, count_up, member}
 use Rattle.model.specs.Bounds.{owners_format, max_variables}
 use Rattle.model.specs.Predicate.{Pred, words, names_outside, mentions, written}
-use Rattle.model.specs.Model.{Model, Edge, Automaton, automaton, owner_of}
+use Rattle.model.specs.Model.{Model, Edge, automaton, owner_of}
 use Rattle.model.specs.Limits.{is_owner, writes_foreign}
 use Rattle.model.specs.Lawful.{Lawful, LawfulOwner}
 use Rattle.model.specs.Linear.{merged_owner, pointer_owner, pointer}
-use Rattle.model.proofs.Tests.{eq_of, eq_self, exists_elim, exists_none, none_exists, not-false, not-true}
+use Rattle.model.proofs.Tests.{eq_of, eq_self, exists_elim, exists_none, none_exists, not-false}
 use Rattle.model.proofs.Lists.{keep_in, member_count}
 use Rattle.model.proofs.Parsing.{none_some, got}
 use Rattle.model.proofs.Written.{mention_inside}

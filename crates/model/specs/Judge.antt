@@ -5,7 +5,7 @@ use Rattle.model.specs.Basic.{eq_z, between, each, every, exists, lacks}
 use Rattle.model.specs.Predicate.{Range, range, holds}
 use Rattle.model.specs.Composition.{starts}
 use Rattle.model.specs.Model.{Model, automaton, location, owner_of, in_set}
-use Rattle.model.specs.Table.{Opened, unopened, opened, open_table}
+use Rattle.model.specs.Table.{unopened, opened, open_table}
 use Rattle.model.specs.Rules.{Phase, start, running, State, reached, at, val, holds_in, Taker, mentioned, changed}
 use Rattle.model.specs.Moves.{moves}
 

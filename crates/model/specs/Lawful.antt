@@ -1,6 +1,6 @@
 -- What an accepted model meets, part by part. The law lawful_is says that these are exactly the models within `limits`.
-use Rattle.std.specs.Prelude.{◌≡◌, Bool, true, false, ℕ, suc, ◌+◌, ◌≤◌, ◌<◌, length}
-use mathlib.Core.List.{List, [], ◌∷◌, map, Memᴰ}
+use Rattle.std.specs.Prelude.{◌≡◌, true, false, ℕ, suc, ◌+◌, ◌≤◌, ◌<◌, length}
+use mathlib.Core.List.{List, map, Memᴰ}
 use Rattle.std.proofs.Math.Option.{Option, some}
 use Rattle.std.specs.Int.Signed.{le_z}
 use Rattle.model.specs.Basic.{between, every, sum, count_up}

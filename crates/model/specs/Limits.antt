@@ -1,7 +1,7 @@
 -- "Refused": what the rows up to 16 ask of what a line says. The text's rows cite these conditions, and so does row 19,
 -- since a table says the same things. (Rows 2 and 6 are about spelling alone; the conditions of 7 and 8 stand in
 -- Predicate.)
-use Rattle.std.specs.Prelude.{ℕ, suc, ◌+◌, Bool, true, false, not, ◌&&◌, ◌||◌, length, get_or, ℤ, eqb, leb, ltb}
+use Rattle.std.specs.Prelude.{ℕ, suc, ◌+◌, Bool, true, false, not, ◌&&◌, ◌||◌, length, get_or, eqb, leb, ltb}
 use mathlib.Core.List.{List, [], ◌∷◌, flat_map}
 use Rattle.std.proofs.Math.Option.{Option, none, some}
 use Rattle.std.specs.Int.Signed.{le_z}
@@ -14,7 +14,7 @@ use Rattle.model.specs.Predicate.{not_word, imp_word, eq_word, le_word, num_word
 use Rattle.model.specs.Predicate.{sub_word}
 use Rattle.model.specs.Predicate.{mul_word, if_word, stray, written}
 use Rattle.model.specs.Composition.{Tree, par, syn, ini, leaf, leaves, starts, tree_size}
-use Rattle.model.specs.Model.{Edge, Model, edge_total}
+use Rattle.model.specs.Model.{Model, edge_total}
 use Rattle.model.specs.Lines.{Entry, format_line, actions_line, variables_line, variable_line, automata_line, sync_line}
 use Rattle.model.specs.Lines.{locations_line, init_line, inv_line, edges_line, edge_line, compose_line, lines, Reading}
 use Rattle.model.specs.Lines.{at_first, noted, last_of}

@@ -1,6 +1,6 @@
 -- "The merged text": Definition 4 of source document 003, the linearization. The format departs from it once: the
 -- pointers' ranges say what its second conjunct of `init` says.
-use Rattle.std.specs.Prelude.{ℕ, suc, pred, ◌+◌, Bool, true, false, ℤ, pos, length, leb, ltb}
+use Rattle.std.specs.Prelude.{ℕ, suc, pred, ◌+◌, Bool, true, false, pos, length, leb, ltb}
 use mathlib.Core.List.{List, [], ◌∷◌, ◌++◌, map, flat_map}
 use Rattle.std.proofs.Math.Option.{Option, none, some}
 use Rattle.model.specs.Basic.{exists, keep, once, sum, count_up}

@@ -1,5 +1,5 @@
 -- "The sheet text": predicates and expressions, what they mean, and how large they are.
-use Rattle.std.specs.Prelude.{ℕ, zero, suc, max, Bool, true, false, not, cond, ◌&&◌, ◌||◌, List, [], ◌∷◌, ◌++◌, ℤ, pos}
+use Rattle.std.specs.Prelude.{ℕ, suc, max, Bool, true, false, not, cond, ◌&&◌, ◌||◌, List, [], ◌∷◌, ◌++◌, ℤ, pos}
 use Rattle.std.specs.Prelude.{◌+ℤ◌, ◌-ℤ◌, ◌*ℤ◌, length, get_or, eqb, leb}
 use Rattle.std.specs.Int.Signed.{le_z}
 use Rattle.model.specs.Basic.{eq_z, exists, keep, count_up}

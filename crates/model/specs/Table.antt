@@ -5,13 +5,13 @@ use mathlib.Core.List.{List, [], ◌∷◌, ◌++◌, map, flat_map}
 use Rattle.std.proofs.Math.Option.{Option, none, some}
 use Rattle.model.specs.Basic.{keep, same, count_up, on_some, lacks}
 use Rattle.model.specs.Bounds.{table_words, bias, first_number_word}
-use Rattle.model.specs.Predicate.{Pred, Range, range, Word, words, node_count, all_of, any_of, not_word, imp_word}
+use Rattle.model.specs.Predicate.{Pred, range, Word, words, node_count, all_of, any_of, not_word, imp_word}
 use Rattle.model.specs.Predicate.{eq_word, le_word, num_word, old_word, new_word, add_word, sub_word, mul_word, if_word}
 use Rattle.model.specs.Predicate.{stray}
 use Rattle.model.specs.Composition.{Tree, Node, nodes, starts, tree_size, par_node, syn_node, ini_node, leaf_node}
 use Rattle.model.specs.Composition as C
 use Rattle.model.specs.Parse.{read_pred, read_tree, ini_alone, with_starts}
-use Rattle.model.specs.Model.{Edge, Model}
+use Rattle.model.specs.Model.{Model}
 use Rattle.model.specs.Lines.{Key, Entry, format, actions, variables, variable, automata, sync, locations, init}
 use Rattle.model.specs.Lines.{inv, edges, edge, compose, format_line, actions_line, variables_line, variable_line}
 use Rattle.model.specs.Lines.{automata_line, sync_line, locations_line, init_line, inv_line, edges_line, edge_line}

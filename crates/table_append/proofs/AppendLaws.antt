@@ -1,13 +1,13 @@
 -- Each way out of the code of src/append.rt.
-use Prim.Native.Nat.{ℕ, suc, ◌+◌, ◌-◌, ◌≤◌, ◌<◌}
+use Prim.Native.Nat.{ℕ, ◌+◌, ◌-◌, ◌≤◌, ◌<◌}
 use mathlib.Core.Path.{◌≡◌, refl, sym, ◌∙◌, ap}
 use mathlib.Core.Bool.{Bool, true, false}
 use mathlib.Core.List.{List, [], ◌∷◌}
 use native.Mathlib.Omega.{arith}
 use native.Mathlib.Numerals.{add-one}
 use borrow.Author.Tests.{le-leb, lt-leb, lt-ltb, le-ltb, leb-true}
-use lib.ListN.{length, get_or, take, drop, set, length-set, length-take, length-drop, drop_of_length-le}
-use lib.Seq.{drop-cons, get_or-take, drop-nil}
+use lib.ListN.{length, get_or, take, drop, set, length-set, length-take, drop_of_length-le}
+use lib.Seq.{drop-cons, get_or-take}
 use lib.Dec.{leb, ltb}
 use Rattle.model.specs.Bounds.{table_words}
 use Rattle.table_append.specs.Append.{next_place, put}

@@ -9,7 +9,7 @@ use lib.ListN.{length, set}
 use lib.Dec.{leb, ltb}
 use Rattle.model.specs.Bounds.{table_words}
 use Rattle.table_append.specs.Append.{next_place, put}
-use Rattle.table_append.proofs.AppendLaws.{put_kept, put_past, next_past, next_in, next_over}
+use Rattle.table_append.proofs.AppendLaws.{put_past, next_past, next_in, next_over}
 
 pub next_then : (at a b : ℕ) → next_place (next_place at a) b ≡ next_place at (a + b)
 next_then at a b = go (leb (at + a) table_words) refl (leb (at + (a + b)) table_words) refl

@@ -1,5 +1,5 @@
 -- On the words of a model's variables the functions answer what rows 50 and 51 ask.
-use Prim.Native.Nat.{ℕ, zero, suc, ◌+◌, ◌*◌, ◌/◌, ◌≤◌, ◌<◌}
+use Prim.Native.Nat.{ℕ, zero, suc, ◌+◌, ◌*◌, ◌/◌, ◌<◌}
 use mathlib.Core.Path.{◌≡◌, refl, sym, ap, ◌∙◌}
 use mathlib.Core.Bool.{Bool, true, false, not, ◌&&◌, ◌||◌}
 use borrow.Author.Tests.{leb-true, leb-false, lt-leb, lt-ltb, ne_eqb}
@@ -10,11 +10,11 @@ use native.Mathlib.Omega.{arith}
 use lib.ListN.{length, get_or}
 use lib.Dec.{eqb, ltb, leb}
 use Rattle.model.specs.Basic.{every, exists, keep, count_up}
-use Rattle.model.specs.Bounds.{max_variables, owners_format}
+use Rattle.model.specs.Bounds.{max_variables}
 use Rattle.model.specs.Predicate.{Pred, Range, words, mentions, written}
 use Rattle.model.specs.Lines.{variable_lines}
-use Rattle.model.specs.Limits.{in_range, is_beyond, is_owner, writes_foreign}
-use Rattle.model.specs.Table.{code, bit, owner_word, line_words}
+use Rattle.model.specs.Limits.{in_range, is_beyond, is_owner}
+use Rattle.model.specs.Table.{code, owner_word, line_words}
 use Rattle.model.proofs.Tests.{exists_ext, not-not}
 use Rattle.model.proofs.Lists.{keep_first, keep_skip}
 use Rattle.table_writes.specs.Sets.{all_variables, rest_of}

@@ -4,7 +4,7 @@ use mathlib.Core.List.{List}
 use Prim.Native.Nat.{ℕ, zero, suc, ◌+◌, ◌-◌, ◌≤◌, ◌<◌}
 use native.Mathlib.Omega.{arith}
 use native.Mathlib.Numerals.{sub-one}
-use lib.ListN.{length, get_or, get_or-eq_default}
+use lib.ListN.{length, get_or}
 use borrow.Author.Tests.{le-leb, lt-leb}
 use Rattle.table_places.specs.AtMost.{at_most}
 use Rattle.table_places.specs.Outline.{reach, nodes_place, after_predicate, owner_at, edge_from, edge_action, edge_to, update_place, set_low, set_high, location_count, first_location, first_edge, location_at, edge_at, edges_at, after_automaton, actions_in, variables_in, range_at, low_at, high_at, count_at, automata_in, first_automaton}

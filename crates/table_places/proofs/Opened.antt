@@ -1,14 +1,12 @@
 -- A table that opens begins with the words of a lawful model.
-use mathlib.Core.Path.{◌≡◌, refl, sym, ap, ◌∙◌}
-use mathlib.Core.Bool.{Bool, true, false}
+use mathlib.Core.Path.{◌≡◌, sym, ap, ◌∙◌}
 use mathlib.Core.List.{List, ◌++◌}
-use mathlib.Core.Option.{Option, none, some}
 use Prim.Native.Nat.{ℕ}
-use lib.ListN.{length, drop, take-append-drop}
+use lib.ListN.{drop, take-append-drop}
 use Rattle.model.specs.Bounds.{table_words}
 use Rattle.model.specs.Model.{Model}
 use Rattle.model.specs.Lawful.{Lawful}
-use Rattle.model.specs.Table.{sheet_words, table_of, model_of, row18, unopened, opened, open_table}
+use Rattle.model.specs.Table.{sheet_words, table_of, opened, open_table}
 use Rattle.model.proofs.LimitsLaws.{lawful_is}
 use Rattle.model.proofs.TableLaws.{model_given, opened_model}
 use Rattle.table_places.proofs.OutlineLaws.{table_sheet}

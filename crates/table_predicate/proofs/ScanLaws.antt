@@ -3,18 +3,15 @@ use mathlib.Core.Path.{◌≡◌, refl, sym, ap, ap₂, ◌∙◌}
 use mathlib.Core.Bool.{Bool, true, false, not, ◌&&◌, ◌||◌}
 use mathlib.Core.List.{List, [], ◌∷◌, map}
 use Prim.Native.Nat.{ℕ, zero, suc, ◌+◌, ◌-◌, ◌<◌, ◌≤◌}
-use native.Mathlib.Omega.{arith}
 use native.Mathlib.Numerals.{add-one, sub-one}
-use borrow.Author.Tests.{leb-true, leb-false, le-leb, eqb-true, eqb-false, eq-eqb, ne_eqb}
 use lib.Dec.{eqb, leb}
-use lib.IntN.{pos, negsuc}
 use lib.ListN.{length, get_or, take, drop, drop_of_length-le}
 use lib.Seq.{drop-cons, take-nil}
-use Rattle.model.specs.Basic.{between, every, exists}
-use Rattle.model.specs.Bounds.{bias, least_number, greatest_number, last_biased}
+use Rattle.model.specs.Basic.{every, exists}
+use Rattle.model.specs.Bounds.{last_biased}
 use Rattle.model.specs.Predicate.{Word, named, is_outside, is_new, names_outside, names_new}
 use Rattle.model.specs.Limits.{in_range}
-use Rattle.model.specs.Table.{unbiased, code, word_of}
+use Rattle.model.specs.Table.{code, word_of}
 use Rattle.node_words.specs.declared.Node.{Node}
 use Rattle.node_words.specs.declared.Node.TheVariants.{All, Any, Number, Old, New, Stray}
 use Rattle.node_words.specs.Nodes.{meant, node_of, word_for}

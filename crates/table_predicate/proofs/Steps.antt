@@ -11,7 +11,7 @@ use lib.ListN.{length, get_or}
 use Rattle.model.specs.Predicate.{Range, range, hull, times}
 use Rattle.model.specs.Table.{unbiased}
 use Rattle.node_words.specs.declared.Node.{Node}
-use Rattle.node_words.specs.declared.Node.TheVariants.{All, Any, Not, Imp, Eq, Le, Number, Old, New, Add, Sub, Mul, If, Stray}
+use Rattle.node_words.specs.declared.Node.TheVariants.{All, Any, Not, Imp, Number, Old, New, Add, Sub, Mul, If, Stray}
 use Rattle.node_words.specs.Nodes.{meant, node_of}
 use Rattle.node_words.proofs.NodeLaws.{Other, by_others, begin_predicates, begin_expressions}
 use Rattle.table_predicate.specs.declared.Walked.{Walked}

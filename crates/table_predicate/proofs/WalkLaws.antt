@@ -1,5 +1,5 @@
 -- What the walk finds: past the words of a predicate whose words stand at a place, and that some predicate's stand there.
-use mathlib.Core.Path.{◌≡◌, refl, ap, ap₂}
+use mathlib.Core.Path.{◌≡◌, refl, ap}
 use mathlib.Core.Bool.{true, false, not}
 use mathlib.Core.List.{List, [], ◌∷◌, map, flat_map, Memᴰ}
 use mathlib.Core.Option.{Option}
@@ -7,12 +7,11 @@ use Prim.Native.Nat.{ℕ, ◌+◌, ◌<◌, ◌≤◌}
 use lib.ListN.{take, drop}
 use Rattle.model.specs.Basic.{every}
 use Rattle.model.specs.Bounds.{max_depth}
-use Rattle.model.specs.Predicate.{Pred, Word, words, node_count, depth, Range, range, all_stay}
+use Rattle.model.specs.Predicate.{Pred, words, node_count, depth, Range, range, all_stay}
 use Rattle.model.specs.Lines.{variable_lines}
 use Rattle.model.specs.Limits.{in_range}
 use Rattle.model.specs.Lawful.{LawfulRange}
 use Rattle.model.specs.Table.{code, word_of, line_words}
-use Rattle.model.proofs.Tests.{and_left, and_right}
 use Rattle.model.proofs.Decode.{number_back, words_back}
 use Rattle.table_predicate.specs.Walk.{sound, declared_of, walk_at}
 use Rattle.table_predicate.proofs.Standing.{standing, there}

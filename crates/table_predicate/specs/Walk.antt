@@ -1,6 +1,6 @@
 -- What the walk finds on any words. On the words of a predicate it is what rows 9 and 10 ask: the laws walk-of,
 -- walk_deep and walk_back.
-use Rattle.std.specs.Prelude.{Bool, true, false, not, ◌&&◌, ◌||◌, List, [], ◌∷◌, ℕ, zero, suc, ◌+◌, ℤ, pos, ◌+ℤ◌, ◌-ℤ◌}
+use Rattle.std.specs.Prelude.{Bool, true, false, not, ◌&&◌, ◌||◌, List, [], ◌∷◌, ℕ, zero, suc, ◌+◌, pos, ◌+ℤ◌, ◌-ℤ◌}
 use Rattle.std.specs.Prelude.{length, get_or, ltb}
 use Rattle.std.specs.Int.Signed.{le_z}
 use Rattle.model.specs.Bounds.{least_value, greatest_value, max_depth}

@@ -1,20 +1,18 @@
 -- On a tree's words, membership is that of the tree's synchronising set.
 use mathlib.Core.Path.{◌≡◌, refl, sym, ap, ap₂, ◌∙◌}
-use mathlib.Core.Bool.{true, ◌&&◌, ◌||◌}
-use mathlib.Core.List.{List, [], ◌∷◌, ◌++◌}
+use mathlib.Core.Bool.{true, ◌||◌}
+use mathlib.Core.List.{List, [], ◌++◌}
 use Prim.Native.Nat.{ℕ, suc, ◌+◌, ◌-◌, ◌≤◌}
 use native.Mathlib.Omega.{arith}
 use lib.ListN.{length, get_or, take, drop}
-use lib.Dec.{leb, ltb}
-use borrow.Author.Tests.{leb-true, le-leb}
-use Rattle.model.specs.Basic.{every, exists, member}
+use Rattle.model.specs.Basic.{exists, member}
 use Rattle.model.specs.Bounds.{max_actions, max_tree_nodes}
 use Rattle.model.specs.Composition.{Tree, par, syn, ini, leaf, tree_size}
 use Rattle.model.specs.Model.{Model, automaton, in_set}
 use Rattle.model.specs.Limits.{rises, tree_rises}
 use Rattle.model.specs.Table.{low_bits, high_bits, bit, set_of}
-use Rattle.model.proofs.Tests.{and_intro, and_left, and_right}
-use Rattle.model.proofs.Bits.{rises_cons, set_back}
+use Rattle.model.proofs.Tests.{and_left, and_right}
+use Rattle.model.proofs.Bits.{set_back}
 use Rattle.model.proofs.Numbered.{Leaves}
 use Rattle.model.proofs.LimitLines.{rises_ranged}
 use Rattle.table_tree.specs.declared.nodes.Found.TheVariants.{Par, Syn, Leaf}

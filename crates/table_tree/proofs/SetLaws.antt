@@ -4,7 +4,7 @@ use mathlib.Core.Bool.{Bool, true, false, ◌&&◌, and-false, true≢false}
 use mathlib.Core.List.{List, [], ◌∷◌, ◌++◌}
 use Prim.Native.Nat.{ℕ, zero, suc, ◌+◌, ◌-◌, ◌*◌, ◌/◌, ◌%◌, ◌^◌, ◌≤◌, ◌<◌}
 use native.Mathlib.Omega.{arith}
-use native.Mathlib.Nat.{zero-add, add-zero, add-suc, suc-add, mul-add, one-mul, mod-one, div-eq_of_lt, div-one, add_comm, mul_assoc, add-mul-div_right, add-mul-mod_self_right, lt-div-mul-add}
+use native.Mathlib.Nat.{zero-add, add-zero, add-suc, mul-add, one-mul, mod-one, div-eq_of_lt, div-one, add_comm, mul_assoc, add-mul-div_right, add-mul-mod_self_right, lt-div-mul-add}
 use lib.Dec.{eqb, leb, ltb}
 use lib.Pow as P
 use lib.Pow.{pow_pos, pow_mono, pow-add, shr_lt, shr-shr, mod-pow-add}

@@ -16,13 +16,13 @@ use Rattle.model.specs.Basic.{keep, once, member, exists, lacks, count_up}
 use Rattle.model.specs.Bounds.{table_words}
 use Rattle.model.specs.Predicate.{Pred, all, imp, eq, num, old, preds, range}
 use Rattle.model.specs.Composition.{Tree, par, syn, ini, leaf, starts}
-use Rattle.model.specs.Model.{Model, Location, Edge, Automaton, automaton, in_set}
+use Rattle.model.specs.Model.{Model, Location, Edge, Automaton, in_set}
 use Rattle.model.specs.Limits.{rises, tree_rises, broken, limits}
 use Rattle.model.specs.Lawful.{Lawful}
 use Rattle.model.specs.Table.{model_of, row18, row19, unopened, opened, open_table}
 use Rattle.model.specs.Moves.{moves}
 use Rattle.model.specs.Linear.{pointer_range, merged_owner, pointer, at_locations, at_automata, merged_init, merged_inv, merged_edge, edges_with_repeats, merged_edges, merged_count, linear, row31, row32, row33, row34, merge_fault}
-use Rattle.model.proofs.Tests.{and_left, and_right, or_cases, lt_of, eq_of, eq_self, of_eq, exists_intro, exists_elim}
+use Rattle.model.proofs.Tests.{and_left, and_right, or_cases, lt_of, eq_of, eq_self, of_eq, exists_intro}
 use Rattle.model.proofs.Lists.{keep_in, keep_out}
 use Rattle.model.proofs.Bits.{rises_cons}
 use Rattle.model.proofs.Parsing.{none_some, got}

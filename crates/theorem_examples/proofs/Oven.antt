@@ -3,10 +3,10 @@ use Prim.Native.Nat.{ℕ}
 use mathlib.Core.Path.{◌≡◌, refl}
 use mathlib.Core.Bool.{true, false}
 use mathlib.Core.List.{List, [], ◌∷◌, ◌++◌}
-use lib.IntN.{ℤ, pos}
+use lib.IntN.{pos}
 use lib.ListN.{replicate}
 use Rattle.model.specs.Basic.{same}
-use Rattle.model.specs.Judge.{Answer, marked, yes, no, Call, step, environment}
+use Rattle.model.specs.Judge.{marked, yes, no, Call, step, environment}
 use Rattle.format.specs.Bytes.{Bytes, bytes}
 use Rattle.theorem_examples.proofs.Computing.{computing}
 use Rattle.theorem_examples.proofs.Cases.{sheet, times, Case, accepts, refuses, set_is, answers, prints, same_bool, same_answer, table_of_text, refused_with, passes, failing}

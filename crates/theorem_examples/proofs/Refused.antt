@@ -1,9 +1,8 @@
 -- "Refused": an example of each row, as one table over the definitions, and some of its neighbours that no row refuses.
 use Prim.Native.Nat.{ℕ, zero, suc}
 use mathlib.Core.Path.{◌≡◌, refl}
-use mathlib.Core.Bool.{true, false}
 use mathlib.Core.List.{List, [], ◌∷◌, ◌++◌}
-use lib.IntN.{ℤ, pos}
+use lib.IntN.{pos}
 use lib.ListN.{replicate, drop, take}
 use Rattle.model.specs.Judge as Judge
 use Rattle.model.specs.Judge.{marked, yes, no, Call, step, environment}

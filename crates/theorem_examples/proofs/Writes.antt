@@ -1,7 +1,7 @@
 -- Request (f), each edge says what it writes: the oven in format 2, and the rows of the line `writes=`, as tables over the
 -- definitions.
 use mathlib.Core.Path.{◌≡◌, refl}
-use mathlib.Core.Bool.{true, false}
+use mathlib.Core.Bool.{true}
 use mathlib.Core.List.{List, [], ◌∷◌, ◌++◌}
 use Rattle.model.specs.Judge.{marked, yes, no}
 use Rattle.format.specs.Bytes.{Bytes, bytes}

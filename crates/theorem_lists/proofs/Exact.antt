@@ -2,7 +2,7 @@
 use Prim.Native.Nat.{ℕ, ◌+◌, ◌-◌, ◌≤◌}
 use mathlib.Core.Path.{◌≡◌, refl, sym, ap, ◌∙◌}
 use mathlib.Core.Bool.{Bool, true, false, ◌&&◌, ◌||◌, and-false}
-use mathlib.Core.List.{[], ◌∷◌, ◌++◌, flat_map, Memᴰ}
+use mathlib.Core.List.{[], ◌∷◌, ◌++◌, Memᴰ}
 use native.Mathlib.Omega.{arith}
 use borrow.Author.Tests.{leb-true, leb-false, le-leb}
 use lib.Dec.{leb}
@@ -11,7 +11,7 @@ use Rattle.model.specs.Basic.{exists, member, count_up}
 use Rattle.model.specs.Bounds.{max_variables, writes_format}
 use Rattle.model.specs.Predicate.{words, mentions, written, names_outside}
 use Rattle.model.specs.Model.{Edge, Automaton, Model}
-use Rattle.model.specs.Lines.{edge_line, lines}
+use Rattle.model.specs.Lines.{edge_line}
 use Rattle.model.specs.Lawful.{Lawful}
 use Rattle.model.specs.Rules.{Taker, mentioned}
 use Rattle.model.specs.Moves.{alone}

@@ -1,15 +1,15 @@
 -- The states of the merged automaton are the states beside the composition's.
 use Prim.Native.Nat.{ℕ, zero, suc, pred, ◌+◌, ◌≤◌, ◌<◌}
 use mathlib.Core.Path.{◌≡◌, refl, sym, ap, ◌∙◌}
-use mathlib.Core.Bool.{Bool, true, false, not, and-true, true≢false}
+use mathlib.Core.Bool.{true, false, not, true≢false}
 use mathlib.Core.List.{List, [], ◌∷◌, ◌++◌, map, Memᴰ}
 use native.Mathlib.Omega.{arith}
 use lib.IntN.{ℤ, pos, negsuc}
-use lib.ListN.{length, get_or, take, drop, length-append, length-map, length-drop, take-append-drop, get_or-append, get_or-map}
+use lib.ListN.{length, get_or, take, drop, length-map, length-drop, take-append-drop, get_or-map}
 use lib.Seq.{get_or-append-add, get_or-drop, length-take-le}
 use lib.Dec.{leb, ltb}
 use borrow.Author.Tests.{leb-true}
-use Rattle.model.specs.Basic.{between, each}
+use Rattle.model.specs.Basic.{between}
 use Rattle.model.specs.Predicate.{range}
 use Rattle.model.specs.Model.{Model, Automaton, automaton, nobody}
 use Rattle.model.specs.Lawful.{Lawful}
@@ -17,8 +17,7 @@ use Rattle.model.specs.Rules.{State, at, val}
 use Rattle.model.specs.Linear.{linear, pointer, pointer_range}
 use Rattle.model.specs.Judge.{has_values, range_of, row21, row22, row23}
 use Rattle.model.specs.Runs.{IsState, beside}
-use Rattle.model.proofs.Tests.{not-false, and_intro, and_right, and_same, of_lt, of_le, of_eq, each_intro, each_elim, each_ext, each_add}
-use Rattle.model.proofs.Pointers.{pointer_value}
+use Rattle.model.proofs.Tests.{not-false, and_right, of_lt, of_eq, each_intro, each_elim}
 use Rattle.model.proofs.Merged.{Shaped, shaped}
 use Rattle.model.proofs.Alike.{merged_size, merged_21, merged_22, merged_23, inside}
 use Rattle.model.proofs.TableJudge.{state_at}

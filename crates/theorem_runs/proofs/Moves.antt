@@ -9,7 +9,6 @@ use native.Mathlib.Omega.{arith}
 use lib.IntN.{ℤ, pos}
 use lib.ListN.{length, take, take-append-drop}
 use lib.Seq.{drop_at, length-take-le}
-use lib.Dec.{eqb}
 use Rattle.model.specs.Basic.{count_up}
 use Rattle.model.specs.Composition.{Tree}
 use Rattle.model.specs.Model.{Model, Edge, automaton}
@@ -19,10 +18,10 @@ use Rattle.model.specs.Moves.{moves}
 use Rattle.model.specs.Equal.{same_edge}
 use Rattle.model.specs.Linear.{linear, merged_edge, edges_with_repeats, merged_edges}
 use Rattle.model.proofs.Once.{once_out}
-use Rattle.model.specs.Judge.{has_values, row21, row22}
+use Rattle.model.specs.Judge.{has_values, row22}
 use Rattle.model.specs.Runs.{IsState, beside}
 use Rattle.model.proofs.Alike.{right_21}
-use Rattle.model.proofs.Tests.{not-false, and_left, of_eq}
+use Rattle.model.proofs.Tests.{of_eq}
 use Rattle.model.proofs.Merged.{shaped, automaton_at_lem, steps_alike, environments_alike}
 use Rattle.theorem_runs.specs.Demand.{IsPlace, pointers_in, MovesAlike}
 use Rattle.theorem_runs.proofs.Beside.{beside_state, state_of, values_count, beside_of}

@@ -1,26 +1,26 @@
 -- Runs in format 3: whatever pointers an environment proposal has, the composition and its merged automaton answer alike.
-use Prim.Native.Nat.{ℕ, zero, suc, ◌+◌, ◌≤◌, ◌<◌}
-use mathlib.Core.Path.{◌≡◌, refl, sym, ap, ap₂, ◌∙◌, subst, subst₂}
-use mathlib.Core.Bool.{Bool, true, false, not, cond, ◌&&◌, ◌||◌, true≢false, and-true, and-false}
+use Prim.Native.Nat.{ℕ, suc, ◌+◌, ◌≤◌, ◌<◌}
+use mathlib.Core.Path.{◌≡◌, refl, sym, ap, ap₂, ◌∙◌, subst}
+use mathlib.Core.Bool.{Bool, true, false, not, cond, ◌||◌, true≢false, and-false}
 use mathlib.Core.List.{List, [], ◌∷◌, ◌++◌, map}
 use mathlib.Core.Logic.{◌↔◌, ◌⊎◌, inl, inr}
-use mathlib.Core.Option.{Option, none, some}
+use mathlib.Core.Option.{some}
 use native.Mathlib.Omega.{arith}
 use lib.IntN.{ℤ, pos}
 use lib.ListN.{length, get_or, take, drop, length-append, length-drop, length-map, take-append-drop, get_or-map}
 use lib.Seq.{drop_at, get_or-append-add, length-take-le}
 use lib.Dec.{eqb}
-use Rattle.model.specs.Basic.{same, each, eq_z, lacks}
+use Rattle.model.specs.Basic.{same, each, lacks}
 use Rattle.model.specs.Bounds.{owners_format}
-use Rattle.model.specs.Model.{Model, owner_of, in_set}
+use Rattle.model.specs.Model.{Model, owner_of}
 use Rattle.model.specs.Lawful.{Lawful}
-use Rattle.model.specs.Rules.{State, reached, changed, at, val, Environment}
+use Rattle.model.specs.Rules.{State, reached, changed, at, Environment}
 use Rattle.model.specs.Linear.{linear, pointer, pointer_owner}
-use Rattle.model.specs.Judge.{Answer, marked, yes, no, refused, has_values, row21, row22, row23, row24, environment_holds, judge_to, judge_environment}
+use Rattle.model.specs.Judge.{Answer, no, refused, has_values, row21, row22, row23, environment_holds, judge_environment}
 use Rattle.model.specs.Runs.{IsState, Proposal, to_step, to_environment, proposed, Judge, model_judge, goes, Run, and_then, run, merged_run, beside, translate, translates, Reply, put, not_put, Alike, both_23, both_no, only_21, only_22, AllAlike, ended, then}
 use Rattle.model.proofs.Tests.{not-false, not-true, each_elim, of_eq, eq_of, or_cases, or_none_left, or_none_right, or_other}
 use Rattle.model.proofs.Lists.{same_of, same_self}
-use Rattle.model.proofs.Alike.{merged_21, merged_22, merged_23, right_21, goes_state, runs_alike}
+use Rattle.model.proofs.Alike.{merged_21, merged_22, merged_23, right_21, runs_alike}
 use Rattle.model.proofs.Merged.{Shaped, shaped, environment_same, environments_alike}
 use Rattle.model.proofs.Pointers.{pointer_value}
 use Rattle.model.proofs.Owners.{pointer_owner_lem, pointer_owned}

@@ -1,22 +1,20 @@
 -- In format 3 no step changes a variable that no taker's automaton owns.
 use Prim.Native.Nat.{ℕ, ◌≤◌, ◌<◌}
-use mathlib.Core.Path.{◌≡◌, refl, sym, ap, subst}
+use mathlib.Core.Path.{◌≡◌, refl, sym, subst}
 use mathlib.Core.Bool.{Bool, true, false}
 use mathlib.Core.List.Memᴰ
-use mathlib.Core.List.{List, [], ◌∷◌, ◌++◌, Memᴰ}
+use mathlib.Core.List.{List, Memᴰ}
 use mathlib.Core.Logic.{◌⊎◌, inl, inr}
 use mathlib.Core.Option.{some}
-use native.Mathlib.Omega.{arith}
 use borrow.Author.Tests.{ltb-true, ltb-false}
 use lib.ListN.{length, get_or-eq_default}
 use lib.Dec.{ltb}
-use Rattle.model.specs.Basic.{exists}
 use Rattle.model.specs.Bounds.{owners_format}
 use Rattle.model.specs.Predicate.{words, mentions, names_outside}
 use Rattle.model.specs.Composition.{Tree}
 use Rattle.model.specs.Model.{Model, Edge, Automaton, automaton, nobody, owner_of}
 use Rattle.model.specs.Lawful.{Lawful}
-use Rattle.model.specs.Rules.{State, val, Taker, mentioned, Moves, rule_1, rule_3, rule_4_left, rule_4_right, rule_6, ini_moves, Step}
+use Rattle.model.specs.Rules.{State, Taker, mentioned, Moves, rule_1, rule_3, rule_4_left, rule_4_right, rule_6, ini_moves, Step}
 use Rattle.model.proofs.Tests.{exists_elim}
 use Rattle.model.proofs.Merged.{automaton_at_lem}
 use Rattle.model.proofs.Owners.{mentioned_owned}

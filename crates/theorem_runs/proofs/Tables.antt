@@ -1,22 +1,20 @@
 -- The two tables: the one is the text's model's, the other the merged model's.
 use Prim.Native.Nat.{ℕ, ◌≤◌}
 use mathlib.Core.Path.{◌≡◌, refl, sym, ap, ◌∙◌}
-use mathlib.Core.Bool.{Bool, true, false}
-use mathlib.Core.List.{List, ◌++◌}
-use mathlib.Core.Option.{Option, none, some}
+use mathlib.Core.List.{List}
+use mathlib.Core.Option.{none}
 use native.Mathlib.Omega.{arith}
 use lib.ListN.{length, drop}
 use Rattle.model.specs.Bounds.{table_words}
 use Rattle.model.specs.Model.{Model}
-use Rattle.model.specs.Table.{table_of, opened, open_table}
-use Rattle.model.specs.Linear.{linear, merged_count, merge_fault}
+use Rattle.model.specs.Table.{opened, open_table}
+use Rattle.model.specs.Linear.{linear, merge_fault}
 use Rattle.model.proofs.LinearLimits.{linear_limited}
 use Rattle.model.proofs.TableJudge.{table_opens}
 use Rattle.format.specs.Bytes.{Bytes}
 use Rattle.format.specs.Spelling.{text_of}
 use Rattle.format.specs.Reader.{accepted, read_answer, table_after}
-use Rattle.format.specs.Writer.{row35}
-use Rattle.format.specs.Merger.{unmerged, merged, merge_model, merge_answer}
+use Rattle.format.specs.Merger.{merged, merge_model, merge_answer}
 use Rattle.format.specs.Program.{program_output}
 use Rattle.format.proofs.Exact.{accepted_then}
 use Rattle.format.proofs.Given.{reader_exact}

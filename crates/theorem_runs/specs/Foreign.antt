@@ -1,7 +1,7 @@
 -- Steps in format 3 (request (k)): a step changes a variable only if one of the automata that take the action owns
 -- it. The law owners_move says that it holds of every sheet within the limits.
 use Rattle.std.specs.Prelude.{◌≡◌, Bool, ℕ, ◌≤◌, ◌<◌, length}
-use mathlib.Core.List.{List, Memᴰ}
+use mathlib.Core.List.{Memᴰ}
 use Rattle.std.proofs.Math.Option.{some}
 use Rattle.model.specs.Bounds.{owners_format}
 use Rattle.model.specs.Model.{Model, owner_of}

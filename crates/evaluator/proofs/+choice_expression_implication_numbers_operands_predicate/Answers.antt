@@ -2,11 +2,9 @@
 -- measure: three times the nodes left, one more for operands in a row, which pass their own on to the first of them, and
 -- two more for `if`.
 use borrow.Author.Rules.{rules}
-use mathlib.Core.Path.{◌≡◌, sym, ◌∙◌}
-use mathlib.Core.Bool.{true, false}
-use Prim.Native.Nat.{◌≤◌}
+use mathlib.Core.Path.{sym, ◌∙◌}
 use native.Mathlib.Omega.{arith}
-use Rattle.evaluator.specs.Evaluate.{predicate_at, gather}
+use Rattle.evaluator.specs.Evaluate.{gather}
 use Rattle.evaluator.proofs.Steps.{predicate_left, expression_left}
 use Rattle.evaluator.proofs.NodeLaws.{predicate_laws, expression_laws, implication_by, numbers_by, choice_by, gather_more, gather_stops}
 use Rattle.evaluator.proofs.+choice_expression_implication_numbers_operands_predicate.Goals as goal

@@ -1,5 +1,4 @@
 -- `judge_cover::covered` meets its contract.
-use Rattle.model.proofs.Tests.{not-false}
 use Rattle.judge_cover.proofs.PlaceLaws.{laid_in, laid_low}
 use Rattle.judge_cover.proofs.SeekLaws.{covered_laws}
 use borrow.Author.Rules.{rules}

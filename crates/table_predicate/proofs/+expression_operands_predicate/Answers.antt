@@ -1,9 +1,9 @@
 -- The three functions of the walk call each other, and meet their contracts together. The measure: twice the depth left, and
 -- one more for a row of operands, which passes its own on to each of them. Each way out of a function is one step of the definition.
 use borrow.Author.Rules.{rules}
-use mathlib.Core.Path.{◌≡◌, sym, ◌∙◌}
+use mathlib.Core.Path.{sym, ◌∙◌}
 use Rattle.model.proofs.Tests.{not-true}
-use Rattle.table_predicate.specs.Walk.{predicate_at, gather}
+use Rattle.table_predicate.specs.Walk.{gather}
 use Rattle.table_predicate.proofs.Steps.{predicate_laws, expression_laws, gather_more, gather_ended}
 use Rattle.table_predicate.proofs.+expression_operands_predicate.Goals as goal
 

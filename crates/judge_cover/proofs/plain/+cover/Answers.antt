@@ -1,11 +1,6 @@
 -- The recursion meets its contract; the measure is the number of groups left.
 use borrow.Author.Rules.{rules}
-use mathlib.Core.Path.{◌≡◌}
-use Prim.Native.Nat.{◌-◌}
-use Rattle.model.specs.Basic.{exists, count_up}
-use Rattle.judge_cover.specs.Cover.{coverable}
-use Rattle.judge_cover.specs.Steps.{groups_from}
-use Rattle.judge_cover.proofs.SeekLaws.{chooses_at, plain_laws}
+use Rattle.judge_cover.proofs.SeekLaws.{plain_laws}
 use Rattle.judge_cover.proofs.plain.+cover.Goals as goal
 
 pub returns-then-n-k : goal.returns-then-n-k

@@ -1,16 +1,10 @@
 -- The search's four functions call each other, and meet their contracts together. The measure: four times the groups that are left, and
 -- what orders the four among themselves. Each way out of a function is a law of SeekLaws.
 use borrow.Author.Rules.{rules}
-use mathlib.Core.Path.{◌≡◌}
-use mathlib.Core.Logic.{⊎_elim}
-use Prim.Native.Nat.{ℕ, ◌-◌}
 use native.Mathlib.Omega.{arith}
 use lib.ListN.{replicate}
-use Rattle.model.specs.Basic.{exists, count_up}
-use Rattle.judge_cover.specs.Steps.{through_at, tries_at}
 use Rattle.judge_cover.proofs.PlaceLaws.{last_inside, end_inside, laid_more, laid_without, spans_all, spans_size}
-use Rattle.judge_cover.proofs.SeekLaws.{Branching, seek_laws, narrowed_laws, narrowed_laid, narrowed_bounds, branching_laws, branching_places, branching_none, branching_laid, branching_more, branching_end, tried_laws, tried_skip, tried_later, gain_part, bounds_without}
-use borrow.Fn.PlainCycle.{is, and}
+use Rattle.judge_cover.proofs.SeekLaws.{seek_laws, narrowed_laws, narrowed_laid, narrowed_bounds, branching_laws, branching_places, branching_none, branching_laid, branching_more, branching_end, tried_laws, tried_skip, tried_later, gain_part, bounds_without}
 use Rattle.judge_cover.proofs.seek.+branch_narrowed_seek_tried.Goals as goal
 use Rattle.judge_cover.proofs.seek.+branch_narrowed_seek_tried.Goals.{tried-then-worth+else-seek, tried-else-worth}
 
