@@ -13,16 +13,16 @@ use Rattle.model.specs.Basic.{keep, every}
 use Rattle.model.specs.Limits.{in_range}
 use Rattle.model.specs.Bounds.{max_edges}
 use Rattle.model.specs.Predicate.{words, holds, node_count}
-use Rattle.model.specs.Model.{Edge, Automaton, Model, automaton}
+use Rattle.model.specs.Model.{Edge, Automaton, Model}
 use Rattle.model.specs.Lines.{edge_line}
 use Rattle.model.specs.Table.{code, line_words}
 use Rattle.model.specs.Rules.{State, at}
 use Rattle.model.specs.Moves.{under}
 use Rattle.model.specs.Judge.{updated, led}
 use Rattle.evaluator.specs.Evaluate.{evaluate}
-use Rattle.table_places.specs.Outline.{nodes_place, after_predicate, edge_from, edge_action, edge_to, update_place, first_edge}
+use Rattle.table_places.specs.Outline.{nodes_place, after_predicate, update_place, first_edge}
 use Rattle.table_places.proofs.OutlineLaws.{node_count_lem, nodes_stand, from_stands, action_stands, to_stands, update_stands, next_edge, edge_words}
-use Rattle.judge_search.specs.Search.{is_candidate, candidates}
+use Rattle.judge_search.specs.Search.{is_candidate}
 use Rattle.judge_search.specs.Masks.{rest_mask}
 use Rattle.judge_candidates.specs.declared.edges.Leg.{Leg}
 use Rattle.judge_candidates.specs.Walk.{Walk, walk, Kept, fits_at, rest_at, leg_of, takes_at, edge_on, edges_from, automaton_on}

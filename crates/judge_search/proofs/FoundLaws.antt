@@ -1,13 +1,13 @@
 -- The search over plain data says whether some move of the composition fits the step.
 use mathlib.Core.Path.{◌≡◌, refl, sym, ap, ap₂, ◌∙◌, subst}
-use mathlib.Core.Bool.{Bool, true, false, not, ◌&&◌, ◌||◌, and-true, and_assoc, or-false, true≢false}
-use mathlib.Core.List.{List, [], ◌∷◌, ◌++◌, map, map-map, append_assoc, append-nil, Memᴰ}
+use mathlib.Core.Bool.{Bool, true, false, not, ◌&&◌, and-true, and_assoc, or-false, true≢false}
+use mathlib.Core.List.{List, [], ◌∷◌, ◌++◌, map, append_assoc, append-nil}
 use Prim.Native.Nat.{ℕ, zero, suc, ◌+◌, ◌-◌, ◌*◌, ◌/◌, ◌%◌, ◌^◌, ◌≤◌, ◌<◌}
 use native.Mathlib.Omega.{arith}
 use native.Mathlib.Nat.{pow-succ', add_assoc, lt_of_le_of_lt}
 use lib.ListN.{length, get_or, take, drop}
 use lib.Seq.{take_at, drop-cons}
-use lib.Dec.{eqb, ltb}
+use lib.Dec.{ltb}
 use lib.Bits.{bit_and, and_le_l}
 use lib.Pow.{pow_mono}
 use borrow.Author.Tests.{lt-leb, lt-ltb, ltb-true, ltb-false, eq-eqb, ne_eqb}
@@ -22,7 +22,7 @@ use Rattle.model.specs.Rules.{State, val}
 use Rattle.model.specs.Moves.{moves}
 use Rattle.model.specs.Judge.{fits}
 use Rattle.model.specs.Table.{bit}
-use Rattle.model.proofs.Tests.{and_left, and_right, every_append, exists_ext, exists_map, exists_append}
+use Rattle.model.proofs.Tests.{and_left, and_right, every_append, exists_ext, exists_map}
 use Rattle.model.proofs.Lists.{keep_append, keep_first, keep_skip}
 use Rattle.model.proofs.Numbered.{size, Numbered, Leaves, leaves_in, numbered, size_is}
 use Rattle.table_tree.specs.declared.nodes.Found.{Found}

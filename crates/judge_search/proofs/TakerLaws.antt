@@ -1,9 +1,9 @@
 -- The sets of takers that a tree allows: to choose among the candidates of some of them is to choose among the composition's moves.
 use mathlib.Core.Path.{◌≡◌, refl, sym, ap, ◌∙◌}
-use mathlib.Core.Bool.{Bool, true, false, ◌&&◌, ◌||◌, or-false}
+use mathlib.Core.Bool.{Bool, true, false, ◌&&◌, or-false}
 use mathlib.Core.List.{List, [], ◌∷◌, ◌++◌, map, flat_map}
 use Prim.Native.Nat.{ℕ}
-use Rattle.model.specs.Basic.{exists, count_up}
+use Rattle.model.specs.Basic.{exists}
 use Rattle.model.specs.Composition.{Tree, par, syn, ini, leaf}
 use Rattle.model.specs.Model.{Model, in_set}
 use Rattle.model.specs.Lawful.{Lawful}

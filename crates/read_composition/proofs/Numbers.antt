@@ -10,7 +10,7 @@ use lib.IntN.{pos}
 use Rattle.model.specs.Basic.{every, exists, keep, member, count_up}
 use Rattle.model.specs.Bounds.{max_actions}
 use Rattle.model.specs.Limits.{ascends, rises}
-use Rattle.model.specs.Table.{bit, set_words, set_of}
+use Rattle.model.specs.Table.{bit, set_words}
 use Rattle.model.proofs.Tests.{and_intro, and_left, and_right}
 use Rattle.model.proofs.Bits.{rises_cons}
 use Rattle.model.proofs.Written.{ascends_cons, kept_list}
@@ -20,11 +20,8 @@ use Rattle.table_tree.specs.Sets.{one_word}
 use Rattle.table_tree.proofs.SetLaws.{keep_alike, set_of_one, words_back}
 use Rattle.table_writes.specs.Sets.{mask, cleared}
 use Rattle.table_writes.proofs.MaskLaws.{bit_mask, mask_other, mask_small, out_list}
-use Rattle.read_list.specs.declared.Listed as Read
-use Rattle.read_list.specs.Items.{items_of}
 use Rattle.read_list.proofs.Meaning.{items_sound, items_rising, items_outside, items_rest, items_ranged}
 use Rattle.read_composition.specs.List.{all_actions, asked_of, words_of, list_of}
-use Rattle.read_composition.specs.declared.list.Listed.{Listed}
 
 -- to rise up to A is to rise, with nothing above A
 not_above : (A k : ℕ) → leb k A ≡ not (leb (A + 1) k)

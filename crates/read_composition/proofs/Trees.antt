@@ -11,7 +11,7 @@ use lib.ListN.{length, take, drop, set, length-append, length-set}
 use lib.Seq.{take-suc-set, drop-set-lt}
 use lib.Dec.{eqb}
 use Rattle.model.specs.Bounds.{max_tree_nodes}
-use Rattle.model.specs.Composition.{Node, par_node, syn_node, ini_node, leaf_node, stray_node, nodes, leaves}
+use Rattle.model.specs.Composition.{Node, par_node, syn_node, ini_node, leaf_node, stray_node}
 use Rattle.model.specs.Predicate.{Pred}
 use Rattle.model.specs.Table.{node_words, set_words, low_bits, high_bits}
 use Rattle.read_composition.specs.declared.token.Kind.{Kind}

@@ -1,5 +1,5 @@
 -- What the code says of a line `compose=C` is what its text says.
-use Prim.Native.Nat.{ℕ, suc, ◌+◌, ◌*◌, ◌≤◌}
+use Prim.Native.Nat.{ℕ, ◌*◌, ◌≤◌}
 use mathlib.Core.Path.{◌≡◌, refl, sym, ◌∙◌, ap, ap₂}
 use mathlib.Core.Bool.{Bool, true, false, not, not-not, true≢false, or-false}
 use mathlib.Core.List.{List, [], ◌∷◌, ◌++◌, flat_map}

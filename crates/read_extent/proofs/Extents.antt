@@ -1,11 +1,11 @@
 -- The P's found in the bytes are those of the format, and lie behind each other.
 use Prim.Native.Nat.{ℕ, zero, suc, ◌+◌, ◌-◌, ◌≤◌, ◌<◌}
-use mathlib.Core.Path.{◌≡◌, refl, sym, ◌∙◌, ap, subst}
+use mathlib.Core.Path.{◌≡◌, refl, sym, ◌∙◌, ap}
 use mathlib.Core.Bool.{Bool, true, false, ◌||◌}
 use mathlib.Core.List.{List, [], ◌∷◌, ◌++◌, append_assoc, nil≢cons, cons≢nil, head-eq_of_cons-eq, tail-eq_of_cons-eq}
 use native.Mathlib.Omega.{arith}
-use borrow.Author.Tests.{eqb-false, leb-true, leb-false}
-use lib.Dec.{eqb, leb}
+use borrow.Author.Tests.{leb-true, leb-false}
+use lib.Dec.{leb}
 use lib.IntN.{pos}
 use lib.ListN.{length, take, drop, length-append}
 use lib.Seq.{take_at}
@@ -13,7 +13,7 @@ use Rattle.model.specs.Basic.{same}
 use Rattle.model.specs.Bounds.{max_operands}
 use Rattle.format.specs.Bytes.{Bytes, bytes, space, joined, led_by, parts}
 use Rattle.format.specs.Number.{within, natural_of}
-use Rattle.format.specs.Tokens.{tokens, find, calls, calls_for, start_tokens, starts_in}
+use Rattle.format.specs.Tokens.{find, calls, calls_for, start_tokens, starts_in}
 use Rattle.format.proofs.BytesLaws.{joined_parts, led_append, same_is}
 use Rattle.format.proofs.StartLaws.{trailing, tokens_split, starts_later}
 use Rattle.format.proofs.TreeText.{starts_ini, starts_other}

@@ -12,9 +12,7 @@ use Rattle.line_order.specs.declared.Counts.{Counts}
 use Rattle.format.specs.Bytes.{Bytes}
 use Rattle.format.specs.Spelling.{spelling}
 use Rattle.read_numbers.specs.declared.number.Count.{Count}
-use Rattle.read_numbers.specs.declared.number.Count.TheVariants as Count
 use Rattle.read_numbers.specs.declared.range.Bounds.{Bounds}
-use Rattle.read_numbers.specs.declared.range.Bounds.TheVariants as Bounds
 use Rattle.read_form.proofs.Outcomes.{written_long}
 use Rattle.read_number_line.specs.Number.{number_after, bounds_after}
 use Rattle.read_composition_line.specs.Sync.{sync_fault, sync_after}

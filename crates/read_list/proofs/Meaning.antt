@@ -1,5 +1,5 @@
 -- What the answer says of a list, by its items.
-use Prim.Native.Nat.{ℕ, suc, ◌+◌}
+use Prim.Native.Nat.{ℕ, suc}
 use mathlib.Core.Path.{◌≡◌, refl, sym, ◌∙◌, ap}
 use mathlib.Core.Bool.{Bool, true, false, ◌&&◌, ◌||◌, and_assoc, and-true, or-false, or_assoc}
 use mathlib.Core.List.{List, [], ◌∷◌, map}
@@ -14,7 +14,7 @@ use Rattle.format.specs.Bytes.{Bytes}
 use Rattle.format.specs.Number.{within, natural_of}
 use Rattle.format.proofs.ReadLaws.{number_of_lem}
 use Rattle.format.proofs.TokenLaws.{every_cons}
-use Rattle.table_writes.specs.Sets.{clear, cleared}
+use Rattle.table_writes.specs.Sets.{cleared}
 use Rattle.read_list.specs.declared.Asked.{Asked}
 use Rattle.read_list.specs.declared.Listed.{Listed}
 use Rattle.read_list.specs.declared.Items.{Items}

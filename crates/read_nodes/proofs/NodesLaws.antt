@@ -22,7 +22,6 @@ use Rattle.text_bytes.specs.Find.{gap}
 use Rattle.text_bytes.proofs.FindLaws.{gap_within}
 use Rattle.read_words.specs.Codes.{stray_code}
 use Rattle.read_words.specs.declared.reading.Words.{Words}
-use Rattle.read_words.specs.declared.reading.Words.TheVariants as Words
 use Rattle.read_words.specs.Read.{count, written, Reads}
 use Rattle.read_words.proofs.Answers.{said_read}
 use Rattle.model.proofs.Tests.{not-not}

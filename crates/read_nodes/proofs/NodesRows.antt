@@ -5,7 +5,7 @@ use mathlib.Core.Bool.{Bool, true, false, not, ◌&&◌}
 use mathlib.Core.List.{List, [], map, Memᴰ}
 use mathlib.Core.Option.{Option, none, some}
 use native.Mathlib.Omega.{arith}
-use borrow.Author.Tests.{le-leb, leb-true, leb-false, lt-ltb, le-ltb, ltb-true, ltb-false, not-false}
+use borrow.Author.Tests.{le-leb, leb-true, ltb-true, ltb-false, not-false}
 use lib.ListN.{length, take, drop, replicate, length-append, length-take, length-drop, length-map, length-replicate}
 use lib.Seq.{take_all}
 use lib.Dec.{leb, ltb}
@@ -28,7 +28,6 @@ use Rattle.text_bytes.specs.Find.{gap}
 use Rattle.text_bytes.proofs.FindLaws.{gap_within}
 use Rattle.read_words.specs.Codes.{stray_code}
 use Rattle.read_words.specs.declared.reading.Words.{Words}
-use Rattle.read_words.specs.declared.reading.Words.TheVariants as Words
 use Rattle.read_words.specs.Read.{answer, count, written, Reads}
 use Rattle.read_words.proofs.Answers.{read_all_words, read_stray_word, never_full, words_read, half_as_many, said_read}
 use Rattle.read_form.proofs.Outcomes.{same_row}

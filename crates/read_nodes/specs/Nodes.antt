@@ -13,7 +13,6 @@ use Rattle.format.specs.Bytes.{Bytes}
 use Rattle.format.specs.Tokens.{tokens, sounds}
 use Rattle.read_words.specs.declared.reading.Due.TheVariants.{Word}
 use Rattle.read_words.specs.declared.reading.Words.{Words}
-use Rattle.read_words.specs.declared.reading.Words.TheVariants as Words
 use Rattle.read_words.specs.Read.{codes, answer, written}
 use Rattle.read_nodes.specs.declared.Nodes.{Nodes}
 use Rattle.read_nodes.specs.declared.Nodes.TheVariants.{Are, Unsound, Full}

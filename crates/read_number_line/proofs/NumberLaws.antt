@@ -11,7 +11,6 @@ use Rattle.table_append.proofs.Joined.{next_then, put_then}
 use Rattle.read_numbers.specs.declared.number.Count.{Count}
 use Rattle.read_numbers.specs.declared.number.Count.TheVariants.{Is, Unsound}
 use Rattle.read_numbers.specs.declared.range.Bounds.{Bounds}
-use Rattle.read_numbers.specs.declared.range.Bounds.TheVariants as Bounds
 use Rattle.read_numbers.specs.Number.{few_edges}
 use Rattle.read_form.specs.declared.LineRead.{LineRead}
 use Rattle.read_form.specs.declared.LineRead.TheVariants.{Sound, Fault}

@@ -4,10 +4,8 @@ use mathlib.Core.Path.{◌≡◌, refl, sym, ◌∙◌, ap}
 use mathlib.Core.Bool.{Bool, true, false, not, ◌&&◌}
 use mathlib.Core.List.{List, [], ◌∷◌}
 use mathlib.Core.Option.{Option, none}
-use native.Mathlib.Omega.{arith}
 use lib.IntN.{ℤ}
 use lib.Signed.{le_z}
-use lib.ListN.{length, get_or}
 use Rattle.model.specs.Basic.{every}
 use Rattle.model.specs.Bounds.{least_number, greatest_number}
 use Rattle.model.specs.Predicate.{range}

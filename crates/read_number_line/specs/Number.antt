@@ -4,9 +4,7 @@ use Rattle.model.specs.Table.{biased}
 use Rattle.table_owners.specs.Owners.{beyond_in}
 use Rattle.table_append.specs.Append.{next_place, put}
 use Rattle.read_numbers.specs.declared.number.Count.{Count}
-use Rattle.read_numbers.specs.declared.number.Count.TheVariants as Count
 use Rattle.read_numbers.specs.declared.range.Bounds.{Bounds}
-use Rattle.read_numbers.specs.declared.range.Bounds.TheVariants as Bounds
 use Rattle.read_form.specs.declared.LineRead.{LineRead}
 use Rattle.read_form.specs.declared.LineRead.TheVariants.{Sound, Fault}
 

@@ -13,7 +13,6 @@ use Rattle.text_numbers.specs.declared.answer.Integer.{Integer}
 use Rattle.text_numbers.specs.declared.answer.Integer.TheVariants as I
 use Rattle.read_form.specs.Form.{value_after, field_in, misformed}
 use Rattle.read_numbers.specs.declared.range.Bounds.{Bounds}
-use Rattle.read_numbers.specs.declared.range.Bounds.TheVariants as Bounds
 use Rattle.read_numbers.specs.Range.{ordered_from, bounds_of, bounds_in}
 
 -- `ordered`

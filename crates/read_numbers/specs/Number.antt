@@ -5,7 +5,6 @@ use Rattle.format.specs.Bytes.{Bytes}
 use Rattle.format.specs.Number.{within, natural_of}
 use Rattle.read_form.specs.Form.{value_after, misformed}
 use Rattle.read_numbers.specs.declared.number.Count.{Count}
-use Rattle.read_numbers.specs.declared.number.Count.TheVariants as Count
 
 -- rows 2 and 3 of a line with one number, from low to high
 unfoldable pub count_in : (name : Bytes) (low high : ℕ) → Bytes → (ended : Bool) → Count

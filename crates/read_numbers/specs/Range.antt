@@ -8,7 +8,6 @@ use Rattle.text_numbers.specs.declared.answer.Integer.{Integer}
 use Rattle.text_numbers.specs.declared.answer.Integer.TheVariants as I
 use Rattle.read_form.specs.Form.{value_after, field_in, misformed}
 use Rattle.read_numbers.specs.declared.range.Bounds.{Bounds}
-use Rattle.read_numbers.specs.declared.range.Bounds.TheVariants as Bounds
 
 unfoldable pub ordered_from : ℤ → ℤ → Bounds
 ordered_from low high = elim (le_z low high) [ true ↦ Bounds.Are low high | false ↦ Bounds.Unsound 4 ]

@@ -1,6 +1,6 @@
 -- The line `owner=` as the code reads it: the rows of `owner_fault` and the word of `the_owner`, by the laws of
 -- Meaning.
-use Rattle.std.specs.Prelude.{ℕ, suc, Bool, true, false, pos}
+use Rattle.std.specs.Prelude.{suc, Bool, true, false, pos}
 use Rattle.model.specs.Basic.{same}
 use Rattle.model.specs.Bounds.{last_automaton}
 use Rattle.format.specs.Bytes.{Bytes, bytes}

@@ -5,7 +5,7 @@ use mathlib.Core.List.{List, [], ◌∷◌, map}
 use native.Mathlib.Omega.{arith}
 use lib.ListN.{length, take, drop, length-drop}
 use lib.Seq.{take_all}
-use Rattle.format.specs.Bytes.{Bytes, bytes, joined, space}
+use Rattle.format.specs.Bytes.{Bytes, joined, space}
 use Rattle.format.specs.Tokens.{tokens, starts_in}
 use Rattle.text_bytes.proofs.Places.{rest_past}
 use Rattle.text_bytes.proofs.Parting.{parts_from, from_past, from_start}

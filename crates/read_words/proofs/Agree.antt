@@ -22,7 +22,6 @@ use Rattle.read_words.specs.declared.codes.Numbered.TheVariants as N
 use Rattle.read_words.specs.Codes.{stray_code, word_with, number_code, argument_code, variable_code, word_code, count_code}
 use Rattle.read_words.specs.Read.{is_word, due_after, code_as, codes}
 use Rattle.read_words.specs.declared.reading.Due.{Due}
-use Rattle.read_words.specs.declared.reading.Due.TheVariants as Due
 use Rattle.read_words.proofs.ReadLaws.{first_word, codes_word}
 
 -- codes and words agree up to the first stray one, and in it

@@ -24,7 +24,6 @@ use Rattle.text_bytes.proofs.FindLaws.{gap_free, gap_within}
 use Rattle.read_words.specs.Codes.{stray_code, word_code, count_code}
 use Rattle.read_words.specs.Read.{is_word, due_after, code_as, codes, count, answer, written, Reads}
 use Rattle.read_words.specs.declared.reading.Due.{Due}
-use Rattle.read_words.specs.declared.reading.Due.TheVariants as Due
 use Rattle.read_words.specs.declared.reading.Words.{Words}
 use Rattle.read_words.specs.declared.reading.Words.TheVariants.{Read, Stray, Full}
 use Rattle.read_words.proofs.Agree.{Agree, done, halt, next, agree}

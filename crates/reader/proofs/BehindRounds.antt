@@ -39,7 +39,6 @@ use Rattle.format.proofs.WritesLaws.{writes_formed}
 use Rattle.text_bytes.proofs.FindLaws.{lines_none}
 use Rattle.read_form.specs.Form.{line_of}
 use Rattle.read_owner_line.specs.declared.OwnerRead.{OwnerRead}
-use Rattle.read_owner_line.specs.declared.OwnerRead.TheVariants as OwnerRead
 use Rattle.read_owner_line.specs.Owner.{owner_read}
 use Rattle.read_owner_line.proofs.Meaning.{owner_faulty, owner_told}
 use Rattle.read_writes_line.specs.Writes.{told, writes_row}

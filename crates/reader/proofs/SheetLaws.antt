@@ -18,16 +18,13 @@ use Rattle.format.specs.Bytes.{Bytes, LF}
 use Rattle.text_bytes.specs.Find.{first_from}
 use Rattle.text_bytes.proofs.FindLaws.{first_is}
 use Rattle.read_form.specs.declared.LineRead.{LineRead}
-use Rattle.read_form.specs.declared.LineRead.TheVariants as LineRead
 use Rattle.read_line.specs.Line.{line_read, line_after}
 use Rattle.read_line.proofs.Kept.{line_kept}
 use Rattle.table_line.specs.Line.{ranges_in}
 use Rattle.table_owners.specs.Owners.{foreign_in}
 use Rattle.read_owner_line.specs.declared.OwnerRead.{OwnerRead}
-use Rattle.read_owner_line.specs.declared.OwnerRead.TheVariants as OwnerRead
 use Rattle.read_owner_line.specs.Owner.{owner_read}
 use Rattle.read_writes_line.specs.declared.WritesRead.{WritesRead}
-use Rattle.read_writes_line.specs.declared.WritesRead.TheVariants as WritesRead
 use Rattle.read_writes_line.specs.Writes.{told, writes_row}
 use Rattle.reader.specs.declared.ReadAnswer.{ReadAnswer}
 use Rattle.reader.specs.declared.ReadAnswer.TheVariants.{Accepted, Refused}

@@ -2,7 +2,7 @@
 use Prim.Native.Nat.{ℕ, ◌≤◌}
 use mathlib.Core.Path.{◌≡◌, refl, sym, ap, ◌∙◌}
 use mathlib.Core.Bool.{Bool, true, false, true≢false}
-use mathlib.Core.List.{List, ◌++◌}
+use mathlib.Core.List.{List}
 use mathlib.Core.Option.{Option, none, some}
 use lib.ListN.{length, take, drop, take-append-drop}
 use lib.Dec.{ltb}
@@ -12,8 +12,6 @@ use Rattle.model.specs.Bounds.{table_words}
 use Rattle.model.specs.Model.{Model}
 use Rattle.model.specs.Table.{model_of, row18, row19, open_table}
 use Rattle.model.proofs.Tests.{and_left, every_append}
-use Rattle.model.specs.declared.Checked.{Checked}
-use Rattle.model.specs.declared.Checked.TheVariants.{Good, Refused}
 use Rattle.table_check.specs.Scan.{scanned_sheet}
 use Rattle.table_line.specs.Line.{line_at}
 use Rattle.table_check.specs.Check.{checked_table, answered}

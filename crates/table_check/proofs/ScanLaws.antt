@@ -15,7 +15,7 @@ use Rattle.model.specs.Basic.{every, lacks}
 use Rattle.model.specs.Bounds.{max_nodes, table_words}
 use Rattle.model.specs.Predicate.{Pred, Range, words, node_count}
 use Rattle.model.specs.Model.{Model}
-use Rattle.model.specs.Lines.{Key as LineKey, format, actions, variables, variable, automata, sync, locations, init, inv, edges, edge, compose, Entry, format_line, actions_line, variables_line, variable_line, variable_lines, automata_line, sync_line, locations_line, init_line, inv_line, edges_line, edge_line, compose_line, key_of, lines, due_at_first, then_due, Reading, at_first, with_model, with_automata, with_pred, with_nodes, noted}
+use Rattle.model.specs.Lines.{Key as LineKey, Entry, format_line, actions_line, variables_line, variable_line, variable_lines, automata_line, sync_line, locations_line, init_line, inv_line, edges_line, edge_line, compose_line, key_of, lines, due_at_first, then_due, Reading, at_first, with_model, with_automata, with_pred, with_nodes, noted}
 use Rattle.model.specs.Limits.{passes_nodes, variable_count, pred_fault, location_fault, content_fault, fault_of, within_limits, limits}
 use Rattle.model.specs.Lawful.{LawfulRange}
 use Rattle.model.specs.Table.{line_words, sheet_words, table_of, row19}

@@ -1,18 +1,13 @@
 -- The scan over a table's lines, given what reads one line: `line at key counts`.
-use Rattle.std.specs.Prelude.{ℕ, zero, suc, ◌+◌, ◌*◌, ◌≤◌, ◌≡◌, Bool, true, false, length, take, drop, eqb}
-use mathlib.Core.List.{List, [], ◌∷◌, ◌++◌, flat_map, Memᴰ}
+use Rattle.std.specs.Prelude.{ℕ, zero, suc, ◌+◌, Bool, true, false, drop, eqb}
+use mathlib.Core.List.{List}
 use Rattle.std.proofs.Math.Option.{Option, none, some}
 use Rattle.model.specs.Basic.{every}
 use Rattle.model.specs.Bounds.{table_words}
-use Rattle.model.specs.Predicate.{Range}
-use Rattle.model.specs.Lines.{Key as LineKey, Entry, key_of, Reading}
-use Rattle.model.specs.Limits.{variable_count, fault_of}
-use Rattle.model.specs.Lawful.{LawfulRange}
-use Rattle.model.specs.Table.{biased, line_words}
 use Rattle.line_order.specs.declared.Key.{Key}
 use Rattle.line_order.specs.declared.Counts.{Counts}
-use Rattle.line_order.specs.Due.{is_end, due_first, due_after, code_of, number_of}
-use Rattle.line_order.specs.Counts.{counts_none, counts_after, nodes_of, Counted}
+use Rattle.line_order.specs.Due.{is_end, due_first, due_after}
+use Rattle.line_order.specs.Counts.{counts_none, counts_after}
 use Rattle.table_line.specs.declared.Line.{Line}
 use Rattle.table_line.specs.declared.Line.TheVariants.{Sound, Bad}
 use Rattle.table_check.specs.declared.Scan.{Scan}

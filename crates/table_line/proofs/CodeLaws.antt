@@ -7,7 +7,7 @@ use native.Mathlib.Omega.{arith}
 use lib.ListN.{length, get_or, take, drop}
 use lib.Dec.{eqb, leb, ltb}
 use borrow.Author.Tests.{lt-ltb, le-ltb, le-leb, lt-leb, not-true, not-false}
-use Rattle.model.specs.Bounds.{first_format, last_format, max_edges, last_biased}
+use Rattle.model.specs.Bounds.{first_format, last_format, max_edges}
 use Rattle.model.specs.Limits.{rises}
 use Rattle.model.specs.Table.{set_of}
 use Rattle.model.proofs.Tests.{and_intro, and_no_right, or_left, or_right, or_none}

@@ -20,7 +20,6 @@ use Rattle.line_order.specs.Counts.{most_count, add_up_to, with_nodes, capped}
 use Rattle.line_order.proofs.CountsLaws.{add_fits, add_stops}
 use Rattle.table_predicate.specs.Walk.{walk_at}
 use Rattle.table_predicate.specs.Scan.{is_coded}
-use Rattle.table_tree.specs.declared.checked.TreeCheck as TreeCheck
 use Rattle.table_tree.specs.declared.checked.TreeCheck.{TreeCheck}
 use Rattle.table_tree.specs.Checked.{tree_check}
 use Rattle.table_line.specs.declared.Line.{Line}

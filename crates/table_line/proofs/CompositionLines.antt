@@ -28,7 +28,6 @@ use Rattle.line_order.specs.Due.{number_of}
 use Rattle.line_order.specs.Counts.{with_nodes as count_nodes, nodes_of, Counted, capped}
 use Rattle.line_order.proofs.CountsLaws.{add_fits}
 use Rattle.line_order.proofs.CappedLaws.{capped_few, rises_capped}
-use Rattle.table_tree.specs.declared.checked.TreeCheck as TreeCheck
 use Rattle.table_tree.specs.declared.checked.TreeCheck.{TreeCheck}
 use Rattle.table_tree.specs.Nodes.{tree_words}
 use Rattle.table_tree.specs.Checked.{tree_check}

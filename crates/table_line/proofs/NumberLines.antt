@@ -1,12 +1,12 @@
 -- Words that stand at a place of a table, and the lines of numbers, ranges and sets.
-use Prim.Native.Nat.{ℕ, zero, suc, ◌+◌, ◌-◌, ◌*◌, ◌/◌, ◌%◌, ◌≤◌, ◌<◌}
+use Prim.Native.Nat.{ℕ, zero, suc, ◌+◌, ◌-◌, ◌≤◌, ◌<◌}
 use mathlib.Core.Path.{◌≡◌, refl, sym, ap, ◌∙◌}
-use mathlib.Core.Bool.{Bool, true, false, not, cond, ◌&&◌, ◌||◌, true≢false}
+use mathlib.Core.Bool.{Bool, true, false, not, ◌&&◌, true≢false}
 use mathlib.Core.List.{List, [], ◌∷◌, ◌++◌}
 use mathlib.Core.Option.{Option, none, some}
 use native.Mathlib.Omega.{arith}
 use native.Mathlib.Numerals.{add-one}
-use borrow.Author.Tests.{leb-true, leb-false, le-leb, lt-leb, lt-ltb, ltb-true, ltb-false, eqb-true, ne_eqb, not-true, not-false}
+use borrow.Author.Tests.{leb-true, leb-false, le-leb, lt-leb, lt-ltb, ltb-true, ne_eqb, not-true, not-false}
 use lib.IntN.{ℤ, pos, negsuc}
 use lib.Signed.{le_z}
 use lib.ListN.{length, drop, length-drop}
@@ -16,11 +16,11 @@ use Rattle.model.specs.Basic.{between, every, exists, lacks}
 use Rattle.model.specs.Bounds.{max_actions, max_automata, last_automaton, max_edges, least_number, greatest_number, bias, last_biased, owners_format}
 use Rattle.model.specs.Predicate.{Range, range}
 use Rattle.model.specs.Lines.{Entry, actions_line, variable_line, automata_line, sync_line, edges_line, key_of, Reading, noted, with_model}
-use Rattle.model.specs.Limits.{in_range, owner_in_range, is_early, is_beyond, rises, broken, numbers_in_range, content_fault, fault_of}
+use Rattle.model.specs.Limits.{owner_in_range, is_early, is_beyond, rises, broken, numbers_in_range, content_fault, fault_of}
 use Rattle.model.specs.Lawful.{LawfulRange}
 use Rattle.model.specs.Table.{biased, unbiased, low_bits, high_bits, set_words, set_of, owner_word, owner_from, line_words}
 use Rattle.model.proofs.Tests.{and_intro, and_left, and_right, or_right, or_other, every_at}
-use Rattle.model.proofs.Bits.{rises_cons, set_back}
+use Rattle.model.proofs.Bits.{set_back}
 use Rattle.model.proofs.Decode.{unbroken, none_lacks}
 use Rattle.model.proofs.LimitLines.{variable_line_lem, automata_line_lem, Said, sync_line_lem, edges_line_lem}
 use Rattle.line_order.specs.declared.Counts.{Counts}

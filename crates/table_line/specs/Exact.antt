@@ -12,7 +12,7 @@ use Rattle.line_order.specs.declared.Counts.{Counts}
 use Rattle.line_order.specs.Due.{code_of, number_of}
 use Rattle.line_order.specs.Counts.{nodes_of, Counted}
 use Rattle.table_line.specs.declared.Line.{Line}
-use Rattle.table_line.specs.declared.Line.TheVariants.{Sound, Bad}
+use Rattle.table_line.specs.declared.Line.TheVariants.{Sound}
 
 -- The variables read so far have lawful ranges, and an owner or none each, and stand in the table from word 3 on, so
 -- that they can be read there again.

@@ -18,7 +18,6 @@ use Rattle.table_owners.specs.Owners.{beyond_in, foreign_in}
 use Rattle.table_predicate.specs.declared.Walked.{Walked}
 use Rattle.table_predicate.specs.Walk.{walk_at}
 use Rattle.table_predicate.specs.Scan.{is_coded}
-use Rattle.table_tree.specs.declared.checked.TreeCheck as TreeCheck
 use Rattle.table_tree.specs.declared.checked.TreeCheck.{TreeCheck}
 use Rattle.table_tree.specs.Checked.{tree_check}
 use Rattle.table_line.specs.declared.Line.{Line}

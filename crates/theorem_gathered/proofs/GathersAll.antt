@@ -7,7 +7,7 @@ use mathlib.Core.Logic.{◌↔◌}
 use Prim.Native.Nat.{ℕ, suc, ◌+◌, ◌*◌, ◌≤◌, ◌<◌}
 use native.Mathlib.Omega.{arith}
 use lib.ListN.{length, get_or, drop, replicate, length-map, length-replicate, get_or-append, get_or-map}
-use lib.Seq.{sets, sets-eq, drop-cons}
+use lib.Seq.{sets-eq, drop-cons}
 use Rattle.model.specs.Basic.{keep, count_up}
 use borrow.Author.Tests.{le-ltb}
 use Rattle.model.specs.Bounds.{max_automata, max_edges, table_words}

@@ -1,5 +1,5 @@
 -- What the merger gathers of the sheet that it is handed is what Definition 4 needs of the sheet itself.
-use mathlib.Core.Path.{◌≡◌, refl, sym, ap, ◌∙◌, subst}
+use mathlib.Core.Path.{◌≡◌, refl, sym, ap, subst}
 use mathlib.Core.List.{List, ◌∷◌, [], ◌++◌, map, Memᴰ}
 use Prim.Native.Nat.{ℕ}
 use Rattle.model.specs.Predicate.{Pred}

@@ -8,7 +8,7 @@ use lib.ListN.{length, take}
 use lib.Seq.{length-take-le}
 use Rattle.model.specs.Bounds.{table_words}
 use Rattle.model.proofs.Tests.{to_T}
-use lib.Dec.{leb, leb→le}
+use lib.Dec.{leb→le}
 use Rattle.text_bytes.specs.declared.answer.Written.{Written}
 use Rattle.text_bytes.specs.declared.answer.Written.TheVariants.{To, Full}
 use Rattle.text_bytes.specs.Write.{fits, written_to, Wrote}

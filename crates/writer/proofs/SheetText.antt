@@ -1,20 +1,20 @@
 -- Line by line: what the writer writes for a model's table is the model's text.
 use Prim.Native.Nat.{ℕ, zero, suc, ◌+◌, ◌≤◌, ◌<◌}
 use mathlib.Core.Path.{◌≡◌, refl, sym, ◌∙◌, ap, ap₂}
-use mathlib.Core.Bool.{Bool, true, false, not, ◌&&◌}
+use mathlib.Core.Bool.{Bool, true, false, not}
 use mathlib.Core.List.{List, [], ◌∷◌, ◌++◌, flat_map, append_assoc, append-nil}
 use mathlib.Core.Option.{Option, none}
 use native.Mathlib.Omega.{arith}
 use lib.Dec.{leb, eqb}
 use borrow.Author.Tests.{ltb-false}
 use lib.ListN.{length, get_or, drop}
-use Rattle.model.specs.Basic.{lacks, between, every}
+use Rattle.model.specs.Basic.{lacks, between}
 use Rattle.model.specs.Bounds.{max_tree_nodes, least_number, greatest_number, writes_format, owners_format, table_words}
-use Rattle.model.specs.Predicate.{Pred, Range, words, node_count, written}
+use Rattle.model.specs.Predicate.{Pred, Range, node_count, written}
 use Rattle.model.specs.Composition.{Tree, tree_size}
 use Rattle.model.specs.Model.{Edge, Model}
-use Rattle.model.specs.Lines.{Key as LineKey, format, actions, compose, Entry, format_line, actions_line, variables_line, variable_line, automata_line, sync_line, locations_line, init_line, inv_line, edges_line, edge_line, compose_line, key_of, lines, due_at_first, then_due, Reading, at_first, with_model, noted}
-use Rattle.model.specs.Limits.{in_range, owner_in_range, numbers_in_range, rises, tree_rises, lists_filled, is_disordered, is_too_large, content_fault, fault_of, within_limits, limits}
+use Rattle.model.specs.Lines.{Key as LineKey, compose, Entry, format_line, actions_line, variables_line, variable_line, automata_line, sync_line, locations_line, init_line, inv_line, edges_line, edge_line, compose_line, key_of, lines, due_at_first, then_due, Reading, at_first, noted}
+use Rattle.model.specs.Limits.{owner_in_range, numbers_in_range, rises, tree_rises, lists_filled, is_disordered, is_too_large, content_fault, fault_of, within_limits, limits}
 use Rattle.model.specs.Lawful.{Lawful}
 use Rattle.model.specs.Table.{set_words, pred_words, line_words, sheet_words, Opened, unopened, opened, open_table}
 use Rattle.model.proofs.Tests.{and_left, and_right}

@@ -1,6 +1,5 @@
 use Rattle.judge_bounds.proofs.PartLaws.{needing_laws}
 use Rattle.judge_bounds.proofs.PartLaws.{needing_laws, needing_more}
-use Rattle.model.proofs.Tests.{not-false}
 use borrow.Author.Rules.{rules}
 use Rattle.judge_bounds.proofs.parts.needed.Goals as goal
 

@@ -1,7 +1,6 @@
 -- `judge_candidates::bits::changed` meets its contract: the variables below k have been looked at.
 use Rattle.judge_candidates.proofs.BitsLaws.{noted_start, noted_room, noted_step, changed_is}
 use native.Mathlib.Omega.{arith}
-use Rattle.judge_candidates.specs.Bits.{differs}
 use borrow.Author.Rules.{rules}
 use Rattle.judge_candidates.proofs.bits.changed.Goals as goal
 

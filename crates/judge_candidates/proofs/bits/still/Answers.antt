@@ -1,7 +1,6 @@
 -- `judge_candidates::bits::still` meets its contract: the automata below k have been looked at.
 use Rattle.judge_candidates.proofs.BitsLaws.{noted_start, noted_room, noted_step, noted_fits, still_is}
 use native.Mathlib.Omega.{arith}
-use Rattle.judge_candidates.specs.Bits.{agrees}
 use borrow.Author.Rules.{rules}
 use Rattle.judge_candidates.proofs.bits.still.Goals as goal
 

@@ -1,11 +1,6 @@
 -- `merge_predicates::depth::depth_at` calls itself, and meets its contract: each way out is a law of DepthLaws. The measure is the depth left.
 use Rattle.merge_predicates.proofs.DepthLaws.{depth_laws}
-use Rattle.merge_predicates.specs.Depths.{operands_of, deepest, depth_at}
-use Rattle.table_places.specs.Outline.{reach}
-use lib.ListN.{get_or}
-use mathlib.Core.Path.{◌≡◌}
 use borrow.Author.Rules.{rules}
-use Prim.Native.Nat.{◌-◌}
 use Rattle.merge_predicates.proofs.depth.+depth_at.Goals as goal
 
 pub returns-then-left-eq0 : goal.returns-then-left-eq0
