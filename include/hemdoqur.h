@@ -46,11 +46,11 @@
  * sheets that could be made, and rounded up; rust/hemdoqur/tests/stack.rs holds the archive to them. */
 #define SHEET_STACK_READ 262144
 #define SHEET_STACK_WRITE 73728
-#define SHEET_STACK_MERGE 376832
+#define SHEET_STACK_MERGE 573440
 #define SHEET_STACK_SIZE 12288
-#define SHEET_STACK_STEP 147456
+#define SHEET_STACK_STEP 176128
 #define SHEET_STACK_ENVIRONMENT 16384
-#define SHEET_STACK_RUN 147456
+#define SHEET_STACK_RUN 176128
 
 /* The parts of the 64-bit answers. */
 #define SHEET_ROW(answer) ((uint32_t)((answer) >> 32))

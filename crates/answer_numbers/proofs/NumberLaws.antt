@@ -4,9 +4,7 @@ use Rattle.model.specs.Runs.{phase_number}
 use Rattle.judge_rows.specs.declared.Phase.{Phase}
 use Rattle.judge_rows.specs.Phases.{phase_is}
 use Rattle.judge_runs.specs.declared.Ran.{Ran}
-use Rattle.judge_runs.specs.declared.Ran.TheVariants as Ran
 use Rattle.judge.specs.declared.Counted.{Counted}
-use Rattle.judge.specs.declared.Counted.TheVariants as Counted
 use Rattle.merger.specs.declared.MergeAnswer as G
 use Rattle.merger.specs.declared.MergeAnswer.TheVariants as MergeAnswer
 use Rattle.reader.specs.declared.ReadAnswer as T

@@ -1,6 +1,6 @@
 -- The parts of the merger's number stay apart: its text is one that the reader accepts, and has no more edges than a sheet may have.
-use Prim.Native.Nat.{ℕ, ◌+◌, ◌*◌, ◌%◌, ◌^◌, ◌≤◌, ◌<◌}
-use mathlib.Core.Path.{◌≡◌, refl, sym, ◌∙◌, ap, subst}
+use Prim.Native.Nat.{ℕ, ◌^◌, ◌≤◌, ◌<◌}
+use mathlib.Core.Path.{◌≡◌, refl}
 use mathlib.Core.Bool.{Bool, true, false}
 use mathlib.Core.List.{List}
 use mathlib.Core.Option.{Option, none, some}
@@ -10,10 +10,9 @@ use borrow.Author.Tests.{ltb-false}
 use lib.ListN.{length}
 use Rattle.model.specs.Bounds.{max_bytes, max_edges}
 use Rattle.model.specs.Lawful.{Lawful}
-use Rattle.model.specs.Limits.{limits}
 use Rattle.model.specs.Linear.{linear, merged_count, row31, row32, merge_fault}
 use Rattle.model.specs.Model.{Model}
-use Rattle.model.specs.Table.{Opened, unopened, opened}
+use Rattle.model.specs.Table.{unopened, opened}
 use Rattle.model.proofs.LimitsLaws.{lawful_is}
 use Rattle.model.proofs.LinearLimits.{linear_lawful}
 use Rattle.model.proofs.TableLaws.{model_given}

@@ -11,7 +11,7 @@ use Rattle.model.specs.Model.{Model}
 use Rattle.model.specs.Rules as R
 use Rattle.model.specs.Judge as J
 use Rattle.model.specs.Runs.{Run, run, table_judge, phase_number}
-use Rattle.model.specs.Table.{Opened, unopened, opened}
+use Rattle.model.specs.Table.{unopened, opened}
 use Rattle.judge_rows.specs.Phases.{phase_is, phase_for}
 use Rattle.judge.specs.RunAnswer.{RunAnswer, not_run, ran, proposals_of, is_uneven, lacks_end, run_from, run_answer, ran_of}
 use Rattle.answer_numbers.specs.Told.{ran_number}

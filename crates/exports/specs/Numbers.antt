@@ -1,6 +1,6 @@
 -- Answers as one number, for callers in C and Rust: what the definitions answer. The parts stay apart, for a text has
 -- no more lines than bytes and one (the law line_fits), no more than 65,536 bytes and 512 edges (merge_fits), and a
--- sheet no more than 63 actions, 48 variables and 16 automata (size-few). (The judges' numbers are `answer_number` of
+-- sheet no more than 63 actions, 48 variables and 16 automata (size_few). (The judges' numbers are `answer_number` of
 -- judge_call.)
 use Rattle.std.specs.Prelude.{ℕ, ◌+◌, ◌*◌, ◌^◌, length}
 use Rattle.model.specs.Runs.{phase_number}

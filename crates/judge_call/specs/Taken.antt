@@ -1,5 +1,5 @@
 -- Whether some automata can take the action, by the search over what each could take; and the mark. On a model's table,
--- its layout and the automata's own sets these are the definitions': the laws taken-is and mark_is.
+-- its layout and the automata's own sets these are the definitions': the laws taken_is and mark_is.
 use Rattle.std.specs.Prelude.{ℕ, Bool, List, take, replicate, ℤ}
 use Rattle.table_places.specs.declared.layout.Layout.{Layout}
 use Rattle.table_places.specs.Outline.{nodes_place}

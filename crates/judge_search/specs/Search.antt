@@ -1,6 +1,6 @@
 -- The step judge's search: does some move of the composition fit the step? It lists no moves. The tree says which
 -- automata can take the action together, and for each such set of takers it is asked whether they can cover the changed
--- variables. (The law search-is.)
+-- variables. (The law search_is.)
 use Rattle.std.specs.Prelude.{ℕ, Bool, true, false, not, ◌&&◌, length, eqb}
 use mathlib.Core.List.{List, [], ◌∷◌, ◌++◌, map, flat_map}
 use Rattle.model.specs.Basic.{eq_z, every, exists, keep, count_up}

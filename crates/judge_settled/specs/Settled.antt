@@ -1,5 +1,5 @@
 -- What holds of every automaton and of the composition, over the words of a table, a layout, and states as the code
--- holds them. On a model's table and its layout it is `settled` of the definitions: the law settled-is.
+-- holds them. On a model's table and its layout it is `settled` of the definitions: the law settled_is.
 use Rattle.std.specs.Prelude.{Bool, true, false, ◌&&◌, List, ℕ, zero, suc, ℤ, get_or, take}
 use Rattle.evaluator.specs.Evaluate.{evaluate}
 use Rattle.table_places.specs.declared.layout.Layout.{Layout}

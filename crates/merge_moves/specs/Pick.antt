@@ -1,4 +1,4 @@
--- The k-th move, from the words of a tree and its plan. On a lawful tree it is the k-th of `moves`: the law pick-is.
+-- The k-th move, from the words of a tree and its plan. On a lawful tree it is the k-th of `moves`: the law pick_is.
 use Rattle.std.specs.Prelude.{Bool, true, false, ◌&&◌, List, ℕ, zero, suc, ◌+◌, ◌-◌, ◌/◌, ◌%◌, get_or, set, eqb, ltb}
 use Rattle.model.specs.Bounds.{max_automata, max_edges, max_tree_nodes}
 use Rattle.table_tree.specs.declared.nodes.Found.{Found}

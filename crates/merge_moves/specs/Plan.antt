@@ -1,5 +1,5 @@
 -- The plan of an action, from the words of a tree. On a lawful tree's words it has each subtree's membership and its
--- count of moves, capped: the laws plan_is and fill-is.
+-- count of moves, capped: the laws plan_is and fill_is.
 use Rattle.std.specs.Prelude.{◌≡◌, Bool, true, false, ◌||◌, List, ℕ, zero, suc, ◌-◌, get_or, set, ltb}
 use Rattle.model.specs.Basic.{member}
 use Rattle.model.specs.Moves.{sides_count}

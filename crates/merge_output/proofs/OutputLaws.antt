@@ -23,7 +23,6 @@ use Rattle.format.proofs.FitsLaws.{decimal_width}
 use Rattle.text_bytes.specs.declared.answer.Written.{Written}
 use Rattle.text_bytes.specs.declared.answer.Written.TheVariants.{To, Full}
 use Rattle.text_bytes.specs.Write.{fits, written_to, after, Wrote}
-use Rattle.reader.specs.declared.ReadAnswer.{ReadAnswer}
 use Rattle.reader.proofs.LineBound.{refusal_line}
 use Rattle.merger.specs.declared.Outcome.{Outcome}
 use Rattle.merger.specs.declared.Outcome.TheVariants.{Merged, Refused}

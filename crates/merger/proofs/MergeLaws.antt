@@ -8,7 +8,7 @@ use native.Mathlib.Omega.{arith}
 use lib.ListN.{length}
 use Rattle.model.specs.Model.{Model}
 use Rattle.model.specs.Limits.{broken}
-use Rattle.model.specs.Table.{sheet_words, table_of, model_of, row18, Opened, unopened, opened, open_table}
+use Rattle.model.specs.Table.{table_of, model_of, row18, Opened, unopened, opened, open_table}
 use Rattle.model.specs.Linear.{linear, merged_count, row31, row32, row33, row34, merge_fault}
 use Rattle.model.proofs.LinearLimits.{linear_lawful}
 use Rattle.table_places.proofs.OutlineLaws.{table_sheet}

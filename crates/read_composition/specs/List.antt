@@ -1,5 +1,5 @@
 -- A list of actions as the code reads it. What it says of sound and rising lists is in the laws list_sound, list_rising
--- and list-set.
+-- and list_set.
 use Rattle.std.specs.Prelude.{ℕ, ◌+◌, ◌-◌, ◌%◌, ◌/◌, not, ◌&&◌, List}
 use Rattle.model.specs.Bounds.{max_actions}
 use Rattle.format.specs.Bytes.{Bytes}

@@ -1,5 +1,5 @@
 -- The nodes of a composition, left to right. Where rows 3, 5 and 6 are not broken the answer is that of rows 13, 14 and
--- 16, and the words are those of the tree: the laws read_formed, read_ordered, read-count and read_words_lem of
+-- 16, and the words are those of the tree: the laws read_formed, read_ordered, read_count and read_words_lem of
 -- proofs/Meaning.
 use Rattle.std.specs.Prelude.{ℕ, ◌+◌, ◌-◌, ◌≤◌, ◌≡◌, true, false, ◌&&◌, ◌||◌, List, [], ◌∷◌, length, set, eqb, leb}
 use Rattle.model.specs.Bounds.{last_automaton, max_tree_nodes}

@@ -1,5 +1,5 @@
 -- Where the P after an `ini` begins and ends, as places in the bytes. What is found so are the P's of the format: the
--- laws next_is, after-is and start_bytes.
+-- laws next_is, after_is and start_bytes.
 use Rattle.std.specs.Prelude.{ℕ, zero, suc, ◌+◌, Bool, true, false, ◌||◌, List, [], ◌∷◌, length, drop, leb, pos}
 use Rattle.model.specs.Basic.{same}
 use Rattle.model.specs.Bounds.{max_operands}

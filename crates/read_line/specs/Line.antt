@@ -1,5 +1,5 @@
 -- What the reader of one line answers, by the key that is due, and the buffer after it. It is exactly what `fault` and
--- `entry` say: the law reads-lines.
+-- `entry` say: the law reads_lines.
 use Rattle.std.specs.Prelude.{ℕ, Bool, List}
 use Rattle.model.specs.Bounds.{first_format, last_format, max_actions, max_variables}
 use Rattle.model.specs.Bounds.{max_automata, max_locations, max_edges}

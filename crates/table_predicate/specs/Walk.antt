@@ -1,4 +1,4 @@
--- What the walk finds on any words. On the words of a predicate it is what rows 9 and 10 ask: the laws walk-of,
+-- What the walk finds on any words. On the words of a predicate it is what rows 9 and 10 ask: the laws walk_of,
 -- walk_deep and walk_back.
 use Rattle.std.specs.Prelude.{Bool, true, false, not, ◌&&◌, ◌||◌, List, [], ◌∷◌, ℕ, zero, suc, ◌+◌, pos, ◌+ℤ◌, ◌-ℤ◌}
 use Rattle.std.specs.Prelude.{length, get_or, ltb}

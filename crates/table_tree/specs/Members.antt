@@ -38,7 +38,7 @@ module _ (words sets : List ℕ) (action : ℕ) where
   member_within zero left at = membership false at left
   member_within (suc d) left at = member_step (λ l a. member_within d l a) left at
 
-  -- calls cannot nest deeper than there are nodes, so this is a step of itself: the law member-is
+  -- calls cannot nest deeper than there are nodes, so this is a step of itself: the law member_is
   unfoldable pub member_at : (left at : ℕ) → Membership
   member_at left at = member_within left left at
 

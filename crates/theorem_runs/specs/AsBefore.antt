@@ -1,5 +1,5 @@
 -- What a merged sheet allows does not change when equal edges stand once: AsBefore compares it with the merged sheet in
--- which they stand as often as they come about. The law as-before says that it holds of every sheet within the limits.
+-- which they stand as often as they come about. The law as_before says that it holds of every sheet within the limits.
 use Rattle.std.specs.Prelude.{◌≡◌, Bool, List, ◌↔◌, ℕ, ℤ}
 use Rattle.std.proofs.Math.Option.{none}
 use Rattle.model.specs.Model.{Model}

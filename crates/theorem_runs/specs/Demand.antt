@@ -26,7 +26,7 @@ first_row m s p =
     none)))
 
 -- The answer that the rows and the rules give to a proposal from state s: the first row that refuses it; otherwise yes,
--- with the step's mark, where the rules allow it, and no where they don't. (The law one-answer: they give one.)
+-- with the step's mark, where the rules allow it, and no where they don't. (The law one_answer: they give one.)
 pub data ByRules (m : Model) (s : State) : Proposal → Answer → Type 0 where
   by_row : {p : Proposal} {row : ℕ} → first_row m s p ≡ some row → ByRules m s p (refused row)
   step_yes : {a : ℕ} {locations : List ℕ} {values : List ℤ} {mark : Bool}
