@@ -1,6 +1,6 @@
 // A sheet text on standard input; on standard output the merged text, or the row and the line that refuse it.
 //
-// A program has no exit status of its own: where reading or writing fails, a line on standard error says so.
+// It ends with status 0 also where reading or writing fails: a line on standard error says so.
 #![tactic(auto)]
 
 ghost use Rattle.std.specs.Prelude.{◌≤◌, length};

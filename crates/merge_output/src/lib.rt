@@ -10,7 +10,7 @@ use merger::Outcome;
 use text_bytes::Written;
 
 // The first `length` bytes.
-#[derive(Clone, Copy)]
+#[derive(Drop)]
 pub struct Printed {
     pub bytes: [u8; 65536],
     pub length: usize,

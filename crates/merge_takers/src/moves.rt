@@ -8,7 +8,7 @@ use model::Model;
 use table_places::Layout;
 
 // The plan of an action: the cells of the tree's nodes, and how many moves there are, at most 513.
-#[derive(Clone, Copy)]
+#[derive(Drop)]
 pub struct ActionPlan {
     pub cells: [u32; 192],
     pub count: u32,

@@ -18,7 +18,7 @@ use model::Model;
 pub use sync::Sets;
 
 // Row 0, the merged sheet's table and its count of edges; or the row that refuses, no edges and an empty table.
-#[derive(Clone, Copy)]
+#[derive(Drop)]
 pub struct Linearization {
     pub row: u32,
     pub edges: usize,
