@@ -2,4 +2,3 @@ pub mod Order
 pub mod Signed
 pub mod CutLaws
 pub mod Intervals
-pub mod SumLaws

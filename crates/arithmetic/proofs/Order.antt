@@ -8,6 +8,7 @@ use borrow.Author.Tests.{ltb-true, ltb-false, le-ltb, leb-true, leb-false, le-le
 use lib.Dec.{ltb}
 use lib.IntN.{ℤ, pos, negsuc, neg_ℤ, sub_ℕ, ◌+ℤ◌, ◌-ℤ◌, ◌*ℤ◌, *ℤ_comm}
 use lib.Signed.{le_z, lt_z}
+use Rattle.std.specs.Int.{int_min, int_max}
 use mir.Syntax.{w64}
 use mir.Val.{SFits}
 use Rattle.model.specs.Basic.{between}
@@ -141,6 +142,27 @@ mul_anti (pos x) (pos y) n h = neg_anti (x * suc n) (y * suc n) (mul-le-mul_righ
 mul_anti (pos x) (negsuc y) n h = absurd (omega arith)
 mul_anti (negsuc x) (pos y) n h = neg_pos (y * suc n) (suc x * suc n)
 mul_anti (negsuc x) (negsuc y) n h = omega (arith, mul-le-mul_right {m = suc y} {n = suc x} (suc n) (omega arith))
+
+-- what the library's `min` and `max` answer
+pub min_least : (a b : ℤ) → int_min a b ≡ least a b
+unfolding least
+min_least a b = by (lt_z b a) refl (le_z a b) refl
+  where
+    by : (s : Bool) → lt_z b a ≡ s → (t : Bool) → le_z a b ≡ t → cond s b a ≡ cond t a b
+    by true e true f = absurd (omega (arith, lt_z_lt b a e, le_z_Le a b f))
+    by true e false f = refl
+    by false e true f = refl
+    by false e false f = Le-antisym a b (not_lt_z b a e) (not_le_z_Le a b f)
+
+pub max_greatest : (a b : ℤ) → int_max a b ≡ greatest a b
+unfolding greatest
+max_greatest a b = by (lt_z b a) refl (le_z a b) refl
+  where
+    by : (s : Bool) → lt_z b a ≡ s → (t : Bool) → le_z a b ≡ t → cond s a b ≡ cond t b a
+    by true e true f = absurd (omega (arith, lt_z_lt b a e, le_z_Le a b f))
+    by true e false f = refl
+    by false e true f = refl
+    by false e false f = Le-antisym b a (not_le_z_Le a b f) (not_lt_z b a e)
 
 -- least and greatest
 module _ (a b : ℤ) where

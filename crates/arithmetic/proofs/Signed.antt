@@ -5,7 +5,7 @@ use Prim.Native.Nat.{ℕ, suc, ◌-◌, ◌^◌, ◌≤◌, ◌<◌}
 use native.Mathlib.Omega.{arith}
 use borrow.Author.Tests.{leb-true, leb-false, le-ltb, lt-ltb, ne_eqb, eqb-true, eqb-false}
 use lib.Dec.{ltb, leb, eqb}
-use lib.IntN.{ℤ, pos, negsuc, sub_ℕ, ◌+ℤ◌, ◌-ℤ◌}
+use lib.IntN.{ℤ, pos, negsuc, sub_ℕ, ◌-ℤ◌}
 use lib.Signed.{mag}
 use mir.Syntax.{w32, w64}
 use mir.Val.{Fits, SFits, to_z, of_z}
@@ -21,9 +21,6 @@ wider h = sfits_widen tt h
 -- an i32 that went to an i64 by its bits is the same number
 pub widened : (z : ℤ) → SFits w32 z → to_z w64 (of_z w64 (to_z w32 (of_z w32 z))) ≡ z
 widened z f = rw (to_z-of_z w32 z f) (to_z-of_z w64 z (wider f))
-
-pub widens : {z : ℤ} → SFits w32 z → SFits w64 (to_z w32 (of_z w32 z))
-widens {z} f = rw (to_z-of_z w32 z f) (wider f)
 
 -- two tests for equality that agree
 eqb_same : (m n p q : ℕ) → (m ≡ n → p ≡ q) → (p ≡ q → m ≡ n) → eqb m n ≡ eqb p q
@@ -64,9 +61,6 @@ mag_sub a b n ha hb = go (ltb a b)
 
 less_fits : (a b : ℕ) → a < 2 ^ 63 → b < 2 ^ 63 → SFits w64 (sub_ℕ a b)
 less_fits a b ha hb = record { sfits = omega (arith, mag_sub a b (2 ^ 63 - 1) (omega arith) (omega arith)) }
-
-pub argument_fits : {n m : ℕ} → Fits w32 n → suc m < 2 ^ 63 → SFits w64 (to_z w64 n +ℤ negsuc m)
-argument_fits {n} {m} f h = rw (to_z_pos w64 n (half f)) (less_fits n (suc m) (half f) h)
 
 pub read_argument : {n : ℕ} → Fits w32 n → to_z w64 (of_z w64 (to_z w64 n -ℤ pos bias)) ≡ unbiased n
 read_argument {n} f = rw (to_z_pos w64 n (half f)) (to_z-of_z w64 _ (less_fits n bias (half f) (omega arith)) ∙ less_bias n)

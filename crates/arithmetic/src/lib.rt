@@ -12,8 +12,6 @@ ghost use Rattle.arithmetic.specs.Cut.{cut};
 
 use model::Model;
 
-mod magnitudes;
-
 pub fn index(x: u32) -> usize
     ensures { result ≡ x }
 {
@@ -24,10 +22,7 @@ pub fn index(x: u32) -> usize
 pub fn fits(x: usize, y: usize, most: usize) -> bool
     ensures { result ≡ leb (x + y) most }
 {
-    if most < y {
-        return false;
-    }
-    x <= most - y
+    y <= most && x <= most - y
 }
 
 pub fn choose(test: bool, a: i64, b: i64) -> i64
@@ -52,77 +47,52 @@ pub fn at_most(a: i64, b: i64) -> bool
 pub fn variable(values: &[i32], k: usize) -> i32
     ensures { result ≡ get_or values.now k (pos 0) }
 {
-    if k < values.len() { values[k] } else { 0 }
+    values.get(k).copied().unwrap_or(0)
 }
 
 // The same as an expression's number.
 pub fn value(values: &[i32], k: usize) -> i64
     ensures { result ≡ get_or values.now k (pos 0) }
 {
-    variable(values, k) as i64
+    i64::from(variable(values, k))
 }
 
 // The number that a biased table word stands for.
 pub fn unbias(word: u32) -> i64
     ensures { result ≡ unbiased word }
 {
-    word as i64 - Model::BIAS as i64
+    i64::from(word) - i64::from(Model::BIAS)
 }
 
 // The sum; past an end of the range, that end.
 pub fn sum(a: i64, b: i64) -> i64
     ensures { result ≡ cut (a +ℤ b) }
 {
-    if b < 0 {
-        if a < -9223372036854775808 - b {
-            -9223372036854775808
-        } else {
-            a + b
-        }
-    } else {
-        if 9223372036854775807 - b < a {
-            9223372036854775807
-        } else {
-            a + b
-        }
-    }
+    a.saturating_add(b)
 }
 
 pub fn difference(a: i64, b: i64) -> i64
     ensures { result ≡ cut (a -ℤ b) }
 {
-    if b < 0 {
-        if 9223372036854775807 + b < a {
-            9223372036854775807
-        } else {
-            a - b
-        }
-    } else {
-        if a < -9223372036854775808 + b {
-            -9223372036854775808
-        } else {
-            a - b
-        }
-    }
+    a.saturating_sub(b)
 }
 
 pub fn product(a: i64, b: i64) -> i64
     ensures { result ≡ cut (a *ℤ b) }
 {
-    let n = magnitudes::capped_product(magnitudes::magnitude(a), magnitudes::magnitude(b));
-    magnitudes::signed((a < 0) != (b < 0), n)
+    a.saturating_mul(b)
 }
 
 pub fn lesser(a: i64, b: i64) -> i64
     ensures { result ≡ least a b }
 {
-    if a <= b { a } else { b }
+    a.min(b)
 }
 
 pub fn greater(a: i64, b: i64) -> i64
     ensures { result ≡ greatest a b }
 {
-    if a <= b { b } else { a }
+    a.max(b)
 }
 
 // Whether the interval from `low` to `high` stays within the span of row 10.

@@ -2,6 +2,7 @@
 use mathlib.Core.Path.{◌≡◌, refl, sym, ap, ◌∙◌}
 use mathlib.Core.Bool.{Bool, true, false, not, cond, ◌&&◌, ◌||◌, and-false, or-false}
 use mathlib.Core.List.{List}
+use native.Mathlib.Omega.{arith}
 use Prim.Native.Nat.{ℕ, zero, suc, ◌+◌, ◌-◌, ◌<◌, ◌≤◌}
 use native.Mathlib.Numerals.{sub-one}
 use borrow.Author.Tests.{lt-ltb, le-ltb}
@@ -30,10 +31,13 @@ module _ (words : List ℕ) (before after : List ℤ) where
   E = expression_at words before after
 
   -- `operands`
-  pub gather_more : (n left at : ℕ) (all any : Bool) → (n ≡ 0 → ⊥) → gather P n left at all any ≡ gather P (n - 1) (P left at).left (P left at).next (all && (P left at).holds) (any || (P left at).holds)
+  pub gather_more : (n i left at : ℕ) (all any : Bool) → i < n
+      → gather P (n - i) left at all any
+      ≡ gather P (n - (i + 1)) (P left at).left (P left at).next (all && (P left at).holds) (any || (P left at).holds)
   unfolding gather
-  gather_more zero left at all any z = absurd (z refl)
-  gather_more (suc n) left at all any z = rw (sub-one (suc n))
+  gather_more n i left at all any l =
+      let e : n - i ≡ suc (n - (i + 1)) = omega arith in
+      ap (λ m. gather P m left at all any) e
 
   -- where no node is left, the next operand is none, and so are all after it
   no_node : (at : ℕ) → P 0 at ≡ truth false at 0
@@ -48,9 +52,11 @@ module _ (words : List ℕ) (before after : List ℤ) where
       ∙ gather_none n at (all && false) (any || false)
       ∙ ap (λ (b : Bool). gathered false b at 0) (or-false any)
 
-  pub gather_stops : (n left at : ℕ) (all any : Bool) → (n ≡ 0 → ⊥) → left ≡ 0 → gathered false any at left ≡ gather P n left at all any
-  gather_stops zero left at all any z h = absurd (z refl)
-  gather_stops (suc n) left at all any z h = rw h (sym (gather_none n at all any))
+  pub gather_stops : (n i left at : ℕ) (all any : Bool) → i < n → left ≡ 0
+      → gathered false any at left ≡ gather P (n - i) left at all any
+  gather_stops n i left at all any l h =
+      let e : n - i ≡ suc (n - (i + 1)) = omega arith in
+      rw (h, e) (sym (gather_none (n - (i + 1)) at all any))
 
   module _ (left at : ℕ) where
     pub none_p : left ≡ 0 → (r : Truth) → r ≡ truth false at left → r ≡ P left at

@@ -89,8 +89,7 @@ pub fn negated(p: Truth) -> Truth
 {
     Truth {
         holds: !p.holds,
-        next: p.next,
-        left: p.left,
+        ..p
     }
 }
 
@@ -99,8 +98,7 @@ pub fn implied(p: bool, q: Truth) -> Truth
 {
     Truth {
         holds: !p | q.holds,
-        next: q.next,
-        left: q.left,
+        ..q
     }
 }
 

@@ -1,4 +1,7 @@
 -- A run: the code's over the words of a table is the definitions'.
+use Rattle.std.proofs.Common.{Result, Ok, Err}
+use Rattle.std.specs.Prelude.{⊤}
+use Rattle.model.specs.declared.Row.{Row}
 use mathlib.Core.Path.{◌≡◌, refl, sym, ap, ◌∙◌}
 use mathlib.Core.Bool.{not-not, Bool, true, false, not, cond, true≢false}
 use mathlib.Core.List.{List, [], ◌∷◌, ◌++◌, map}
@@ -18,8 +21,6 @@ use Rattle.model.specs.Runs.{Proposal, proposed, Judge, phase_number, call_of, t
 use borrow.Author.Tests.{le-leb, lt-leb}
 use Rattle.model.proofs.Tests.{and_left, and_right, not-false, eq_of, lt_of, le_of}
 use Rattle.table_check.specs.Check.{answered}
-use Rattle.model.specs.declared.Checked.{Checked}
-use Rattle.model.specs.declared.Checked.TheVariants as C
 use Rattle.table_places.specs.declared.layout.Layout.{Layout}
 use Rattle.table_places.specs.Layout.{layout_of, variables_of}
 use Rattle.table_places.proofs.OutlineLaws.{automata_in_lem, variables_in_lem}
@@ -28,12 +29,11 @@ use Rattle.table_places.proofs.Opened.{Sheet, sheet_of}
 use Rattle.judge_rows.specs.declared.Phase.{Phase}
 use Rattle.judge_rows.specs.declared.Phase.TheVariants.{Start, Running}
 use Rattle.judge_rows.specs.declared.State.{State}
-use Rattle.judge_runs.specs.declared.Ran.{Ran}
-use Rattle.judge_runs.specs.declared.Ran.TheVariants as Code
-use Rattle.judge_rows.specs.declared.Admitted.{Admitted}
-use Rattle.judge_rows.specs.declared.Admitted.TheVariants.{In, Out}
+use Rattle.model.specs.Row.{row}
+use Rattle.judge_runs.specs.declared.RunError.{RunError}
+use Rattle.judge_runs.specs.declared.RunError.TheVariants as Code
 use Rattle.judge_call.specs.declared.Answer.{Answer}
-use Rattle.judge_call.specs.declared.Answer.TheVariants.{Yes, Marked, No, Refused}
+use Rattle.judge_call.specs.declared.Answer.TheVariants.{Yes, Marked, No}
 use Rattle.judge_call.specs.Answers.{answer_of, answer_number}
 use Rattle.judge_rows.specs.Phases.{phase_is, phase_for}
 use Rattle.judge_rows.specs.States.{filled, state_of, held}
@@ -65,18 +65,18 @@ phase_held Start = refl
 phase_held Running = refl
 
 -- the code reads a phase back from its number
-read_back : (p : R.Phase) → phase_read (phase_number p) ≡ In (phase_for p)
+read_back : (p : R.Phase) → phase_read (phase_number p) ≡ Ok (phase_for p)
 unfolding phase_read phase_number phase_for
 read_back R.start = refl
 read_back R.running = refl
 
 -- only a yes moves either
-moved_exact : (x : Answer) (u u' : R.State) → moved_to x (held u) (held u') ≡ held (goes (answer_of x) u u')
+moved_exact : (x : Result Answer Row) (u u' : R.State) → moved_to x (held u) (held u') ≡ held (goes (answer_of x) u u')
 unfolding moved_to goes answer_of
-moved_exact Yes u u' = refl
-moved_exact (Marked mark) u u' = refl
-moved_exact No u u' = refl
-moved_exact (Refused row) u u' = refl
+moved_exact (Ok Yes) u u' = refl
+moved_exact (Ok (Marked mark)) u u' = refl
+moved_exact (Ok No) u u' = refl
+moved_exact (Err r) u u' = refl
 
 -- the state that is proposed
 proposed_exact : (u : R.State) (a : ℕ) (l' : List ℕ) (v' : List ℤ) → proposed_on (held u) a l' v' ≡ held (proposed u (proposal_of a l' v'))
@@ -117,7 +117,7 @@ module _ (t : List ℕ) (m : Model) (e : open_table t ≡ opened m) where
   sheet : Sheet t m
   sheet = sheet_of t m e
 
-  good : C.Good ≡ answered (open_table t)
+  good : Ok tt ≡ answered (open_table t)
   unfolding answered
   good = rw e
 
@@ -152,7 +152,7 @@ module _ (t : List ℕ) (m : Model) (e : open_table t ≡ opened m) where
     abbrev to : State
     to = proposed_on (held u) a l' v'
 
-    abbrev judged : Answer
+    abbrev judged : Result Answer Row
     judged = judged_on t x own (held u) a l' v' to
 
     abbrev asked : J.Answer
@@ -191,11 +191,11 @@ module _ (t : List ℕ) (m : Model) (e : open_table t ≡ opened m) where
         go true f =
             ap answer_of (to_environment f ∙ ap (environment_from t x (held u) v') (stays f) ∙
             environment_from_on t x u.locations u.values shaped.known phase (phase_for u.phase) (read_back u.phase) v') ∙
-            environment_good t phase u.locations u.values v' C.Good good refl x refl _ refl ∙ sym (asked_environment f)
+            environment_good t phase u.locations u.values v' (Ok tt) good refl x refl _ refl ∙ sym (asked_environment f)
         go false f =
             ap answer_of (to_step f ∙ ap (step_from t x own (held u) a l' v') (moves f) ∙
             step_from_on t x u.locations u.values shaped.known phase (phase_for u.phase) (read_back u.phase) own a l' v') ∙
-            step_good t phase u.locations u.values a l' v' C.Good good refl x own refl refl _ refl ∙ sym (asked_step f)
+            step_good t phase u.locations u.values a l' v' (Ok tt) good refl x own refl refl _ refl ∙ sym (asked_step f)
 
     turn_state : (turn_on t x own (held u) a l' v').state ≡ held (goes asked u (proposed u (proposal_of a l' v')))
     unfolding turn_on
@@ -208,10 +208,10 @@ module _ (t : List ℕ) (m : Model) (e : open_table t ≡ opened m) where
     turn_number = unwrapped (judge_fits t u (proposal_of a l' v')) judged_exact refl
 
     -- a refusal leaves the state; and what is not refused is known
-    refused_stays : (row : ℕ) → judged ≡ Refused row → Shaped (goes asked u (proposed u (proposal_of a l' v')))
+    refused_stays : (k : Row) → judged ≡ Err k → Shaped (goes asked u (proposed u (proposal_of a l' v')))
     unfolding goes answer_of
-    refused_stays row e =
-        let r : asked ≡ J.refused row = sym judged_exact ∙ ap answer_of e in
+    refused_stays k e =
+        let r : asked ≡ J.refused k.0 = sym judged_exact ∙ ap answer_of e in
         rw r shaped
 
     goes_shaped : Shaped (goes asked u (proposed u (proposal_of a l' v')))
@@ -221,13 +221,13 @@ module _ (t : List ℕ) (m : Model) (e : open_table t ≡ opened m) where
         to_known : Shaped (proposed u (proposal_of a l' v')) → Shaped (goes asked u (proposed u (proposal_of a l' v')))
         to_known i = goes_to Shaped asked u (proposed u (proposal_of a l' v')) shaped i
 
-        by_values : (f : eqb a environment_mark ≡ true) (c : Checked) → c ≡ values_checked t x v' → Shaped (goes asked u (proposed u (proposal_of a l' v')))
-        by_values f C.Good e = to_known (rw (f, proposal_of) (shaped_of (record { phase = R.running; locations = u.locations; values = v' }) (still_passes t x u.locations u.values shaped.known v' (sym e))))
-        by_values f (C.Refused row) e = refused_stays row (to_environment f ∙ sym (environment_refused t x (held u) v' to (C.Refused row) e row refl))
+        by_values : (f : eqb a environment_mark ≡ true) (c : Result ⊤ Row) → c ≡ values_checked t x v' → Shaped (goes asked u (proposed u (proposal_of a l' v')))
+        by_values f (Ok _) e = to_known (rw (f, proposal_of) (shaped_of (record { phase = R.running; locations = u.locations; values = v' }) (still_passes t x u.locations u.values shaped.known v' (sym e))))
+        by_values f (Err k) e = refused_stays k (to_environment f ∙ sym (environment_refused t x (held u) v' to (Err k) e k refl))
 
-        by_lists : (f : eqb a environment_mark ≡ false) (c : Checked) → c ≡ state_checked t x l' v' → Shaped (goes asked u (proposed u (proposal_of a l' v')))
-        by_lists f C.Good e = to_known (rw (f, proposal_of) (shaped_of (record { phase = R.running; locations = l'; values = v' }) (known_passes t x l' v' (sym e))))
-        by_lists f (C.Refused row) e = refused_stays row (to_step f ∙ sym (step_refused t x own (held u) a l' v' to (C.Refused row) e row refl))
+        by_lists : (f : eqb a environment_mark ≡ false) (c : Result ⊤ Row) → c ≡ state_checked t x l' v' → Shaped (goes asked u (proposed u (proposal_of a l' v')))
+        by_lists f (Ok _) e = to_known (rw (f, proposal_of) (shaped_of (record { phase = R.running; locations = l'; values = v' }) (known_passes t x l' v' (sym e))))
+        by_lists f (Err k) e = refused_stays k (to_step f ∙ sym (step_refused t x own (held u) a l' v' to (Err k) e k refl))
 
         go : (b : Bool) → eqb a environment_mark ≡ b → Shaped (goes asked u (proposed u (proposal_of a l' v')))
         go true f = by_values f (values_checked t x v') refl
@@ -281,9 +281,9 @@ module _ (t : List ℕ) (m : Model) (e : open_table t ≡ opened m) where
       pub is : called ≡ behind q
 
     -- what the rows say
-    unfoldable Told : Admitted → Type 0
-    Told (Out row) = called ≡ not_run row
-    Told (In q) = Begun q
+    unfoldable Told : Result Phase Row → Type 0
+    Told (Err r) = called ≡ not_run r.0
+    Told (Ok q) = Begun q
 
     module _ (q : Phase) where
       abbrev u : R.State
@@ -395,30 +395,30 @@ module _ (t : List ℕ) (phase : ℕ) (l : List ℕ) (k : List ℤ) (actions ls 
             (run_exact f most)
 
   -- what a refusal by a row leaves
-  by_row : (row : ℕ) → whole ≡ not_run row → record { ran = Code.Refused row; answers = old; locations = oldl; values = oldv } ≡ left_of whole
+  by_row : (n : ℕ) → whole ≡ not_run n → record { ran = Err (Code.Refused (row n)); answers = old; locations = oldl; values = oldv } ≡ left_of whole
   unfolding ran_of answers_after locations_after values_after lent_after
-  by_row row e = rw e
+  by_row n e = rw e
 
   -- each way out of `run`
-  module _ (z : Checked) (e : z ≡ answered (open_table t)) where
-    table_out : (row : ℕ) → z ≡ C.Refused row → whole ≡ not_run row
+  module _ (z : Result ⊤ Row) (e : z ≡ answered (open_table t)) where
+    table_out : (r : Row) → z ≡ Err r → whole ≡ not_run r.0
     unfolding answered run_answer
-    table_out row f = go (open_table t) refl
+    table_out r f = go (open_table t) refl
       where
-        go : (o : Opened) → open_table t ≡ o → whole ≡ not_run row
+        go : (o : Opened) → open_table t ≡ o → whole ≡ not_run r.0
         go (unopened other) g =
-            let same : C.Refused other ≡ C.Refused row = rw g at (sym e ∙ f) in
-            let rows_same : other ≡ row = cc in
-            rw (g, run_answer) (ap not_run rows_same)
+            let same : ◌≡◌ {A = Result ⊤ Row} (Err (row other)) (Err r) = rw g at (sym e ∙ f) in
+            let rows_same : row other ≡ r = cc in
+            rw (g, run_answer) (ap (λ (k : Row). not_run k.0) rows_same)
         go (opened m) g =
-            let never : C.Good ≡ C.Refused row = rw g at (sym e ∙ f) in
+            let never : ◌≡◌ {A = Result ⊤ Row} (Ok tt) (Err r) = rw g at (sym e ∙ f) in
             cc
 
-    module _ (row : ℕ) (f : z ≡ C.Refused row) where
-      bad : record { ran = Code.Refused row; answers = old; locations = oldl; values = oldv } ≡ left_of whole
-      bad = by_row row (table_out row f)
+    module _ (r : Row) (f : z ≡ Err r) where
+      bad : record { ran = Err (Code.Refused r); answers = old; locations = oldl; values = oldv } ≡ left_of whole
+      bad = by_row r.0 (table_out r f)
 
-      pub run_bad : Code.Refused row ≡ ran_of whole
+      pub run_bad : Err (Code.Refused r) ≡ ran_of whole
       run_bad = ap (λ (y : Left). y.ran) bad
 
       pub bad_answers : old ≡ answers_after whole old
@@ -430,14 +430,14 @@ module _ (t : List ℕ) (phase : ℕ) (l : List ℕ) (k : List ℤ) (actions ls 
       pub bad_values : oldv ≡ values_after whole oldv
       bad_values = ap (λ (y : Left). y.values) bad
 
-    module _ (h : z ≡ C.Good) where
+    module _ (h : z ≡ Ok tt) where
       opens : (m : Model) × (open_table t ≡ opened m)
       unfolding answered
       opens = go (open_table t) refl
         where
           go : (o : Opened) → open_table t ≡ o → (m : Model) × (open_table t ≡ opened m)
-          go (unopened row) g =
-              let never : C.Refused row ≡ C.Good = rw g at (sym e ∙ h) in
+          go (unopened other) g =
+              let never : ◌≡◌ {A = Result ⊤ Row} (Err (row other)) (Ok tt) = rw g at (sym e ∙ h) in
               let clash : true ≡ false = cc in
               absurd (true≢false clash)
           go (opened m) g = (m, g)
@@ -448,11 +448,11 @@ module _ (t : List ℕ) (phase : ℕ) (l : List ℕ) (k : List ℤ) (actions ls 
           said : Told t opens.0 opens.1 phase l k actions ls vs (length old) (length oldl) (length oldv) (begun_on t (layout_of t) l k phase)
           said = told t opens.0 opens.1 phase l k actions ls vs (length old) (length oldl) (length oldv)
 
-          go : (y : Admitted) → begun_on t (layout_of t) l k phase ≡ y → over_on t phase l k actions ls vs old oldl oldv ≡ left_of whole
-          go (Out row) f = unfold over_on Told in rw (f, over_on) (by_row row (rw f at said))
-          go (In q) f = unfold over_on Told in rw (f, over_on) (listed_exact opens.0 opens.1 q (rw f at said))
+          go : (y : Result Phase Row) → begun_on t (layout_of t) l k phase ≡ y → over_on t phase l k actions ls vs old oldl oldv ≡ left_of whole
+          go (Err r) f = unfold over_on Told in rw (f, over_on) (by_row r.0 (rw f at said))
+          go (Ok q) f = unfold over_on Told in rw (f, over_on) (listed_exact opens.0 opens.1 q (rw f at said))
 
-      module _ (r : Ran) (new newl : List ℕ) (newv : List ℤ) (d : Leaves (over_on t phase l k actions ls vs old oldl oldv) r new newl newv) where
+      module _ (r : Result Phase RunError) (new newl : List ℕ) (newv : List ℤ) (d : Leaves (over_on t phase l k actions ls vs old oldl oldv) r new newl newv) where
         done : record { ran = r; answers = new; locations = newl; values = newv } ≡ left_of whole
         done = d.is ∙ over_exact
 

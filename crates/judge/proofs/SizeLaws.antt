@@ -1,38 +1,40 @@
 -- The numbers of a table: the words that the code reads are the model's.
+use Rattle.std.proofs.Common.{Result, Ok, Err}
+use Rattle.std.specs.Prelude.{⊤}
+use Rattle.model.specs.declared.Row.{Row}
 use mathlib.Core.Path.{◌≡◌, refl, sym, ◌∙◌}
 use mathlib.Core.List.{List}
 use Prim.Native.Nat.{ℕ}
 use Rattle.model.specs.Table.{Opened, unopened, opened, open_table}
 use Rattle.table_check.specs.Check.{answered}
-use Rattle.model.specs.declared.Checked.{Checked}
-use Rattle.model.specs.declared.Checked.TheVariants as C
 use Rattle.table_places.specs.Outline.{actions_in, variables_in, automata_in}
 use Rattle.table_places.proofs.OutlineLaws.{actions_in_lem, variables_in_lem, automata_in_lem}
 use Rattle.table_places.proofs.Opened.{sheet_of}
-use Rattle.judge.specs.declared.Counted.TheVariants.{Counts, Refused}
+use Rattle.model.specs.Row.{row}
+use Rattle.judge.specs.declared.TableSize.{TableSize}
 use Rattle.judge.specs.TableSize.{size_of}
 
-module _ (t : List ℕ) (x : Checked) (e : x ≡ answered (open_table t)) where
-  pub size_refused : (row : ℕ) → x ≡ C.Refused row → Refused row ≡ size_of (open_table t)
+module _ (t : List ℕ) (x : Result ⊤ Row) (e : x ≡ answered (open_table t)) where
+  pub size_refused : (r : Row) → x ≡ Err r → ◌≡◌ {A = Result TableSize Row} (Err r) (size_of (open_table t))
   unfolding answered size_of
-  size_refused row f = go (open_table t) refl
+  size_refused r f = go (open_table t) refl
     where
-      go : (o : Opened) → open_table t ≡ o → Refused row ≡ size_of (open_table t)
+      go : (o : Opened) → open_table t ≡ o → ◌≡◌ {A = Result TableSize Row} (Err r) (size_of (open_table t))
       go (unopened other) g =
-          let same : C.Refused other ≡ C.Refused row = rw g at (sym e ∙ f) in
-          let rows_same : row ≡ other = cc in
+          let same : ◌≡◌ {A = Result ⊤ Row} (Err (row other)) (Err r) = rw g at (sym e ∙ f) in
+          let rows_same : r ≡ row other = cc in
           rw (g, rows_same)
       go (opened m) g =
-          let never : C.Good ≡ C.Refused row = rw g at (sym e ∙ f) in
+          let never : ◌≡◌ {A = Result ⊤ Row} (Ok tt) (Err r) = rw g at (sym e ∙ f) in
           cc
 
-  pub size_counts : x ≡ C.Good → (a v n : ℕ) → a ≡ actions_in t → v ≡ variables_in t → n ≡ automata_in t → Counts a v n ≡ size_of (open_table t)
+  pub size_counts : x ≡ Ok tt → (a v n : ℕ) → a ≡ actions_in t → v ≡ variables_in t → n ≡ automata_in t → Ok (record { actions = a; variables = v; automata = n }) ≡ size_of (open_table t)
   unfolding answered size_of
   size_counts h a v n i j o = go (open_table t) refl
     where
-      go : (q : Opened) → open_table t ≡ q → Counts a v n ≡ size_of (open_table t)
-      go (unopened row) g =
-          let never : C.Refused row ≡ C.Good = rw g at (sym e ∙ h) in
+      go : (q : Opened) → open_table t ≡ q → Ok (record { actions = a; variables = v; automata = n }) ≡ size_of (open_table t)
+      go (unopened other) g =
+          let never : ◌≡◌ {A = Result ⊤ Row} (Err (row other)) (Ok tt) = rw g at (sym e ∙ h) in
           cc
       go (opened m) g =
           let sheet = sheet_of t m g in

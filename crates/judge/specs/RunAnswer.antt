@@ -1,15 +1,17 @@
 -- A list of proposals put to the judges over one table, as a caller gives it: three lists, and room for the answers and
 -- for the state at the end.
 use Rattle.std.specs.Prelude.{Bool, true, false, not, cond, ◌&&◌, List, [], ◌∷◌, map, ℕ, ◌*◌, ℤ, length, take, drop}
-use Rattle.std.specs.Prelude.{eqb, ltb, leb}
+use Rattle.std.specs.Prelude.{eqb, ltb, leb, Result, Ok, Err}
 use Rattle.std.proofs.Math.Option.{none, some}
 use Rattle.model.specs.Model.{Model}
 use Rattle.model.specs.Table.{unopened, opened, open_table}
 use Rattle.model.specs.Rules.{State}
 use Rattle.model.specs.Judge.{Answer, phase_of, row21, row22, row23}
 use Rattle.model.specs.Runs.{Proposal, to_step, to_environment, table_judge, Run, run}
-use Rattle.judge_runs.specs.declared.Ran.{Ran}
-use Rattle.judge_runs.specs.declared.Ran.TheVariants.{Ended, Refused, Uneven, AnswersShort, EndShort}
+use Rattle.model.specs.Row.{row}
+use Rattle.judge_rows.specs.declared.Phase.{Phase}
+use Rattle.judge_runs.specs.declared.RunError.{RunError}
+use Rattle.judge_runs.specs.declared.RunError.TheVariants.{Refused, Uneven, AnswersShort, EndShort}
 use Rattle.judge_rows.specs.Phases.{phase_for}
 use Rattle.judge_call.specs.Answers.{answer_number}
 use Rattle.judge_turn.specs.Turns.{environment_mark}
@@ -78,12 +80,12 @@ run_answer table phase locations values actions new_locations new_values answers
     ]
 
 -- what the code gives back
-unfoldable pub ran_of : RunAnswer → Ran
-ran_of (not_run row) = Refused row
-ran_of uneven = Uneven
-ran_of answers_short = AnswersShort
-ran_of end_short = EndShort
-ran_of (ran r) = Ended (phase_for r.end.phase)
+unfoldable pub ran_of : RunAnswer → Result Phase RunError
+ran_of (not_run n) = Err (Refused (row n))
+ran_of uneven = Err Uneven
+ran_of answers_short = Err AnswersShort
+ran_of end_short = Err EndShort
+ran_of (ran r) = Ok (phase_for r.end.phase)
 
 -- Lent memory afterwards: what a run gives stands at its front; a list that is not run leaves it as it was.
 unfoldable pub lent_after : {A : Type 0} → (Run Answer → List A) → RunAnswer → List A → List A

@@ -9,8 +9,8 @@ ghost use Rattle.judge.specs.TableSize.{size_of};
 
 pub use judge_call::{Answer, environment, number, step};
 pub use judge_rows::{Phase, State, phase_number};
-pub use judge_runs::Ran;
-use model::Checked;
+pub use judge_runs::RunError;
+use model::Row;
 
 // Puts a list of proposals to the judges, over one check of the table and one walk over it. For each: its action, or
 // 4294967295 for the environment judge; its locations, which that judge does not read; its values. A yes moves the run
@@ -27,7 +27,7 @@ pub fn run(
     answers: &mut [u32],
     end_locations: &mut [u32],
     end_values: &mut [i32],
-) -> Ran
+) -> Result<Phase, RunError>
     ensures value { result ≡ ran_of (run_answer table.now phase locations.now values.now
         actions.now new_locations.now new_values.now
         (length answers.old) (length end_locations.old) (length end_values.old)) }
@@ -44,9 +44,7 @@ pub fn run(
         new_values.now (length answers.old) (length end_locations.old)
         (length end_values.old)) end_values.old }
 {
-    if let Checked::Refused(row) = table_check::check(table) {
-        return Ran::Refused(row);
-    }
+    table_check::check(table)?;
     judge_runs::over(
         table,
         phase,
@@ -61,21 +59,22 @@ pub fn run(
     )
 }
 
-// How many actions (the silent one not counted), variables and automata a table has; or the row that refuses it.
-#[derive(Clone, Copy)]
-pub enum Counted {
-    Counts(usize, usize, usize),
-    Refused(u32),
+// How many actions (the silent one not counted), variables and automata a table has.
+#[derive(Clone, Copy, Debug, PartialEq, Eq)]
+pub struct TableSize {
+    pub actions: usize,
+    pub variables: usize,
+    pub automata: usize,
 }
 
-pub fn size(table: &[u32]) -> Counted
+// Those of the table, or the row that refuses it.
+pub fn size(table: &[u32]) -> Result<TableSize, Row>
     ensures { result ≡ size_of (open_table table.now) }
 {
-    if let Checked::Refused(row) = table_check::check(table) {
-        return Counted::Refused(row);
-    }
-    let actions = table_places::actions(table);
-    let variables = table_places::variables(table);
-    let automata = table_places::automata(table);
-    Counted::Counts(actions, variables, automata)
+    table_check::check(table)?;
+    Ok(TableSize {
+        actions: table_places::actions(table),
+        variables: table_places::variables(table),
+        automata: table_places::automata(table),
+    })
 }

@@ -1,50 +1,33 @@
 -- How many edges parts need: an edge lowers the number by no more than one, so BoundLaws says how many a cover has. And each way out of src/parts.rt.
 use mathlib.Core.Path.{◌≡◌, refl, sym, ap, ◌∙◌, subst}
-use mathlib.Core.Bool.{Bool, true, false, true≢false, ◌&&◌}
+use mathlib.Core.Bool.{Bool, true, false}
 use mathlib.Core.List.Memᴰ
 use mathlib.Core.List.{List, [], ◌∷◌, ◌++◌, Memᴰ}
 use mathlib.Core.Logic.{◌⊎◌, inl, inr}
-use Prim.Native.Nat.{ℕ, suc, ◌+◌, ◌-◌, ◌*◌, ◌/◌, ◌^◌, ◌≤◌, ◌<◌}
+use Prim.Native.Nat.{ℕ, suc, ◌+◌, ◌-◌, ◌*◌, ◌/◌, ◌%◌, ◌^◌, ◌≤◌, ◌<◌, min}
 use native.Mathlib.Omega.{arith}
-use native.Mathlib.Nat.{div-eq_of_lt, div-le_self, div-lt_iff_lt-mul, lt-mul-div-succ, mul-add, mul-one, mul_comm, add-mul}
+use native.Mathlib.Nat.{div-eq_of_lt, div-le_self, div-lt_iff_lt-mul, le-div_iff_mul-le, lt-mul-div-succ}
+use native.Mathlib.Nat.{mul-add, mul-one, mul_comm, add-mul, one-mul}
+use Rattle.std.proofs.lemmas.Grind.{div_ceil_times}
 use lib.ListN.{length, get_or}
 use lib.Bits.{bit_and, and_self, and_zero_r}
 use lib.Count.{ones, ones_in, ones-le}
 use lib.Dec.{ltb}
 use borrow.Author.Tests.{ltb-true}
 use Rattle.model.specs.Table.{bit}
-use Rattle.model.proofs.Tests.{and_left, and_right}
-use Rattle.judge_cover.specs.Cover.{coverable, group, groups_of, within}
+use Rattle.judge_cover.specs.Cover.{coverable, group, groups_of}
 use Rattle.judge_cover.proofs.BitLaws.{and_assoc, and_swap, parts_cover_less}
 use Rattle.judge_cover.proofs.CodeLaws.{other}
 use Rattle.judge_cover.proofs.CoverLaws.{within_is}
-use Rattle.judge_bounds.specs.Bounds.{takers_to, groups_to, Fits, AllFit, Fitted, EdgeFitted, GroupFitted, TakerFitted, TakersFit, AtLeast, Sound, pieces}
+use Rattle.std.specs.Prelude.{Some, None}
+use Rattle.judge_bounds.specs.Bounds.{takers_to, groups_to, Fits, AllFit, EdgeFitted, GroupFitted}
+use Rattle.judge_bounds.specs.Bounds.{TakerFitted, TakersFit, AtLeast, Sound, pieces}
 use Rattle.judge_bounds.proofs.BoundLaws.{Lowers, lowered_all, lowered_done, groups_more, groups_same, groups_none, groups_all, groups_length, each_edge}
 
 -- `fit`, `fit_all`, `fit_of`, `most`
 pub fits_more : (part out m n r : ℕ) → m ≤ n → Fits part out m r → Fits part out n r
 fits_more part out m n r l (inl e) = inl e
 fits_more part out m n r l (inr (e, h)) = inr (e, omega arith)
-
--- a failure
-none_fits : (P : ℕ → Type 0) (m r : ℕ) → r ≡ 0 → Fitted P m r
-none_fits P m r e = record { holds = λ h. absurd (omega arith); grown = λ h. absurd (omega arith); small = λ h. omega arith }
-
-module _ (part out edge m : ℕ) where
-  pub fit_failed : (r : ℕ) → r ≡ 0 → EdgeFitted part out edge m r
-  fit_failed r e = record { fitted = none_fits (λ n. Fits part out n edge) m r e }
-
-  pub fit_none : bit_and part edge ≡ part → EdgeFitted part out edge m m
-  fit_none e = record { fitted = record { holds = λ h. inl e; grown = λ h. omega arith; small = λ h. h } }
-
-  module _ (e : bit_and out edge ≡ out) (g : ℕ) (h : ones part ≤ g + ones (bit_and part edge)) (l : g ≤ 64) where
-    pub fit_more : m < g → EdgeFitted part out edge m g
-    fit_more k = record { fitted = record { holds = λ p. inr (e, h); grown = λ p. omega arith; small = λ p. l } }
-
-    pub fit_same : g ≤ m → EdgeFitted part out edge m m
-    fit_same k = record { fitted = record { holds = λ p. inr (e, omega arith); grown = λ p. omega arith; small = λ p. p } }
-
-pub ruleset fit_laws = (fit_failed, fit_none, fit_more, fit_same)
 
 pub record Fitting (masks : List ℕ) (from part out least m i : ℕ) : Type 0 where
   pub grown : least ≤ m
@@ -56,44 +39,30 @@ module _ (masks : List ℕ) (from part out least : ℕ) where
   fitting_first = record { grown = omega arith; small = λ h. h; each = λ j l h. absurd (omega arith) }
 
   module _ (m i : ℕ) (s : Fitting masks from part out least m i) where
-    pub fitting_more : (r n : ℕ) → r ≡ get_or masks i 0 → EdgeFitted part out r m n → 0 < n → Fitting masks from part out least n (i + 1)
-    fitting_more r n er f p = record {
-      grown = omega (arith, s.grown, f.fitted.grown p);
+    pub fitting_more : (r n : ℕ) → r ≡ get_or masks i 0 → EdgeFitted part out r m (Some n)
+        → Fitting masks from part out least n (i + 1)
+    fitting_more r n er f = record {
+      grown = omega (arith, s.grown, f.fitted.grown);
       small = λ h. f.fitted.small (s.small h);
       each = λ j a b. elim (other j i b) [
-        | inl e ↦ subst (Fits part out n) (er ∙ ap (λ x. get_or masks x 0) (sym e)) (f.fitted.holds p)
-        | inr e ↦ fits_more part out m n (get_or masks j 0) (f.fitted.grown p) (s.each j a e)
+        | inl e ↦ subst (Fits part out n) (er ∙ ap (λ x. get_or masks x 0) (sym e)) f.fitted.holds
+        | inr e ↦ fits_more part out m n (get_or masks j 0) f.fitted.grown (s.each j a e)
       ];
     }
 
-    pub fitting_done : (to : ℕ) → to ≤ i → GroupFitted part out (group masks from to) least m
-    fitting_done to h = record { fitted = record { holds = λ p. each_edge (Fits part out m) masks from to i h s.each; grown = λ p. s.grown; small = s.small } }
+    pub fitting_done : (to : ℕ) → to ≤ i → GroupFitted part out (group masks from to) least (Some m)
+    fitting_done to h = record {
+      fitted = record {
+        holds = each_edge (Fits part out m) masks from to i h s.each;
+        grown = s.grown;
+        small = s.small;
+      };
+    }
 
-  pub fitting_failed : (to r : ℕ) → r ≡ 0 → GroupFitted part out (group masks from to) least r
-  fitting_failed to r e = record { fitted = none_fits (λ n. AllFit part out n (group masks from to)) least r e }
-
-pub fits_taker : (masks first : List ℕ) (takers k part out least m a b : ℕ) → a ≡ get_or first k 0 → b ≡ get_or first (k + 1) 0
-    → GroupFitted part out (group masks a b) least m → TakerFitted masks first takers k part out least m
-fits_taker masks first takers k part out least m a b ea eb h = record {
-  fitted = record {
-    holds = λ p. record { each = λ t. rw (← ea, ← eb) (h.fitted.holds p) };
-    grown = h.fitted.grown;
-    small = h.fitted.small;
-  };
-}
-
-pub fits_other : (masks first : List ℕ) (takers k part out m : ℕ) (t : Bool) → t ≡ bit takers k → t ≡ false → TakerFitted masks first takers k part out m m
-fits_other masks first takers k part out m t e f = record {
-  fitted = record {
-    holds = λ p. record { each = λ h. absurd (true≢false (sym h ∙ sym e ∙ f)) };
-    grown = λ p. omega arith;
-    small = λ p. p;
-  };
-}
+  pub fitting_failed : (to : ℕ) → GroupFitted part out (group masks from to) least None
+  fitting_failed to = record { fitted = tt }
 
 pub ruleset fitting_laws = (fitting_first, fitting_more, fitting_done, fitting_failed)
-
-pub ruleset fits_laws = (fits_taker, fits_other)
 
 -- the groups of the first k automata
 pub record Spreading (masks first : List ℕ) (takers part out m k : ℕ) : Type 0 where
@@ -125,15 +94,21 @@ module _ (masks first : List ℕ) (takers part out : ℕ) where
   }
 
   module _ (m k : ℕ) (s : Spreading masks first takers part out m k) where
-    pub spreading_more : k < 16 → (n : ℕ) → TakerFitted masks first takers k part out m n → 0 < n
+    pub spreading_more : k < 16 → (n : ℕ) → TakerFitted masks first takers k part out m (Some n)
         → Spreading masks first takers part out n (k + 1)
-    spreading_more h n f p = record { low = omega arith; some = p; small = f.fitted.small s.small; each = go (bit takers k) refl }
+    spreading_more h n f = record {
+      low = omega arith;
+      some = omega (arith, s.some, f.fitted.grown);
+      small = f.fitted.small s.small;
+      each = go (bit takers k) refl;
+    }
       where
         before : (g : List ℕ) → Memᴰ g (groups_to masks first takers k) → AllFit part out n g
-        before x i r j = fits_more part out m n r (f.fitted.grown p) (s.each x i r j)
+        before x i r j = fits_more part out m n r f.fitted.grown (s.each x i r j)
 
         go : (b : Bool) → bit takers k ≡ b → (g : List ℕ) → Memᴰ g (groups_to masks first takers (k + 1)) → AllFit part out n g
-        go true e = rw (groups_more masks first takers k e) (each_more (AllFit part out n) (groups_to masks first takers k) _ before ((f.fitted.holds p).each e))
+        go true e = rw (groups_more masks first takers k e)
+            (each_more (AllFit part out n) (groups_to masks first takers k) _ before (f.fitted.holds.each e))
         go false e = rw (groups_same masks first takers k e) before
 
     pub spreading_done : 16 ≤ k → TakersFit masks first takers part out m
@@ -142,27 +117,31 @@ module _ (masks first : List ℕ) (takers part out : ℕ) where
         let e : k ≡ 16 = omega arith in
         record { each = λ g i. s.each g (subst (Memᴰ g) (sym (ap (groups_to masks first takers) e ∙ groups_all masks first takers)) i) }
 
-pub most_none : (masks first : List ℕ) (takers part out r : ℕ) → r ≡ 0 → 0 < r → TakersFit masks first takers part out r
-most_none masks first takers part out r e h = absurd (omega arith)
-
-pub ruleset spreading_laws = (spreading_first, spreading_more, spreading_done, most_none)
+pub ruleset spreading_laws = (spreading_first, spreading_more, spreading_done)
 
 -- How many edges a set needs falls by no more than one where one edge is added.
 pieces_zero : (m : ℕ) → 0 < m → pieces m 0 ≡ 0
 unfolding pieces ones ones_in
 pieces_zero m p = div-eq_of_lt (omega arith)
 
-pub pieces_is : (m part x : ℕ) → x ≡ ones part → (x + (m - 1)) / m ≡ pieces m part
-unfolding pieces
-pieces_is m part x e = ap (λ y. (y + (m - 1)) / m) e
+-- the library rounds up to the same number
+ceil_is : (m x : ℕ) → 0 < m → x / m + min 1 (x % m) ≡ (x + (m - 1)) / m
+ceil_is m x p =
+    let q = x / m + min 1 (x % m) in
+    let t = div_ceil_times x m p in
+    let low : x ≤ q * m = t.0 in
+    let high : q * m < x + m = t.1 in
+    let a : q ≤ (x + (m - 1)) / m = (le-div_iff_mul-le p).1 (omega arith) in
+    let b : (x + (m - 1)) / m < q + 1 = (div-lt_iff_lt-mul p).1 (omega (arith, add-mul q 1 m, one-mul m)) in
+    omega arith
 
-pub pieces_few : (m part x : ℕ) → part < 2 ^ 64 → x ≡ ones part → m ≤ 64 → (x + (m - 1)) / m ≤ 128
-pieces_few m part x h e l = omega (arith, div-le_self (x + (m - 1)) m, ones-le 64 part h)
+module _ (m part x q : ℕ) (p : 0 < m) (e : x ≡ ones part) (eq : q ≡ x / m + min 1 (x % m)) where
+  pub pieces_is : q ≡ pieces m part
+  unfolding pieces
+  pieces_is = eq ∙ ceil_is m x p ∙ ap (λ y. (y + (m - 1)) / m) e
 
-pub pieces_fit : (m part x : ℕ) → part < 2 ^ 64 → x ≡ ones part → m ≤ 64 → x + (m - 1) < 2 ^ 64
-pieces_fit m part x h e l = omega (arith, ones-le 64 part h)
-
-pub ruleset pieces_laws = (pieces_is, pieces_few, pieces_fit)
+  pub pieces_few : part < 2 ^ 64 → m ≤ 64 → q ≤ 128
+  pieces_few h l = omega (arith, ceil_is m x p, div-le_self (x + (m - 1)) m, ones-le 64 part h)
 
 fewer : (m x y : ℕ) → 0 < m → x ≤ m + y → (x + (m - 1)) / m ≤ suc ((y + (m - 1)) / m)
 fewer m x y p h =
@@ -236,18 +215,6 @@ module _ (gs : List (List ℕ)) (u rest need : ℕ) (c : Counted gs u rest need)
     inside = inner out rest u out-in c.inside;
   }
 
--- `sound`
-pub sound_is : (rest part out m : ℕ) (a b c : Bool) → a ≡ within part rest → a ≡ true → b ≡ within out rest → b ≡ true → c ≡ true
-    → c ≡ (ltb out rest && ltb 0 m) → Sound rest part out m
-sound_is rest part out m a b c ea ha eb hb hc ec =
-    let both = sym ec ∙ hc in
-    record {
-      inside = sym ea ∙ ha;
-      outside = sym eb ∙ hb;
-      less = ltb-true out rest (and_left (ltb out rest) (ltb 0 m) both);
-      some = ltb-true 0 m (and_right (ltb out rest) (ltb 0 m) both);
-    }
-
 -- `needed`
 pub record Needing (masks first : List ℕ) (takers u need rest : ℕ) : Type 0 where
   pub small : need ≤ 144
@@ -258,11 +225,13 @@ module _ (masks first : List ℕ) (takers u : ℕ) where
   needing_first = record { small = omega arith; counted = counted_first (groups_of masks first takers) u }
 
   module _ (need rest : ℕ) (s : Needing masks first takers u need rest) where
-    pub needing_more : (part out m n : ℕ) → need ≤ 16 → Sound rest part out m
-        → (0 < m → TakersFit masks first takers part out m) → n ≡ pieces m part → n ≤ 128 → Needing masks first takers u (need + n) out
-    needing_more part out m n l x f e h = record {
+    pub needing_more : (part out m n : ℕ) → need ≤ 16 → Sound rest part out → 0 < m
+        → TakersFit masks first takers part out m → n ≡ pieces m part → n ≤ 128
+        → Needing masks first takers u (need + n) out
+    needing_more part out m n l x p f e h = record {
       small = omega arith;
-      counted = rw e (counted_more (groups_of masks first takers) u rest need s.counted part out m x.some (within_is part rest x.inside) (within_is out rest x.outside) (f x.some).each);
+      counted = rw e (counted_more (groups_of masks first takers) u rest need s.counted part out m p
+          (within_is part rest x.inside) (within_is out rest x.outside) f.each);
     }
 
     -- a cover has as many edges
@@ -284,8 +253,3 @@ short_is masks first takers u n need e a l = go (coverable (groups_of masks firs
     go : (b : Bool) → coverable (groups_of masks first takers) u ≡ b → b ≡ false
     go false x = refl
     go true x = absurd (omega (arith, a.enough x, ltb-true n need l, e, groups_length masks first takers))
-
--- `covered`
-pub covered_short : (masks first : List ℕ) (takers u : ℕ) (b : Bool) → (b ≡ true → coverable (groups_of masks first takers) u ≡ false) → b ≡ true
-    → false ≡ coverable (groups_of masks first takers) u
-covered_short masks first takers u b h e = sym (h e)

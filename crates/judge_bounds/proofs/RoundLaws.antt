@@ -1,57 +1,50 @@
 -- Each way out of src/edges.rt and src/rounds.rt.
 use mathlib.Core.Path.{◌≡◌, refl, sym, ap, ◌∙◌}
-use mathlib.Core.Bool.{Bool, true, false, true≢false}
+use mathlib.Core.Bool.{Bool, true, false}
 use mathlib.Core.List.{List, [], ◌∷◌}
 use mathlib.Core.Logic.{inl, inr}
-use Prim.Native.Nat.{ℕ, ◌+◌, ◌*◌, ◌≤◌, ◌<◌, max}
+use Prim.Native.Nat.{ℕ, zero, suc, ◌+◌, ◌*◌, ◌/◌, ◌%◌, ◌^◌, ◌≤◌, ◌<◌, max}
 use native.Mathlib.Omega.{arith}
 use lib.ListN.{length, get_or, length-append}
 use lib.Bits.{bit_and, and_self, and_zero_r}
+use lib.Count.{ones, ones_cat, ones-ones}
+use lib.Pow.{pow_pos, mod-pow-add}
+use native.Mathlib.Nat.{mod-lt}
+use native.Mathlib.Numerals.{add-one, one-add}
+use borrow.Author.Tests.{eqb-true, eqb-false}
 use Rattle.model.specs.Basic.{keep, count_up}
 use Rattle.model.specs.Table.{bit}
 use Rattle.judge_cover.specs.Cover.{coverable, group, groups_of}
-use Rattle.judge_cover.specs.Steps.{advanced}
 use Rattle.judge_cover.proofs.CodeLaws.{other}
 use Rattle.judge_bounds.specs.Bounds.{takers_to, groups_to, weight, covers, TakesAtMost, TakerTakes}
 use Rattle.judge_bounds.proofs.BoundLaws.{Lowered, lowered_none, lowered_one, lowered_append, lowered_done, takers_more, takers_same, groups_more, groups_same, groups_none, groups_all, each_edge}
 use Rattle.judge_bounds.proofs.WeightLaws.{weight_zero, weight_lowers}
 
 -- `count`
-pub record Taking (takers n k : ℕ) : Type 0 where
-  pub low : k ≤ 16
-  pub few : n ≤ k
-  pub size : n ≡ length (takers_to takers k)
+more_bits : (takers n : ℕ) → ones (takers % 2 ^ n) ≡ length (takers_to takers n) → (b : Bool) → bit takers n ≡ b
+    → ones (takers % 2 ^ suc n) ≡ length (takers_to takers (suc n))
+unfolding bit
+more_bits takers n few true e =
+    let high = takers / 2 ^ n % 2 in
+    let h : high ≡ 1 = eqb-true high 1 e in
+    let s = ap (λ k. ones (takers % 2 ^ k)) (sym (one-add n)) ∙ ap ones (mod-pow-add takers 1 n)
+    ∙ ones_cat n high (takers % 2 ^ n) (mod-lt takers (pow_pos n)) in
+    let t = ap length (takers_more takers n e) ∙ length-append (takers_to takers n) (n ∷ []) in
+    omega (arith, few, s, ap ones h, ones-ones 1, t, ap (λ k. length (takers_to takers k)) (add-one n))
+more_bits takers n few false e =
+    let high = takers / 2 ^ n % 2 in
+    let h : high ≡ 0 = omega (arith, eqb-false high 1 e) in
+    let s = ap (λ k. ones (takers % 2 ^ k)) (sym (one-add n)) ∙ ap ones (mod-pow-add takers 1 n)
+    ∙ ones_cat n high (takers % 2 ^ n) (mod-lt takers (pow_pos n)) in
+    let t = ap length (takers_same takers n e) in
+    omega (arith, few, s, ap ones h, ones-ones 0, t, ap (λ k. length (takers_to takers k)) (add-one n))
 
-pub taking_first : (takers : ℕ) → Taking takers 0 0
+pub count_is : (takers n : ℕ) → ones (takers % 2 ^ n) ≡ length (takers_to takers n)
 unfolding takers_to keep count_up
-taking_first takers = record { low = omega arith; few = omega arith; size = refl }
-
-pub taking_more : (takers n k : ℕ) → Taking takers n k → k < 16 → (b : Bool) → b ≡ bit takers k → (m : ℕ) → m ≡ advanced n b → Taking takers m (k + 1)
-unfolding advanced
-taking_more takers n k s h b e m em = go b e m em
-  where
-    few : n ≤ k
-    few = s.few
-
-    go : (b : Bool) → b ≡ bit takers k → (m : ℕ) → m ≡ advanced n b → Taking takers m (k + 1)
-    go true e m em = record {
-      low = omega arith;
-      few = omega arith;
-      size = em ∙ ap (λ x. x + 1) s.size ∙ sym (length-append (takers_to takers k) (k ∷ [])) ∙ ap length (sym (takers_more takers k (sym e)));
-    }
-    go false e m em = record {
-      low = omega arith;
-      few = omega arith;
-      size = em ∙ s.size ∙ ap length (sym (takers_same takers k (sym e)));
-    }
-
-pub taking_done : (takers n k : ℕ) → Taking takers n k → 16 ≤ k → n ≡ length (takers_to takers 16)
-taking_done takers n k s h =
-    let low = s.low in
-    let e : k ≡ 16 = omega arith in
-    s.size ∙ ap (λ j. length (takers_to takers j)) e
-
-pub ruleset taking_laws = (taking_first, taking_more, taking_done)
+count_is takers zero =
+    let z : takers % 2 ^ 0 ≡ 0 = omega arith in
+    ap ones z ∙ ones-ones 0
+count_is takers (suc n) = more_bits takers n (count_is takers n) (bit takers n) refl
 
 -- `best`: no edge before place i covers more
 pub record Choosing (masks : List ℕ) (from : ℕ) (ws : List ℕ) (u took i : ℕ) : Type 0 where
@@ -76,17 +69,6 @@ module _ (masks : List ℕ) (from : ℕ) (ws : List ℕ) (u : ℕ) where
   choosing_done took i to s h = each_edge (λ r. weight ws (covers u r) ≤ took) masks from to i h s.each
 
 pub ruleset choosing_laws = (choosing_first, choosing_more, choosing_done)
-
--- `best_of`
-pub takes_taker : (masks first : List ℕ) (takers k : ℕ) (ws : List ℕ) (u took a b : ℕ) → a ≡ get_or first k 0 → b ≡ get_or first (k + 1) 0
-    → TakesAtMost ws u (group masks a b) took → TakerTakes masks first takers k ws u took
-takes_taker masks first takers k ws u took a b ea eb h = record { each = λ t. rw (← ea, ← eb) h }
-
-pub takes_other : (masks first : List ℕ) (takers k : ℕ) (ws : List ℕ) (u took : ℕ) (t : Bool) → t ≡ bit takers k → t ≡ false
-    → TakerTakes masks first takers k ws u took
-takes_other masks first takers k ws u took t e f = record { each = λ h. absurd (true≢false (sym h ∙ sym e ∙ f)) }
-
-pub ruleset takes_laws = (takes_taker, takes_other)
 
 -- `round`
 pub record Summing (masks first : List ℕ) (takers : ℕ) (ws : List ℕ) (u total k : ℕ) : Type 0 where

@@ -3,13 +3,11 @@ use mathlib.Core.Path.{◌≡◌, refl, sym, ap, ap₂, ◌∙◌}
 use mathlib.Core.List.{List, [], ◌∷◌}
 use Prim.Native.Nat.{ℕ, zero, suc, ◌+◌, ◌-◌, ◌*◌, ◌/◌, ◌%◌, ◌^◌, ◌≤◌, ◌<◌, min}
 use native.Mathlib.Omega.{arith}
-use native.Mathlib.Numerals.{add-one}
 use native.Mathlib.Nat.{pow-succ', div-one, mul-one, zero-mul, one-mul, div-div-eq-div-mul, mul_left_comm, add-mul, mul-le-mul_right}
-use lib.ListN.{length, get_or, drop, drop_of_length-le}
-use lib.Seq.{get_or-drop, drop-drop}
-use lib.Bits.{bit_and, and_step, and_le_l}
-use lib.Count.{count_trailing_zeros, under, trailing_le}
-use Rattle.model.proofs.Lists.{word_past}
+use lib.ListN.{length, get_or}
+use lib.Pow.{pow_pos}
+use lib.Bits.{bit_and, and_step, and_le_l, and_self}
+use lib.Count.{count_trailing_zeros, under}
 use Rattle.judge_cover.proofs.BitLaws.{halves, and_assoc}
 use Rattle.judge_bounds.specs.Bounds.{weight, Lowest, covers, TakesAtMost}
 use Rattle.judge_bounds.proofs.BoundLaws.{Lowers}
@@ -98,57 +96,88 @@ lowest_is u small some =
     let x = lowest_split 64 u small some in
     record { small = x.0; split = x.1 }
 
-pub lowest_fits : (u : ℕ) → count_trailing_zeros 64 u < 2 ^ 64
-lowest_fits u = omega (arith, trailing_le 64 u)
-
--- `weight_of`
-pub weight_past : (ws : List ℕ) (k : ℕ) → length ws ≡ 64 → 64 ≤ k → 0 ≡ get_or ws k 0
-weight_past ws k e h = word_past ws k (omega arith)
-
--- `weigh`: the weight of a set by its first variable and those after it
-weight_first : (k : ℕ) (ws : List ℕ) (q : ℕ) → weight ws ((q * 2 + 1) * 2 ^ k) ≡ get_or ws k 0 + weight (drop (suc k) ws) q
-weight_first zero [] q = omega (arith, weight_nil ((q * 2 + 1) * 2 ^ 0), weight_nil q)
-weight_first (suc k) [] q = omega (arith, weight_nil ((q * 2 + 1) * 2 ^ suc k), weight_nil q)
+-- `weigh`: the weight of a set is that of its first variable and of the others
+weight_first : (k : ℕ) (ws : List ℕ) (q : ℕ) → weight ws ((q * 2 + 1) * 2 ^ k)
+    ≡ get_or ws k 0 + weight ws (q * 2 * 2 ^ k)
+weight_first zero [] q = omega (arith, weight_nil ((q * 2 + 1) * 2 ^ 0), weight_nil (q * 2 * 2 ^ 0))
+weight_first (suc k) [] q = omega (arith, weight_nil ((q * 2 + 1) * 2 ^ suc k), weight_nil (q * 2 * 2 ^ suc k))
 weight_first zero (w ∷ ws) q =
     let n : (q * 2 + 1) * 2 ^ 0 ≡ q * 2 + 1 = mul-one (q * 2 + 1) in
+    let m : q * 2 * 2 ^ 0 ≡ q * 2 = mul-one (q * 2) in
     let a : (q * 2 + 1) % 2 ≡ 1 = omega arith in
     let b : (q * 2 + 1) / 2 ≡ q = omega arith in
-    ap (weight (w ∷ ws)) n ∙ weight_step w ws (q * 2 + 1) ∙ ap₂ (λ x y. x * w + weight ws y) a b ∙ ap (λ x. x + weight ws q) (one-mul w)
+    let c : (q * 2) % 2 ≡ 0 = omega arith in
+    let d : (q * 2) / 2 ≡ q = omega arith in
+    let e = ap (weight (w ∷ ws)) n ∙ weight_step w ws (q * 2 + 1) ∙ ap₂ (λ x y. x * w + weight ws y) a b in
+    let f = ap (weight (w ∷ ws)) m ∙ weight_step w ws (q * 2) ∙ ap₂ (λ x y. x * w + weight ws y) c d in
+    omega (arith, e, f, zero-mul w, one-mul w)
 weight_first (suc k) (w ∷ ws) q =
-    let x = (q * 2 + 1) * 2 ^ k in
-    let n : (q * 2 + 1) * 2 ^ suc k ≡ 2 * x = ap (λ n. (q * 2 + 1) * n) (pow-succ' 2 k) ∙ mul_left_comm (q * 2 + 1) 2 (2 ^ k) in
-    let a : (2 * x) % 2 ≡ 0 = omega arith in
-    let b : (2 * x) / 2 ≡ x = omega arith in
-    ap (weight (w ∷ ws)) n ∙ weight_step w ws (2 * x) ∙ ap₂ (λ x y. x * w + weight ws y) a b ∙ omega (arith, zero-mul w, weight_first k ws q)
+    let e = even w ws k (q * 2 + 1) in
+    let f = even w ws k (q * 2) in
+    omega (arith, e, f, weight_first k ws q)
+  where
+    even : (w : ℕ) (ws : List ℕ) (k n : ℕ) → weight (w ∷ ws) (n * 2 ^ suc k) ≡ weight ws (n * 2 ^ k)
+    even w ws k n =
+        let x = n * 2 ^ k in
+        let twice : n * 2 ^ suc k ≡ 2 * x = ap (λ p. n * p) (pow-succ' 2 k) ∙ mul_left_comm n 2 (2 ^ k) in
+        let a : (2 * x) % 2 ≡ 0 = omega arith in
+        let b : (2 * x) / 2 ≡ x = omega arith in
+        ap (weight (w ∷ ws)) twice ∙ weight_step w ws (2 * x) ∙ ap₂ (λ x y. x * w + weight ws y) a b
+        ∙ omega (arith, zero-mul w)
 
-pub record Weighing (ws : List ℕ) (set total rest at : ℕ) : Type 0 where
-  pub low : at ≤ 128
-  pub small : total ≤ 65535 * at
-  pub same : total + weight (drop at ws) rest ≡ weight ws set
+-- `x & (x - 1)` is x without its first variable
+others : (k q : ℕ) → bit_and ((q * 2 + 1) * 2 ^ k) ((q * 2 + 1) * 2 ^ k - 1) ≡ q * 2 * 2 ^ k
+others zero q =
+    let n : (q * 2 + 1) * 2 ^ 0 ≡ q * 2 + 1 = mul-one (q * 2 + 1) in
+    let m : q * 2 * 2 ^ 0 ≡ q * 2 = mul-one (q * 2) in
+    let a : (q * 2 + 1) / 2 ≡ q = omega arith in
+    let b : (q * 2 + 1 - 1) / 2 ≡ q = omega arith in
+    let s = and_step (q * 2 + 1) (q * 2 + 1 - 1) in
+    let h : bit_and ((q * 2 + 1) / 2) ((q * 2 + 1 - 1) / 2) ≡ q = ap₂ bit_and a b ∙ and_self q in
+    ap (λ x. bit_and x (x - 1)) n ∙ omega (arith, s, h, m)
+others (suc k) q =
+    let y = (q * 2 + 1) * 2 ^ k in
+    let z = q * 2 * 2 ^ k in
+    let some : 0 < y = omega (arith, pow_pos k, mul-le-mul_right (2 ^ k) (one_up q)) in
+    let n : (q * 2 + 1) * 2 ^ suc k ≡ 2 * y =
+    ap (λ p. (q * 2 + 1) * p) (pow-succ' 2 k) ∙ mul_left_comm (q * 2 + 1) 2 (2 ^ k) in
+    let m : q * 2 * 2 ^ suc k ≡ 2 * z = ap (λ p. q * 2 * p) (pow-succ' 2 k) ∙ mul_left_comm (q * 2) 2 (2 ^ k) in
+    let a : (2 * y) / 2 ≡ y = omega arith in
+    let b : (2 * y - 1) / 2 ≡ y - 1 = omega arith in
+    let s = and_step (2 * y) (2 * y - 1) in
+    let h : bit_and ((2 * y) / 2) ((2 * y - 1) / 2) ≡ z = ap₂ bit_and a b ∙ others k q in
+    ap (λ x. bit_and x (x - 1)) n ∙ omega (arith, s, h, m)
+  where
+    one_up : (q : ℕ) → 1 ≤ q * 2 + 1
+    one_up q = omega arith
 
-pub weighing_first : (ws : List ℕ) (set : ℕ) → Weighing ws set 0 set 0
-weighing_first ws set = record { low = omega arith; small = omega arith; same = omega arith }
+pub record Weighing (ws : List ℕ) (set total rest : ℕ) : Type 0 where
+  pub same : total + weight ws rest ≡ weight ws set
 
-module _ (ws : List ℕ) (set total rest at : ℕ) (s : Weighing ws set total rest at) where
-  pub weighing_more : at < 64 → (k w next : ℕ) → Lowest rest k → w ≡ get_or ws (at + k) 0 → w ≤ 65535 → next ≡ rest / 2 ^ k / 2
-      → Weighing ws set (total + w) next (at + (k + 1))
-  weighing_more h k w next f ew lw en =
-      let small = f.small in
-      let t = s.small in
-      let e : weight (drop at ws) rest ≡ w + weight (drop (at + (k + 1)) ws) next =
-      ap (weight (drop at ws)) f.split ∙ weight_first k (drop at ws) (rest / 2 ^ k / 2)
-      ∙ ap₂ (λ x y. x + y) (get_or-drop at ws k 0 ∙ sym ew)
-      (ap₂ weight (drop-drop (suc k) at ws ∙ ap (λ n. drop (at + n) ws) (sym (add-one k))) (sym en)) in
-      record { low = omega arith; small = omega arith; same = omega (arith, e, s.same) }
+pub weighing_first : (ws : List ℕ) (set : ℕ) → Weighing ws set 0 set
+weighing_first ws set = record { same = omega arith }
+
+-- no set weighs more than all variables
+weight_small : (ws : List ℕ) → ((k : ℕ) → get_or ws k 0 < 65536) → (set : ℕ) → weight ws set ≤ 65535 * length ws
+weight_small [] h set = omega (arith, weight_nil set)
+weight_small (w ∷ ws) h set =
+    let one : set % 2 ≤ 1 = omega arith in
+    let rest = weight_small ws (λ k. h (suc k)) (set / 2) in
+    omega (arith, weight_step w ws set, mul-le-mul_right w one, one-mul w, h 0, rest)
+
+module _ (ws : List ℕ) (set total rest : ℕ) (s : Weighing ws set total rest) where
+  pub weighing_more : (k w : ℕ) → Lowest rest k → w ≡ get_or ws k 0
+      → Weighing ws set (total + w) (bit_and rest (rest - 1))
+  weighing_more k w f ew =
+      let q = rest / 2 ^ k / 2 in
+      let e = ap (weight ws) f.split ∙ weight_first k ws q in
+      let o = ap (λ x. bit_and x (x - 1)) f.split ∙ others k q in
+      record { same = omega (arith, s.same, ew, e, ap (weight ws) o) }
 
   pub weighing_done : rest ≡ 0 → total ≡ weight ws set
-  weighing_done e = omega (arith, s.same, ap (weight (drop at ws)) e, weight_zero (drop at ws))
+  weighing_done e = omega (arith, s.same, ap (weight ws) e, weight_zero ws)
 
-  -- Past the last weight nothing weighs.
-  pub weighing_past : length ws ≡ 64 → 64 ≤ at → total ≡ weight ws set
-  weighing_past e l = omega (arith, s.same, ap (λ x. weight x rest) (drop_of_length-le ws {i = at} (omega arith)), weight_nil rest)
+  pub weighing_small : length ws ≡ 64 → ((k : ℕ) → get_or ws k 0 < 65536) → total ≤ 8388480
+  weighing_small len h = omega (arith, s.same, len, weight_small ws h set)
 
-  pub weighing_small : total ≤ 8388480
-  weighing_small = omega (arith, s.small, s.low)
-
-pub ruleset weighing_laws = (weighing_first, weighing_more, weighing_done, weighing_past, weighing_small)
+pub ruleset weighing_laws = (weighing_first, weighing_more, weighing_done)

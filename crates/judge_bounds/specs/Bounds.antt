@@ -1,6 +1,7 @@
 -- What the functions that count promise each other. Sets of variables are numbers, bit K for variable K; an edge is the
 -- set of the variables that its update does not mention.
 use Rattle.std.specs.Prelude.{ℕ, suc, ◌+◌, ◌-◌, ◌*◌, ◌/◌, ◌%◌, ◌^◌, ◌≤◌, ◌<◌, ◌≡◌, true, ◌⊎◌, length, get_or}
+use Rattle.std.specs.Prelude.{Option, MatchOption}
 use mathlib.Core.List.{List, [], ◌∷◌, map, Memᴰ}
 use Rattle.std.specs.Int.Bits.{bit_and}
 use Rattle.std.specs.Int.Count.{ones}
@@ -51,32 +52,35 @@ pub record TakerFits (masks first : List ℕ) (takers k part out m : ℕ) : Type
 pub record TakersFit (masks first : List ℕ) (takers part out m : ℕ) : Type 0 where
   pub each : (g : List ℕ) → Memᴰ g (groups_of masks first takers) → AllFit part out m g
 
--- r is 0, or it is no less than m, and P holds of it
-pub record Fitted (P : ℕ → Type 0) (m r : ℕ) : Type 0 where
-  pub holds : 0 < r → P r
-  pub grown : 0 < r → m ≤ r
+-- r is no less than m, and P holds of it
+pub record Grown (P : ℕ → Type 0) (m r : ℕ) : Type 0 where
+  pub holds : P r
+  pub grown : m ≤ r
   pub small : m ≤ 64 → r ≤ 64
 
+-- r is none, or such a number
+abbrev pub Fitted : (P : ℕ → Type 0) (m : ℕ) (r : Option ℕ) → Type 0
+Fitted P m r = MatchOption r (Unit {0}) (Grown P m)
+
 -- that an edge fits; the edges of a group; those of automaton k
-pub record EdgeFitted (part out edge m r : ℕ) : Type 0 where
+pub record EdgeFitted (part out edge m : ℕ) (r : Option ℕ) : Type 0 where
   pub fitted : Fitted (λ n. Fits part out n edge) m r
 
-pub record GroupFitted (part out : ℕ) (g : List ℕ) (m r : ℕ) : Type 0 where
+pub record GroupFitted (part out : ℕ) (g : List ℕ) (m : ℕ) (r : Option ℕ) : Type 0 where
   pub fitted : Fitted (λ n. AllFit part out n g) m r
 
-pub record TakerFitted (masks first : List ℕ) (takers k part out m r : ℕ) : Type 0 where
+pub record TakerFitted (masks first : List ℕ) (takers k part out m : ℕ) (r : Option ℕ) : Type 0 where
   pub fitted : Fitted (TakerFits masks first takers k part out) m r
 
 -- how many edges a set needs, if none covers more than m of it
 unfoldable pub pieces : (m set : ℕ) → ℕ
 pieces m set = (ones set + (m - 1)) / m
 
--- A part and what is outside it are in the rest, of which less is left; m is no failure.
-pub record Sound (rest part out m : ℕ) : Type 0 where
+-- A part and what is outside it are in the rest, of which less is left.
+pub record Sound (rest part out : ℕ) : Type 0 where
   pub inside : within part rest ≡ true
   pub outside : within out rest ≡ true
   pub less : out < rest
-  pub some : 0 < m
 
 -- A cover of u has so many edges at least.
 pub record AtLeast (masks first : List ℕ) (takers u need : ℕ) : Type 0 where

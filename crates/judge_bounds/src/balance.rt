@@ -12,37 +12,28 @@ fn more(x: u16, step: u16) -> u16
 
 // A step less, if the test says so.
 fn less(x: u16, step: u16, test: bool) -> u16 {
-    if !test {
-        return x;
-    }
-    if x < step { 0 } else { x - step }
+    if test { x.saturating_sub(step) } else { x }
 }
 
 // All of them with a step more.
 pub(crate) fn heavier(weights: &[u16; 64], step: u16) -> [u16; 64]
-    requires weights_len { length weights.now ≡ 64 }
     requires step_bound { step ≤ 1000 }
     ensures { length result ≡ 64 }
 {
-    let mut next = [0u16; 64];
-    let mut k = 0;
-    while k < 64 {
-        next[k] = more(weights[k], step);
-        k += 1;
+    let mut next = *weights;
+    for w in next.iter_mut() {
+        *w = more(*w, step);
     }
     next
 }
 
 // Those of a set with a step less.
 pub(crate) fn lighten(weights: &mut [u16; 64], set: u64, step: u16)
-    requires { length weights.old ≡ 64 }
     ensures { length weights.new ≡ 64 }
 {
     let mut rest = set;
-    let mut k = 0;
-    while k < 64 {
-        weights[k] = less(weights[k], step, rest % 2 == 1);
-        rest = rest / 2;
-        k += 1;
+    for w in weights.iter_mut() {
+        *w = less(*w, step, rest % 2 == 1);
+        rest /= 2;
     }
 }

@@ -1,7 +1,6 @@
-// The takers' edges: those of automaton k stand from `first[k]` up to `first[k + 1]`.
-ghost use Rattle.std.specs.Prelude.{◌≡◌, ◌+◌, ◌≤◌, length};
+// The takers' edges.
+ghost use Rattle.std.specs.Prelude.{◌≡◌, ◌≤◌, length};
 ghost use Rattle.model.specs.Table.{bit};
-ghost use Rattle.judge_cover.specs.Steps.{advanced};
 ghost use Rattle.judge_bounds.specs.Bounds.{takers_to};
 
 use judge_cover::{place, size};
@@ -11,65 +10,55 @@ const TAKERS: usize = 6;
 
 const EDGES: usize = 48;
 
-// Does automaton k take the action?
-pub(crate) fn takes(takers: u64, k: usize) -> bool
-    requires { k ≤ 16 }
-    ensures { result ≡ bit takers k }
-{
-    table_tree::in_word(takers, k as u32)
+// The set of the automata that take an action, and all edges: automaton k's are `masks[first[k] .. first[k + 1]]`.
+#[derive(Clone, Copy)]
+pub(crate) struct Takers<'a> {
+    pub(crate) masks: &'a [u64],
+    pub(crate) first: &'a [usize],
+    pub(crate) set: u64,
 }
 
-// One more, if the test says so.
-fn one_more(n: usize, test: bool) -> usize
-    requires { n ≤ 16 }
-    ensures value { result ≡ advanced n test }
-    ensures upper_bound { result ≤ n + 1 }
-{
-    if test { n + 1 } else { n }
-}
+impl<'a> Takers<'a> {
+    // Does automaton k take the action?
+    pub(crate) fn takes(&self, k: usize) -> bool
+        requires { k ≤ 16 }
+        ensures { result ≡ bit self.now.set k }
+    {
+        table_tree::in_word(self.set, k as u32)
+    }
 
-// How many automata take it.
-pub(crate) fn count(takers: u64) -> usize
-    ensures { result ≡ length (takers_to takers 16) }
-{
-    let mut n = 0;
-    let mut k = 0;
-    while k < 16 {
-        n = one_more(n, takes(takers, k));
-        k += 1;
+    // How many automata take it.
+    pub(crate) fn count(&self) -> usize
+        ensures { result ≡ length (takers_to self.now.set 16) }
+    {
+        size(self.set & 0xffff)
     }
-    n
-}
 
-// How many edges automaton k has, 0 if it does not take the action; 512 at most.
-fn choices(first: &[usize], takers: u64, k: usize) -> usize
-    requires { k ≤ 16 }
-    ensures { result ≤ 512 }
-{
-    let from = place(first, k);
-    let to = place(first, k + 1);
-    if !takes(takers, k) {
-        return 0;
+    // How many edges automaton k has, 0 if it does not take the action; 512 at most.
+    fn choices(&self, k: usize) -> usize
+        requires { k ≤ 16 }
+        ensures { result ≤ 512 }
+    {
+        if !self.takes(k) {
+            return 0;
+        }
+        place(self.first, k + 1)
+            .saturating_sub(place(self.first, k))
+            .min(512)
     }
-    if to <= from {
-        return 0;
-    }
-    if 512 < to - from { 512 } else { to - from }
-}
 
-// Have many takers many edges, and none of them none? Few takers, as on most sheets, are told at once.
-pub(crate) fn many(first: &[usize], takers: u64) -> bool {
-    if size(takers) < TAKERS {
-        return false;
+    // Have many takers many edges, and none of them none? Few takers, as on most sheets, are told at once.
+    pub(crate) fn many(&self) -> bool {
+        if size(self.set) < TAKERS {
+            return false;
+        }
+        let mut filled = 0;
+        let mut all = 0;
+        for k in 0..16 {
+            let some = self.choices(k);
+            filled += usize::from(0 < some);
+            all += some;
+        }
+        (EDGES <= all) & (filled == self.count())
     }
-    let mut filled = 0;
-    let mut all = 0;
-    let mut k = 0;
-    while k < 16 {
-        let some = choices(first, takers, k);
-        filled = one_more(filled, 0 < some);
-        all += some;
-        k += 1;
-    }
-    (EDGES <= all) & (filled == count(takers))
 }

@@ -12,15 +12,22 @@ mod weights;
 ghost use Rattle.std.specs.Prelude.{◌≡◌};
 ghost use Rattle.judge_cover.specs.Cover.{coverable, groups_of};
 
+use crate::edges::Takers;
+
 // As `judge_cover::covered`, without the search where a count says no.
 pub fn covered(masks: &[u64], first: &[usize], takers: u64, changed: u64) -> bool
     ensures { result ≡ coverable (groups_of masks.now first.now takers) changed }
 {
-    if edges::many(first, takers) {
-        if parts::short(masks, first, takers, changed) {
+    let t = Takers {
+        masks,
+        first,
+        set: takers,
+    };
+    if t.many() {
+        if parts::short(&t, changed) {
             return false;
         }
-        if rounds::short(masks, first, takers, changed) {
+        if rounds::short(&t, changed) {
             return false;
         }
     }

@@ -5,7 +5,7 @@ ghost use Rattle.judge_cover.specs.Cover.{coverable, groups_of, group};
 ghost use Rattle.judge_bounds.specs.Bounds.{TakesAtMost, TakerTakes};
 
 use crate::balance::{self};
-use crate::edges::{self};
+use crate::edges::Takers;
 use crate::weights::{self};
 use judge_cover::{mask_at, place};
 
@@ -39,83 +39,63 @@ fn better(c: Choice, took: usize, rest: u64) -> Choice
 
 // The best of the edges between two places.
 fn best(masks: &[u64], from: usize, to: usize, u: u64, weights: &[u16; 64]) -> Choice
-    requires { length weights.now ≡ 64 }
     ensures takes_at_most { TakesAtMost weights.now u (group masks.now from to) result.took }
     ensures took_bound { result.took ≤ 8388480 }
 {
     let mut c = Choice { took: 0, rest: u };
-    let mut i = from;
-    while i < to {
+    for i in from..to {
         let rest = u & mask_at(masks, i);
-        let took = weights::weigh(weights, u - rest);
-        c = better(c, took, rest);
-        i += 1;
+        c = better(c, weights::weigh(weights, u - rest), rest);
     }
     c
 }
 
 // The best of automaton k's edges, if it takes the action; if not, nothing is covered.
-fn best_of(
-    masks: &[u64],
-    first: &[usize],
-    takers: u64,
-    k: usize,
-    u: u64,
-    weights: &[u16; 64],
-) -> Choice
+fn best_of(t: &Takers<'_>, k: usize, u: u64, weights: &[u16; 64]) -> Choice
     requires k_bound { k < 16 }
-    requires weights_len { length weights.now ≡ 64 }
-    ensures taker_takes { TakerTakes masks.now first.now takers k
+    ensures taker_takes { TakerTakes t.now.masks.now t.now.first.now t.now.set k
         weights.now u result.took }
     ensures took_bound { result.took ≤ 8388480 }
 {
-    if edges::takes(takers, k) {
-        return best(masks, place(first, k), place(first, k + 1), u, weights);
+    if t.takes(k) {
+        return best(
+            t.masks,
+            place(t.first, k),
+            place(t.first, k + 1),
+            u,
+            weights,
+        );
     }
     Choice { took: 0, rest: u }
 }
 
 // One round over all takers. `next` loses a step where a best edge mentions the variable.
-fn round(
-    masks: &[u64],
-    first: &[usize],
-    takers: u64,
-    u: u64,
-    weights: &[u16; 64],
-    next: &mut [u16; 64],
-    step: u16,
-) -> Tally
-    requires weights_len { length weights.now ≡ 64 }
-    requires next_len { length next.old ≡ 64 }
+fn round(t: &Takers<'_>, u: u64, weights: &[u16; 64], next: &mut [u16; 64], step: u16) -> Tally
     ensures next_len_2 { length next.new ≡ 64 }
     ensures u_value { result.total < result.all
-        → coverable (groups_of masks.now first.now takers) u ≡ false }
+        → coverable (groups_of t.now.masks.now t.now.first.now t.now.set) u ≡ false }
 {
     let all = weights::weigh(weights, u);
     let mut total = 0;
     let mut missed = u;
-    let mut k = 0;
-    while k < 16 {
-        let c = best_of(masks, first, takers, k, u, weights);
-        let rest = c.rest;
+    for k in 0..16 {
+        let c = best_of(t, k, u, weights);
         total += c.took;
-        missed = missed & rest;
-        balance::lighten(next, u & !rest, step);
-        k += 1;
+        missed &= c.rest;
+        balance::lighten(next, u & !c.rest, step);
     }
     Tally { total, all, missed }
 }
 
 // Do some weights show that there is no cover?
-pub(crate) fn short(masks: &[u64], first: &[usize], takers: u64, u: u64) -> bool
-    ensures { result ≡ true → coverable (groups_of masks.now first.now takers) u ≡ false }
+pub(crate) fn short(t: &Takers<'_>, u: u64) -> bool
+    ensures { result ≡ true → coverable (groups_of t.now.masks.now t.now.first.now t.now.set) u ≡ false }
 {
     let mut weights = [128u16; 64];
-    let mut step = 17;
-    let mut left = ROUNDS;
-    while 0 < left {
+    for done in 0..ROUNDS {
+        let step = step_after(done);
         let mut next = balance::heavier(&weights, step);
-        let r = round(masks, first, takers, u, &weights, &mut next, step);
+        let r = round(t, u, &weights, &mut next, step);
         if r.total < r.all {
             return true;
         }
@@ -123,18 +103,13 @@ pub(crate) fn short(masks: &[u64], first: &[usize], takers: u64, u: u64) -> bool
             return false;
         }
         weights = next;
-        left -= 1;
-        step = smaller_step(left);
     }
     false
 }
 
 // Large steps at first, and small ones in the end.
-fn smaller_step(left: usize) -> u16
+fn step_after(done: usize) -> u16
     ensures { result ≤ 1000 }
 {
-    if 256 < left {
-        return 17;
-    }
-    1 + (left / 16) as u16
+    1 + (ROUNDS.saturating_sub(done) / 16) as u16
 }

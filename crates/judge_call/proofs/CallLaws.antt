@@ -1,4 +1,7 @@
 -- The judges' calls: the code's answer over any table is the definitions'.
+use Rattle.std.proofs.Common.{Result, Ok, Err}
+use Rattle.std.specs.Prelude.{⊤}
+use Rattle.model.specs.declared.Row.{Row}
 use Rattle.std.proofs.Common.{◌≡◌, ℕ, Bool, true, false, cond, not, ◌&&◌, ◌||◌, List, length, ℤ, sym, refl, ap, ◌∙◌}
 use mathlib.Core.Bool.{or_self}
 use mathlib.Core.Option.{none, some}
@@ -11,12 +14,10 @@ use Rattle.table_places.specs.declared.layout.Layout.{Layout}
 use Rattle.table_places.specs.Layout.{layout_of}
 use Rattle.table_places.proofs.Opened.{Sheet, sheet_of}
 use Rattle.table_check.specs.Check.{answered}
-use Rattle.model.specs.declared.Checked.{Checked}
-use Rattle.model.specs.declared.Checked.TheVariants as C
 use Rattle.judge_rows.specs.declared.Phase.{Phase}
 use Rattle.judge_rows.specs.declared.Phase.TheVariants.{Running}
 use Rattle.judge_call.specs.declared.Answer.{Answer}
-use Rattle.judge_call.specs.declared.Answer.TheVariants.{Yes, No, Refused}
+use Rattle.judge_call.specs.declared.Answer.TheVariants.{Yes, No}
 use Rattle.judge_call.specs.Answers.{answer_of}
 use Rattle.judge_rows.specs.Phases.{phase_is}
 use Rattle.judge_rows.specs.States.{state_of}
@@ -39,7 +40,7 @@ list_rows m u u' last =
 
 module _ (t : List ℕ) (phase : ℕ) (l : List ℕ) (v : List ℤ) (l' : List ℕ) (v' : List ℤ) where
   -- rows 21 to 23 over a sheet's words
-  module _ (m : Model) (sheet : Sheet t m) (q : Phase) (rules : Phase → Answer) (last : J.Answer) where
+  module _ (m : Model) (sheet : Sheet t m) (q : Phase) (rules : Phase → Result Answer Row) (last : J.Answer) where
     abbrev u : R.State
     u = stands q l v
 
@@ -70,7 +71,7 @@ module _ (t : List ℕ) (phase : ℕ) (l : List ℕ) (v : List ℤ) (l' : List �
             rw (r21 ∙ x, lists_checked, r22 ∙ y, lists_checked, r23 ∙ z, lists_checked, x, y, z) (h (record { no_21 = x; no_22 = y; no_23 = z }))
 
   -- a call: rows 18 to 23, then what the rules answer where they all pass
-  pub call_exact : (rules : Phase → Answer) (judge : Model → R.State → J.Answer) (last : Model → Phase → J.Answer)
+  pub call_exact : (rules : Phase → Result Answer Row) (judge : Model → R.State → J.Answer) (last : Model → Phase → J.Answer)
       → ((m : Model) (q : Phase) → judge m (stands q l v) ≡ list_rows m (stands q l v) (stands Running l' v') (last m q))
       → ((m : Model) → Sheet t m → (q : Phase) → Pass m (stands q l v) (stands Running l' v') → answer_of (rules q) ≡ last m q)
       → answer_of (then_answer (answered (open_table t)) (then_rules (admitted_on t (layout_of t) phase l v l' v') rules)) ≡ J.judge_at t phase l v judge
@@ -88,7 +89,7 @@ module _ (t : List ℕ) (phase : ℕ) (l : List ℕ) (v : List ℤ) (l' : List �
 
 -- the environment judge
 module _ (t : List ℕ) (phase : ℕ) (l : List ℕ) (v v' : List ℤ) where
-  environment_ends : (a b : Bool) → answer_of (elim a [ false ↦ No | true ↦ elim b [ true ↦ Yes | false ↦ No ] ]) ≡ cond (a && b) J.yes J.no
+  environment_ends : (a b : Bool) → answer_of (elim a [ false ↦ Ok No | true ↦ elim b [ true ↦ Ok Yes | false ↦ Ok No ] ]) ≡ cond (a && b) J.yes J.no
   unfolding answer_of
   environment_ends true true = refl
   environment_ends true false = refl
@@ -120,14 +121,14 @@ module _ (t : List ℕ) (phase : ℕ) (l : List ℕ) (v v' : List ℤ) where
           (sym (or_self (J.row22 m u)))
 
   -- and over any
-  module _ (x : Checked) (e : x ≡ answered (open_table t)) where
-    pub environment_bad : (row : ℕ) → x ≡ C.Refused row → answer_of (Refused row) ≡ J.environment_answer t phase l v v'
+  module _ (x : Result ⊤ Row) (e : x ≡ answered (open_table t)) where
+    pub environment_bad : (row : Row) → x ≡ Err row → answer_of (Err row) ≡ J.environment_answer t phase l v v'
     unfolding environment_at then_answer
     environment_bad row f =
-        let out : Refused row ≡ environment_at t phase l v v' = rw (sym e ∙ f) in
+        let out : Err row ≡ environment_at t phase l v v' = rw (sym e ∙ f) in
         ap answer_of out ∙ environment_exact
 
-    pub environment_good : x ≡ C.Good → (y : Layout) → y ≡ layout_of t → (r : Answer) → r ≡ environment_on t y phase l v v' → answer_of r ≡ J.environment_answer t phase l v v'
+    pub environment_good : x ≡ Ok tt → (y : Layout) → y ≡ layout_of t → (r : Result Answer Row) → r ≡ environment_on t y phase l v v' → answer_of r ≡ J.environment_answer t phase l v v'
     unfolding environment_at then_answer
     environment_good f y h r g =
         let out : r ≡ environment_at t phase l v v' = rw (sym e ∙ f) (rw h at g) in

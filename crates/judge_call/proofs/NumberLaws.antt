@@ -1,5 +1,6 @@
 -- The numbers of answers: one law for each way out of `number`, and that no judge's number is too long for 32 bits.
-use Rattle.std.proofs.Common.{◌≡◌, ℕ, ◌+◌, ◌%◌, ◌^◌, ◌<◌, Bool, true, false, cond, ◌||◌, List, length, ℤ, refl, ap, ◌∙◌, mod-eq_of_lt, lit<}
+use Rattle.model.specs.declared.Row.{Row}
+use Rattle.std.proofs.Common.{◌≡◌, ℕ, ◌+◌, ◌%◌, ◌^◌, ◌<◌, Bool, true, false, cond, ◌||◌, List, length, ℤ, refl, ap, ◌∙◌, mod-eq_of_lt, lit<, Result, Ok, Err}
 use mathlib.Core.Option.{Option, none, some}
 use Rattle.model.specs.Model.{Model, in_set}
 use Rattle.model.specs.Table.{row18, model_of, Opened, unopened, opened, open_table}
@@ -8,19 +9,19 @@ use Rattle.model.specs.Judge as J
 use Rattle.model.specs.Runs.{Proposal, to_step, to_environment, phase_number, call_of, table_judge}
 use Rattle.judge_call.specs.Answers.{answer_of, answer_number}
 use Rattle.judge_call.specs.declared.Answer.{Answer}
-use Rattle.judge_call.specs.declared.Answer.TheVariants.{Yes, Marked, No, Refused}
+use Rattle.judge_call.specs.declared.Answer.TheVariants.{Yes, Marked, No}
 
 -- `number`
-module _ (x : Answer) where
-  pub number_no : x ≡ No → 0 ≡ answer_number (answer_of x) % 2 ^ 32
+module _ (x : Result Answer Row) where
+  pub number_no : x ≡ Ok No → 0 ≡ answer_number (answer_of x) % 2 ^ 32
   unfolding answer_number answer_of
   number_no h = rw h
 
-  pub number_yes : x ≡ Yes → 1 ≡ answer_number (answer_of x) % 2 ^ 32
+  pub number_yes : x ≡ Ok Yes → 1 ≡ answer_number (answer_of x) % 2 ^ 32
   unfolding answer_number answer_of
   number_yes h = rw h
 
-  module _ (mark : Bool) (h : x ≡ Marked mark) where
+  module _ (mark : Bool) (h : x ≡ Ok (Marked mark)) where
     pub number_marked : mark ≡ true → 2 ≡ answer_number (answer_of x) % 2 ^ 32
     unfolding answer_number answer_of
     number_marked i = rw (h, i)
@@ -29,7 +30,7 @@ module _ (x : Answer) where
     unfolding answer_number answer_of
     number_unmarked i = rw (h, i)
 
-  pub number_refused : (row r : ℕ) → x ≡ Refused row → r ≡ (100 + row) % 2 ^ 32 → r ≡ answer_number (answer_of x) % 2 ^ 32
+  pub number_refused : (row : Row) (r : ℕ) → x ≡ Err row → r ≡ (100 + row.0) % 2 ^ 32 → r ≡ answer_number (answer_of x) % 2 ^ 32
   unfolding answer_number answer_of
   number_refused row r h e = rw h e
 

@@ -1,11 +1,12 @@
 -- The step judge: the code's answer over any table is the definitions'.
+use Rattle.std.proofs.Common.{Result, Ok, Err}
+use Rattle.std.specs.Prelude.{⊤}
+use Rattle.model.specs.declared.Row.{Row}
 use Rattle.std.proofs.Common.{◌≡◌, ℕ, Bool, true, false, cond, not, ◌&&◌, List, ℤ, sym, refl, ap, ◌∙◌}
 use Rattle.model.specs.Model.{Model, in_set}
 use Rattle.model.specs.Judge as J
 use Rattle.model.specs.Table.{open_table}
 use Rattle.table_check.specs.Check.{answered}
-use Rattle.model.specs.declared.Checked.{Checked}
-use Rattle.model.specs.declared.Checked.TheVariants as C
 use Rattle.table_places.specs.declared.layout.Layout.{Layout}
 use Rattle.table_places.specs.Layout.{layout_of}
 use Rattle.table_places.specs.Own.{own_sets}
@@ -13,7 +14,7 @@ use Rattle.table_places.proofs.Opened.{Sheet}
 use Rattle.judge_rows.specs.declared.Phase.{Phase}
 use Rattle.judge_rows.specs.declared.Phase.TheVariants.{Running}
 use Rattle.judge_call.specs.declared.Answer.{Answer}
-use Rattle.judge_call.specs.declared.Answer.TheVariants.{Marked, No, Refused}
+use Rattle.judge_call.specs.declared.Answer.TheVariants.{Marked, No}
 use Rattle.judge_call.specs.Answers.{answer_of}
 use Rattle.judge_rows.specs.Phases.{phase_is}
 use Rattle.judge_rows.specs.States.{state_of}
@@ -35,7 +36,7 @@ module _ (t : List ℕ) (phase : ℕ) (l : List ℕ) (v : List ℤ) (a : ℕ) (l
   unfolding J.judge_to list_rows phase_is
   step_rows m q = refl
 
-  ends : (s x k : Bool) → answer_of (elim s [ false ↦ No | true ↦ elim x [ false ↦ No | true ↦ Marked k ] ]) ≡ cond (s && x) (J.marked k) J.no
+  ends : (s x k : Bool) → answer_of (elim s [ false ↦ Ok No | true ↦ elim x [ false ↦ Ok No | true ↦ Ok (Marked k) ] ]) ≡ cond (s && x) (J.marked k) J.no
   unfolding answer_of
   ends true true k = refl
   ends true false k = refl
@@ -67,14 +68,14 @@ module _ (t : List ℕ) (phase : ℕ) (l : List ℕ) (v : List ℤ) (a : ℕ) (l
   step_exact = call_exact t phase l v l' v' (step_in t (layout_of t) (own_of t) l v a l' v') (λ m s. J.judge_step m s a l' v') last step_rows step_passed
 
   -- and over any
-  module _ (x : Checked) (e : x ≡ answered (open_table t)) where
-    pub step_bad : (row : ℕ) → x ≡ C.Refused row → answer_of (Refused row) ≡ J.step_answer t phase l v a l' v'
+  module _ (x : Result ⊤ Row) (e : x ≡ answered (open_table t)) where
+    pub step_bad : (row : Row) → x ≡ Err row → answer_of (Err row) ≡ J.step_answer t phase l v a l' v'
     unfolding step_at then_answer
     step_bad row f =
-        let out : Refused row ≡ step_at t phase l v a l' v' = rw (sym e ∙ f) in
+        let out : Err row ≡ step_at t phase l v a l' v' = rw (sym e ∙ f) in
         ap answer_of out ∙ step_exact
 
-    pub step_good : x ≡ C.Good → (y : Layout) (own : List ℕ) → y ≡ layout_of t → own ≡ own_sets t y.sets → (r : Answer) → r ≡ step_on t y own phase l v a l' v' → answer_of r ≡ J.step_answer t phase l v a l' v'
+    pub step_good : x ≡ Ok tt → (y : Layout) (own : List ℕ) → y ≡ layout_of t → own ≡ own_sets t y.sets → (r : Result Answer Row) → r ≡ step_on t y own phase l v a l' v' → answer_of r ≡ J.step_answer t phase l v a l' v'
     unfolding step_at then_answer
     step_good f y own h i r g =
         let o : own ≡ own_of t = i ∙ ap (λ (z : Layout). own_sets t z.sets) h in

@@ -7,21 +7,21 @@ ghost use Rattle.judge_call.specs.Calls.{step_by, step_on, step_from};
 use crate::Answer;
 use crate::owners::{self};
 use crate::taken::{self};
-use judge_rows::{Admitted, Phase, State};
-use model::Checked;
+use judge_rows::{Phase, State};
+use model::Row;
 use table_places::Layout;
 
 // What the rules say of a change of values from s to t.
-fn environment_by(words: &[u32], x: Layout, s: State, t: State) -> Answer
+fn environment_by(words: &[u32], x: Layout, s: State, t: State) -> Result<Answer, Row>
     ensures { result ≡ environment_by words.now x s t }
 {
     if !judge_settled::settled(words, x, s, t) {
-        return Answer::No;
+        return Ok(Answer::No);
     }
     if owners::owned_keep(words, x, s, t) {
-        Answer::Yes
+        Ok(Answer::Yes)
     } else {
-        Answer::No
+        Ok(Answer::No)
     }
 }
 
@@ -33,45 +33,51 @@ pub(crate) fn environment_on(
     locations: &[u32],
     values: &[i32],
     new_values: &[i32],
-) -> Answer
+) -> Result<Answer, Row>
     ensures { result ≡ environment_on words.now x phase locations.now
         values.now new_values.now }
 {
-    let admitted = judge_rows::admit(words, x, phase, locations, values, locations, new_values);
-    match admitted {
-        Admitted::Out(row) => Answer::Refused(row),
-        Admitted::In(p) => {
-            let s = State::of(p, locations, values);
-            let t = State::of(Phase::Running, locations, new_values);
-            environment_by(words, x, s, t)
-        }
-    }
+    let p = judge_rows::admit(words, x, phase, locations, values, locations, new_values)?;
+    let s = State::of(p, locations, values);
+    let t = State::of(Phase::Running, locations, new_values);
+    environment_by(words, x, s, t)
 }
 
 // The same from a state that has passed the rows, to t, the state with the new values.
-pub fn environment_from(words: &[u32], x: Layout, s: State, new_values: &[i32], t: State) -> Answer
+pub fn environment_from(
+    words: &[u32],
+    x: Layout,
+    s: State,
+    new_values: &[i32],
+    t: State,
+) -> Result<Answer, Row>
     ensures { result ≡ environment_from words.now x s new_values.now t }
 {
-    match judge_rows::values_checked(words, x, new_values) {
-        Checked::Refused(row) => Answer::Refused(row),
-        Checked::Good => environment_by(words, x, s, t),
-    }
+    judge_rows::values_checked(words, x, new_values)?;
+    environment_by(words, x, s, t)
 }
 
 // Row 24, and what the rules say of a step from s to t.
-fn step_by(words: &[u32], x: Layout, own: &[u64], s: State, action: u32, t: State) -> Answer
+fn step_by(
+    words: &[u32],
+    x: Layout,
+    own: &[u64],
+    s: State,
+    action: u32,
+    t: State,
+) -> Result<Answer, Row>
     ensures { result ≡ step_by words.now x own.now s action t }
 {
     if !judge_rows::action_known(x, action) {
-        return Answer::Refused(24);
+        return Err(Row(24));
     }
     if !judge_settled::settled(words, x, s, t) {
-        return Answer::No;
+        return Ok(Answer::No);
     }
     if !taken::taken(words, x, own, s, action, t) {
-        return Answer::No;
+        return Ok(Answer::No);
     }
-    Answer::Marked(taken::mark(words, x, own, action))
+    Ok(Answer::Marked(taken::mark(words, x, own, action)))
 }
 
 // A call of the step judge.
@@ -85,12 +91,12 @@ pub(crate) fn step_on(
     action: u32,
     new_locations: &[u32],
     new_values: &[i32],
-) -> Answer
+) -> Result<Answer, Row>
     ensures { result ≡ step_on words.now x own.now phase
         locations.now values.now action new_locations.now
         new_values.now }
 {
-    let admitted = judge_rows::admit(
+    let p = judge_rows::admit(
         words,
         x,
         phase,
@@ -98,15 +104,10 @@ pub(crate) fn step_on(
         values,
         new_locations,
         new_values,
-    );
-    match admitted {
-        Admitted::Out(row) => Answer::Refused(row),
-        Admitted::In(p) => {
-            let s = State::of(p, locations, values);
-            let t = State::of(Phase::Running, new_locations, new_values);
-            step_by(words, x, own, s, action, t)
-        }
-    }
+    )?;
+    let s = State::of(p, locations, values);
+    let t = State::of(Phase::Running, new_locations, new_values);
+    step_by(words, x, own, s, action, t)
 }
 
 // The same from a state that has passed the rows, to t, the state of the new lists.
@@ -119,12 +120,10 @@ pub fn step_from(
     new_locations: &[u32],
     new_values: &[i32],
     t: State,
-) -> Answer
+) -> Result<Answer, Row>
     ensures { result ≡ step_from words.now x own.now s action
         new_locations.now new_values.now t }
 {
-    match judge_rows::state_checked(words, x, new_locations, new_values) {
-        Checked::Refused(row) => Answer::Refused(row),
-        Checked::Good => step_by(words, x, own, s, action, t),
-    }
+    judge_rows::state_checked(words, x, new_locations, new_values)?;
+    step_by(words, x, own, s, action, t)
 }

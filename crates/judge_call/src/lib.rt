@@ -11,15 +11,14 @@ ghost use Rattle.model.specs.Judge.{step_answer, environment_answer};
 ghost use Rattle.judge_call.specs.Answers.{answer_of, answer_number};
 
 pub use judgement::{environment_from, step_from};
-use model::Checked;
+use model::Row;
 
-// Yes is the environment judge's; the step judge says yes with the mark. Refused has the row.
-#[derive(Clone, Copy)]
+// Yes is the environment judge's; the step judge says yes with the mark.
+#[derive(Clone, Copy, Debug, PartialEq, Eq)]
 pub enum Answer {
     Yes,
     Marked(bool),
     No,
-    Refused(u32),
 }
 
 // May the variables become `new_values` while every automaton is still?
@@ -29,13 +28,11 @@ pub fn environment(
     locations: &[u32],
     values: &[i32],
     new_values: &[i32],
-) -> Answer
+) -> Result<Answer, Row>
     ensures { answer_of result ≡ environment_answer table.now phase locations.now
         values.now new_values.now }
 {
-    if let Checked::Refused(row) = table_check::check(table) {
-        return Answer::Refused(row);
-    }
+    table_check::check(table)?;
     let x = table_places::layout_of(table);
     judgement::environment_on(table, x, phase, locations, values, new_values)
 }
@@ -49,13 +46,11 @@ pub fn step(
     action: u32,
     new_locations: &[u32],
     new_values: &[i32],
-) -> Answer
+) -> Result<Answer, Row>
     ensures { answer_of result ≡ step_answer table.now phase locations.now values.now
         action new_locations.now new_values.now }
 {
-    if let Checked::Refused(row) = table_check::check(table) {
-        return Answer::Refused(row);
-    }
+    table_check::check(table)?;
     let x = table_places::layout_of(table);
     let own = table_places::own_sets(table, x);
     judgement::step_on(
@@ -73,13 +68,13 @@ pub fn step(
 
 // An answer as one number: 0 no, 1 yes, 2 yes with the mark true; 100 + row refused. The sum wraps on no answer that a
 // judge gives.
-pub fn number(answer: Answer) -> u32
+pub fn number(answer: Result<Answer, Row>) -> u32
     ensures { result ≡ answer_number (answer_of answer) % 2 ^ 32 }
 {
     match answer {
-        Answer::No => 0,
-        Answer::Yes => 1,
-        Answer::Marked(mark) => { if mark { 2 } else { 1 } }
-        Answer::Refused(row) => std::num::wrapping_add_u32(100, row),
+        Ok(Answer::No) => 0,
+        Ok(Answer::Yes) => 1,
+        Ok(Answer::Marked(mark)) => { if mark { 2 } else { 1 } }
+        Err(row) => 100u32.wrapping_add(row.0),
     }
 }

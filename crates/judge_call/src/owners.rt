@@ -18,15 +18,5 @@ fn keeps(words: &[u32], before: &[i32], after: &[i32], k: usize) -> bool
 pub(crate) fn owned_keep(words: &[u32], x: Layout, s: State, t: State) -> bool
     ensures { result ≡ owned_keep_at words.now x s t }
 {
-    let n = table_places::variables_of(x);
-    let before = s.values;
-    let after = t.values;
-    let mut k = 0;
-    while k < n {
-        if !keeps(words, &before, &after, k) {
-            return false;
-        }
-        k += 1;
-    }
-    true
+    (0..table_places::variables_of(x)).all(|k| keeps(words, &s.values, &t.values, k))
 }

@@ -33,8 +33,6 @@ module _ (s k : ℕ) (b : Bool) where
       let e : 2 ^ suc k ≡ 2 * 2 ^ k = pow-succ' 2 k in
       rw q (omega arith)
 
-pub ruleset with_laws = (with_true, with_false)
-
 -- `differs` and `agrees`
 pub differs_is : (before after : List ℤ) (k : ℕ) (x y : ℤ) (b : Bool) → x ≡ get_or before k (pos 0) → y ≡ get_or after k (pos 0) → b ≡ eq_z x y
     → not b ≡ differs before after k
@@ -45,40 +43,35 @@ pub agrees_is : (old new : List ℕ) (k x y : ℕ) → x ≡ get_or old k 0 → 
 unfolding agrees
 agrees_is old new k x y e f = rw (e, f)
 
--- The loops of `changed` and `still`: of the numbers below n, at most `most`, those below k have been looked at.
-pub record Noted (f : ℕ → Bool) (most n k s : ℕ) : Type 0 where
-  pub is : s ≡ mask f k
-  pub low : k ≤ n
-  pub few : n ≤ most
+-- The loops of `changed` and `still`: the numbers below k have been looked at.
+module _ (f : ℕ → Bool) where
+  pub noted_start : 0 ≡ mask f 0
+  unfolding mask
+  noted_start = refl
 
-pub noted_start : (f : ℕ → Bool) (most n : ℕ) → n ≤ most → Noted f most n 0 0
-unfolding mask
-noted_start f most n h = record { is = refl; low = omega arith; few = h }
+  module _ (k s : ℕ) (h : s ≡ mask f k) where
+    pub noted_room : k < 64 → (k < 64) × (s < 2 ^ k)
+    noted_room l = (l, rw h (mask_small f k))
 
-module _ (f : ℕ → Bool) (most n k s : ℕ) (h : Noted f most n k s) where
-  pub noted_room : k < n → most ≤ 64 → (k < 64) × (s < 2 ^ k)
-  noted_room l m = (omega arith, rw h.is (mask_small f k))
+    pub noted_step : (b : Bool) → b ≡ f k → (r : ℕ) → r ≡ with_bit s k b → r ≡ mask f (k + 1)
+    unfolding mask with_bit
+    noted_step b e r g = g ∙ rw (add-one k, e, h)
 
-  pub noted_step : k < n → (b : Bool) → b ≡ f k → (r : ℕ) → r ≡ with_bit s k b → Noted f most n (k + 1) r
-  unfolding mask with_bit
-  noted_step l b e r g = record { is = g ∙ rw (add-one k, e, h.is); low = omega arith; few = h.few }
+    pub noted_fits : (width : ℕ) → k ≤ width → s < 2 ^ width
+    noted_fits width p =
+        let q : 2 ^ k ≤ 2 ^ width = pow_mono p in
+        let r : s < 2 ^ k = rw h (mask_small f k) in
+        omega arith
 
-  pub noted_fits : (width : ℕ) → most ≤ width → s < 2 ^ width
-  noted_fits width m =
-      let p : k ≤ width = omega arith in
-      let q : 2 ^ k ≤ 2 ^ width = pow_mono p in
-      let r : s < 2 ^ k = rw h.is (mask_small f k) in
-      omega arith
-
-  noted_done : n ≤ k → s ≡ mask f n
-  noted_done l = let e : k ≡ n = omega arith in h.is ∙ ap (mask f) e
-
-pub changed_is : (before after : List ℤ) (n k s : ℕ) → n ≡ at_most max_variables (length before) → Noted (differs before after) max_variables n k s → n ≤ k
+-- at the end they are all
+pub changed_is : (before after : List ℤ) (n k s : ℕ) → n ≡ at_most max_variables (length before) → s ≡ mask (differs before after) k → k ≤ n → n ≤ k
     → s ≡ changed_bits before after
 unfolding changed_bits
-changed_is before after n k s e h l = noted_done (differs before after) max_variables n k s h l ∙ ap (mask (differs before after)) e
+changed_is before after n k s e h i l = let z : k ≡ n = omega arith in h ∙ ap (mask (differs before after)) (z ∙ e)
 
-pub still_is : (old new : List ℕ) (n k s : ℕ) → n ≡ at_most max_automata (length old) → Noted (agrees old new) max_automata n k s → n ≤ k
+pub still_is : (old new : List ℕ) (n k s : ℕ) → n ≡ at_most max_automata (length old) → s ≡ mask (agrees old new) k → k ≤ n → n ≤ k
     → s ≡ still_bits old new
 unfolding still_bits
-still_is old new n k s e h l = noted_done (agrees old new) max_automata n k s h l ∙ ap (mask (agrees old new)) e
+still_is old new n k s e h i l = let z : k ≡ n = omega arith in h ∙ ap (mask (agrees old new)) (z ∙ e)
+
+pub ruleset bits_laws = (with_true, with_false, with_fits, differs_is, agrees_is, noted_start, noted_step, changed_is, still_is)

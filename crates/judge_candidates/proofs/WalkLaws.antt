@@ -4,7 +4,7 @@ use mathlib.Core.Bool.{Bool, true, false, ◌&&◌}
 use mathlib.Core.List.{List}
 use Prim.Native.Nat.{ℕ, zero, suc, ◌+◌, ◌-◌, ◌≤◌, ◌<◌}
 use native.Mathlib.Omega.{arith}
-use native.Mathlib.Numerals.{sub-one}
+use native.Mathlib.Nat.{sub-zero}
 use lib.IntN.{ℤ}
 use lib.ListN.{length, get_or, take, drop, set, length-set}
 use lib.Dec.{eqb, ltb}
@@ -62,19 +62,22 @@ module _ (t : List ℕ) (before after : List ℤ) (leg : Leg) where
       unfolding edge_on
       edge_taken j r k = rw (lt-ltb count max_edges h, sym i ∙ j, edge_on, g, e, k)
 
-  -- `edges`
-  module _ (left : ℕ) (w whole : Walk) (inv : edges_from t before after leg left w ≡ whole) where
-    pub edges_done : left ≡ 0 → w ≡ whole
-    unfolding edges_from
-    edges_done z = rw z at inv
+  -- `edges`: edge i of n is next, and the walk goes on to the same end
+  pub edges_first : (n : ℕ) (w : Walk) → edges_from t before after leg (n - 0) w ≡ edges_from t before after leg n w
+  edges_first n w = ap (λ (k : ℕ). edges_from t before after leg k w) (sub-zero n)
 
-    pub edges_step : (left ≡ 0 → ⊥) → (v : Walk) → v ≡ edge_on t before after leg w → edges_from t before after leg (left - 1) v ≡ whole
+  module _ (n i : ℕ) (w whole : Walk) (inv : edges_from t before after leg (n - i) w ≡ whole) where
+    pub edges_done : n ≤ i → w ≡ whole
     unfolding edges_from
-    edges_step y v e = go left y inv
-      where
-        go : (m : ℕ) → (m ≡ 0 → ⊥) → edges_from t before after leg m w ≡ whole → edges_from t before after leg (m - 1) v ≡ whole
-        go zero u i = absurd (u refl)
-        go (suc m) u i = rw (sub-one (suc m), e) i
+    edges_done h =
+        let z : n - i ≡ 0 = omega arith in
+        rw z at inv
+
+    pub edges_step : i < n → (v : Walk) → v ≡ edge_on t before after leg w → edges_from t before after leg (n - (i + 1)) v ≡ whole
+    unfolding edges_from
+    edges_step h v e =
+        let z : n - i ≡ suc (n - (i + 1)) = omega arith in
+        rw e (rw z at inv)
 
   -- `automaton`
   pub automaton_is : (masks : List ℕ) (place count n a : ℕ) → n ≡ get_or t place 0 → a ≡ first_edge t place
@@ -83,25 +86,15 @@ module _ (t : List ℕ) (before after : List ℤ) (leg : Leg) where
   unfolding automaton_on
   automaton_is masks place count n a f g ms next c h = ap (λ (w : Walk). kept w.masks w.count) (rw (f, g) at h)
 
-pub ruleset takes_laws = (takes_fits, takes_not)
-
-pub ruleset edge_laws = (edge_full, edge_not, edge_taken)
-
-pub ruleset edges_laws = (edges_done, edges_step)
-
 -- `gather`: k automata have been passed
 module _ (t : List ℕ) (before after : List ℤ) (edges old new : List ℕ) (action : ℕ) where
   pub record Passing (whole : Gathering) (n k : ℕ) (g : Gathering) : Type 0 where
     pub goes : automata_from t before after edges old new action (n - k) k g ≡ whole
-    pub few : n ≤ 16
-    pub inside : k ≤ n
 
-  pub passing_first : (masks first : List ℕ) (n : ℕ) → n ≤ 16
+  pub passing_first : (masks first : List ℕ) (n : ℕ)
       → Passing (gather_from t before after edges old new action n masks first) n 0 (gathering (kept masks 0) first)
   unfolding gather_from
-  passing_first masks first n h =
-      let z : n - 0 ≡ n = omega arith in
-      record { goes = rw z; few = h; inside = omega arith }
+  passing_first masks first n = record { goes = rw (sub-zero n) }
 
   pub passing_next : (whole : Gathering) (n k count : ℕ) (masks first : List ℕ) → Passing whole n k (gathering (kept masks count) first) → k < n
       → (leg : Leg) → leg ≡ leg_of old new action k → (ms : List ℕ) (c : ℕ) → kept ms c ≡ automaton_on t before after leg (get_or edges k 0) (kept masks count)
@@ -111,7 +104,7 @@ module _ (t : List ℕ) (before after : List ℤ) (edges old new : List ℕ) (ac
       let z : n - k ≡ suc (n - (k + 1)) = omega arith in
       let same : kept ms c ≡ automaton_on t before after (leg_of old new action k) (get_or edges k 0) (kept masks count) = rw (← d) e in
       let next : Kept → Gathering = λ v. automata_from t before after edges old new action (n - (k + 1)) (k + 1) (gathering v (set first (k + 1) v.count)) in
-      record { goes = let q = p.goes in ap next same ∙ rw z at q; few = p.few; inside = omega arith }
+      record { goes = let q = p.goes in ap next same ∙ rw z at q }
 
   pub passing_done : (whole : Gathering) (n k : ℕ) (g : Gathering) → Passing whole n k g → n ≤ k → g ≡ whole
   unfolding automata_from
@@ -133,8 +126,6 @@ module _ (t : List ℕ) (before after : List ℤ) (x : Layout) (old new : List �
   gather_first =
       ap (λ (g : Gathering). g.first) (passing_done t before after x.edges old new action _ n k _ p h) ∙
       ap (λ (i : ℕ). (gather_from t before after x.edges old new action i masks₀ (set first₀ 0 0)).first) e
-
-pub ruleset gather_laws = (passing_first, passing_next, gather_masks, gather_first)
 
 -- the lists stay as long as they are
 module _ (t : List ℕ) (before after : List ℤ) where
@@ -175,3 +166,22 @@ module _ (t : List ℕ) (before after : List ℤ) where
     pub first_long : (masks first : List ℕ) → length (first_after t before after x old new action masks first) ≡ length first
     unfolding first_after gather_from
     first_long masks first = automata_first_long x.edges old new action (automata_of x) 0 (gathering (kept masks 0) (set first 0 0)) ∙ length-set first 0 0
+
+pub ruleset walk_laws = (
+  fits_is,
+  leg_is,
+  rest_at_is,
+  takes_fits,
+  takes_not,
+  edge_full,
+  edge_not,
+  edge_taken,
+  edges_first,
+  edges_done,
+  edges_step,
+  automaton_is,
+  passing_first,
+  passing_next,
+  gather_masks,
+  gather_first,
+)

@@ -1,4 +1,6 @@
 // Sets of variables and of automata: bit K of a word is set where K is in the set.
+#![tactic(auto, using(crate::proofs::BitsLaws::bits_laws))]
+
 ghost use Rattle.std.specs.Prelude.{◌≡◌, ◌^◌, ◌<◌};
 ghost use Rattle.judge_candidates.specs.Bits.{with_bit, differs, changed_bits, agrees, still_bits};
 
@@ -33,10 +35,8 @@ pub fn changed(before: &[i32], after: &[i32]) -> u64
 {
     let variables = table_places::at_most(model::Model::VARIABLES, before.len());
     let mut set: u64 = 0;
-    let mut k = 0;
-    while k < variables {
+    for k in 0..variables {
         set = with_bit(set, k, differs(before, after, k));
-        k += 1;
     }
     set
 }
@@ -53,10 +53,8 @@ pub fn still(old: &[u32], new: &[u32]) -> u32
 {
     let automata = table_places::at_most(model::Model::AUTOMATA, old.len());
     let mut set: u64 = 0;
-    let mut k = 0;
-    while k < automata {
+    for k in 0..automata {
         set = with_bit(set, k, agrees(old, new, k));
-        k += 1;
     }
     set as u32
 }

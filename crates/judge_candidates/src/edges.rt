@@ -1,4 +1,6 @@
 // The edges that each automaton can take.
+#![tactic(auto, using(crate::proofs::WalkLaws::walk_laws))]
+
 ghost use Rattle.std.specs.Prelude.{◌≡◌};
 ghost use Rattle.judge_candidates.specs.Walk.{walk, kept, fits_at, takes_at, rest_at, edge_on, edges_from};
 ghost use Rattle.judge_candidates.specs.Walk.{automaton_on, leg_of, masks_after, first_after};
@@ -93,19 +95,19 @@ fn edges(
         ≡ edges_from words.now before.now after.now leg number
         (walk masks.old at count) }
 {
-    let mut left = number;
-    let mut next = at;
-    let mut stored = count;
-    while left != 0 {
-        let r = edge(words, next, leg, before, after, masks, stored);
-        next = r.next;
-        stored = r.count;
-        left -= 1;
+    let mut reached = Reached { next: at, count };
+    for _ in 0..number {
+        reached = edge(
+            words,
+            reached.next,
+            leg,
+            before,
+            after,
+            masks,
+            reached.count,
+        );
     }
-    Reached {
-        next,
-        count: stored,
-    }
+    reached
 }
 
 // The edges of an automaton whose number of edges stands at `place`. Gives how many masks are stored then.
@@ -162,13 +164,11 @@ pub fn gather(
 {
     let automata = table_places::automata_of(x);
     let edges = x.edges;
-    let mut k = 0;
     let mut count = 0;
     first[0] = 0;
-    while k < automata {
+    for k in 0..automata {
         let leg = leg_of(old, new, action, k);
         count = automaton(words, edges[k], leg, before, after, masks, count);
-        k += 1;
-        first[k] = count;
+        first[k + 1] = count;
     }
 }

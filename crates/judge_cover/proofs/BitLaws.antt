@@ -98,15 +98,3 @@ submodular (suc n) u r s h =
 
 pub parts_cover_less : (u r s : ℕ) → ones (bit_and u r) + ones (bit_and u s) ≤ ones u + ones (bit_and (bit_and u r) s)
 parts_cover_less u r s = submodular u u r s (omega arith)
-
--- a set that is not empty has a variable
-ones_above : (n u : ℕ) → u ≤ n → 0 < u → 0 < ones u
-ones_above zero u h l = absurd (omega arith)
-ones_above (suc n) u h l = go (ones_above n (u / 2) (omega arith)) (u / 2) refl
-  where
-    go : (0 < u / 2 → 0 < ones (u / 2)) → (d : ℕ) → u / 2 ≡ d → 0 < ones u
-    go ih zero e = rw (ones_step u) (omega arith)
-    go ih (suc d) e = let x = ih (omega arith) in rw (ones_step u) (omega arith)
-
-pub ones_some : (u : ℕ) → 0 < u → 0 < ones u
-ones_some u l = ones_above u u (omega arith) l

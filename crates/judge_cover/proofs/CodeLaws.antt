@@ -8,8 +8,7 @@ use Prim.Native.Nat.{ℕ, zero, suc, ◌+◌, ◌-◌, ◌/◌, ◌%◌, ◌^◌
 use native.Mathlib.Omega.{arith}
 use native.Mathlib.Numerals.{add-one}
 use native.Mathlib.Nat.{pow-succ'}
-use lib.ListN.{length, get_or, set, length-set}
-use lib.Seq.{get_or-set_same, get_or-set_other}
+use lib.ListN.{length, get_or}
 use lib.Bits.{bit_and, and_self}
 use lib.Count.{ones, ones-le, count_trailing_zeros, under}
 use lib.Dec.{eqb, leb, ltb}
@@ -18,7 +17,8 @@ use Rattle.model.specs.Basic.{every, exists, count_up}
 use Rattle.model.specs.Table.{bit}
 use Rattle.model.proofs.Tests.{both_ways, eq_self, exists_elim, exists_map}
 use Rattle.judge_cover.specs.Cover.{within, left_by, dominated, skipped_at, worth, named_in, useful, past, all_filled, group}
-use Rattle.judge_cover.specs.Steps.{advanced, Without, CoversAtMost, PartOf, NextNamed}
+use Rattle.judge_cover.specs.Steps.{advanced, CoversAtMost, PartOf}
+use mir.Val.{bool_byte}
 use Rattle.judge_cover.proofs.BitLaws.{bit_and_lem, bit_next, bit_first, and_assoc, and_swap}
 use Rattle.judge_cover.proofs.Counting.{found}
 use Rattle.judge_cover.proofs.CoverLaws.{within_is, is_within}
@@ -116,24 +116,6 @@ names_start masks from to v = refl
 
 pub ruleset names_laws = (names_start, names_end, names_here, names_later)
 
--- `next_named`
-pub named_start : (masks starts ends : List ℕ) (k v : ℕ) → NextNamed masks starts ends k v k
-named_start masks starts ends k v = record { after = omega arith; each = λ j l h. absurd (omega arith) }
-
-pub named_later : (masks starts ends : List ℕ) (k v j a b : ℕ) → NextNamed masks starts ends k v j → a ≡ get_or starts j 0 → b ≡ get_or ends j 0
-    → (t : Bool) → t ≡ named_in masks a b v → t ≡ false → NextNamed masks starts ends k v (j + 1)
-named_later masks starts ends k v j a b s ea eb t et h = record {
-  after = omega (arith, s.after);
-  each = λ i l m. elim (other i j m) [
-    | inl e ↦
-        ap (λ x. named_in masks (get_or starts x 0) (get_or ends x 0) v) e
-        ∙ ap₂ (λ x y. named_in masks x y v) (sym ea) (sym eb) ∙ sym et ∙ h
-    | inr e ↦ s.each i l e
-  ];
-}
-
-pub ruleset named_laws = (named_start, named_later)
-
 -- `useful`
 pub useful_is : (u total gain r x : ℕ) → gain ≤ total → x ≡ ones (bit_and u r) → leb x (total - gain) ≡ useful u total gain r
 unfolding useful
@@ -143,15 +125,13 @@ useful_is u total gain r x h e =
     (λ l. let g = leb-true (ones (bit_and u r)) (total - gain) l in le-leb (ones (bit_and u r) + gain) total (omega arith))
     (λ l. let g = leb-true (ones (bit_and u r) + gain) total l in le-leb (ones (bit_and u r)) (total - gain) (omega arith))
 
--- `advanced`, `past`
-pub advanced_more : (n : ℕ) (b : Bool) → b ≡ true → n + 1 ≡ advanced n b
+-- one more where a test holds
+pub advanced_is : (n : ℕ) (b : Bool) (x : ℕ) → x ≡ bool_byte b → n + x ≡ advanced n b
 unfolding advanced
-advanced_more n b h = rw h
+advanced_is n true x e = omega (arith, e)
+advanced_is n false x e = omega (arith, e)
 
-pub advanced_same : (n : ℕ) (b : Bool) → b ≡ false → n ≡ advanced n b
-unfolding advanced
-advanced_same n b h = rw h
-
+-- `past`
 pub past_before : (k i : ℕ) → i < k → i ≡ past k i
 unfolding past
 past_before k i h = rw (lt-ltb i k h, past)
@@ -160,32 +140,12 @@ pub past_after : (k i : ℕ) → k ≤ i → i + 1 ≡ past k i
 unfolding past
 past_after k i h = rw (le-ltb i k h, past)
 
-pub ruleset step_laws = (advanced_more, advanced_same, past_before, past_after)
+pub ruleset step_laws = (past_before, past_after)
 
 -- `without`
 pub record Removing (k : ℕ) (list all : List ℕ) (i : ℕ) : Type 0 where
   pub size : length all ≡ 16
   pub each : (j : ℕ) → j < i → get_or all j 0 ≡ get_or list (past k j) 0
-
-module _ (k : ℕ) (list : List ℕ) where
-  pub removing_first : (all : List ℕ) → length all ≡ 16 → Removing k list all 0
-  removing_first all h = record { size = h; each = λ j l. absurd (omega arith) }
-
-  pub removing_more : (all : List ℕ) (i p x : ℕ) → Removing k list all i → i < 16 → p ≡ past k i → x ≡ get_or list p 0 → Removing k list (set all i x) (i + 1)
-  removing_more all i p x s l ep ex = record {
-    size = length-set all i x ∙ s.size;
-    each = λ j h. elim (other j i h) [
-      | inl z ↦
-          ap (λ y. get_or (set all i x) y 0) z ∙ get_or-set_same all i x 0 (omega (arith, s.size)) ∙ ex
-          ∙ ap (λ y. get_or list y 0) (ep ∙ ap (past k) (sym z))
-      | inr z ↦ get_or-set_other all i j x 0 (λ y. omega arith) ∙ s.each j z
-    ];
-  }
-
-  pub removing_done : (all : List ℕ) (i : ℕ) → Removing k list all i → 16 ≤ i → Without k list all
-  removing_done all i s h = record { each = λ j l. s.each j (omega arith) }
-
-pub ruleset removing_laws = (removing_first, removing_more, removing_done)
 
 -- `all_filled`
 module _ (starts ends : List ℕ) where
@@ -277,17 +237,8 @@ gain_is masks from to u all least i s h e r m =
 
 pub ruleset gain_laws = (least_first, least_more, gain_is)
 
-pub gain_all : (masks : List ℕ) (from to u all : ℕ) → all ≡ ones u → CoversAtMost u (group masks from to) all
-gain_all masks from to u all e r m = omega (arith, e)
-
-pub gain_few : (u all : ℕ) → u < 2 ^ 64 → all ≡ ones u → all ≤ 64
-gain_few u all h e = omega (arith, ones-le 64 u h)
-
 pub gain_small : (u all least : ℕ) → u < 2 ^ 64 → all ≡ ones u → all - least ≤ 64
 gain_small u all least h e = omega (arith, ones-le 64 u h)
-
-pub size_fits : (u : ℕ) → u < 2 ^ 64 → ones u < 2 ^ 64
-size_fits u h = omega (arith, ones-le 64 u h)
 
 -- `fewer`, `rarest`
 pub part_self : (u : ℕ) → PartOf u u

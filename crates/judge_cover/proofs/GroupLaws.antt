@@ -17,7 +17,8 @@ use Rattle.model.proofs.Lists.{keep_append, keep_first, keep_skip, sum_append, c
 use Rattle.judge_cover.specs.Cover.{group, groups, groups_of, useful, spares}
 use Rattle.judge_cover.specs.Steps.{advanced, CoversAtMost, BoundsOf, SiftedTo, Passed}
 use Rattle.judge_cover.proofs.Counting.{map_count, count_last}
-use Rattle.judge_cover.proofs.CodeLaws.{other, Least, least_first, least_more, gain_is, edge_at_lem, useful_is}
+use Rattle.judge_cover.proofs.CodeLaws.{advanced_is, other, edge_at_lem, useful_is}
+use Rattle.judge_cover.proofs.CodeLaws.{Least, least_first, least_more, gain_is}
 
 -- a group's first edge, and its last
 pub group_cons : (masks : List ℕ) (i to : ℕ) → i < to → group masks i to ≡ get_or masks i 0 ∷ group masks (i + 1) to
@@ -158,7 +159,7 @@ module _ (before : List ℕ) (from to v : ℕ) where
     pub dropping_done : to ≤ i → SiftedTo (spares v) before from to before kept from next
     dropping_done h = sifting_done (spares v) before from to before from kept next i s h
 
-pub ruleset dropping_laws = (dropping_first, dropping_more, dropping_done)
+pub ruleset dropping_laws = (dropping_first, dropping_more, dropping_done, advanced_is)
 
 -- `sift`
 pub record Passing (masks : List ℕ) (from to u total gain : ℕ) (before : List ℕ) (count : ℕ) (kept : List ℕ) (next least i : ℕ) : Type 0 where
@@ -188,12 +189,6 @@ module _ (masks : List ℕ) (from to u total gain : ℕ) (before : List ℕ) (co
       enough = omega (arith, s.enough, c (get_or masks i 0) (edge_at_lem masks from to i s.sifting.low l));
     }
 
-    pub passing_least : (all : ℕ) → all ≡ ones u → least ≤ all
-    passing_least all e = omega (arith, s.below.most)
-
-    pub passing_sum : (all : ℕ) → all ≡ ones u → gain ≤ total → (total - gain) + (all - least) ≤ total
-    passing_sum all e h = omega (arith, s.enough)
-
     pub passing_done : to ≤ i → gain ≤ total → (all : ℕ) → all ≡ ones u
         → Passed masks from to u total gain before kept count next (all - least) ((total - gain) + (all - least))
     passing_done h l all e = record {
@@ -202,7 +197,7 @@ module _ (masks : List ℕ) (from to u total gain : ℕ) (before : List ℕ) (co
       all = omega arith;
     }
 
-pub ruleset passing_laws = (passing_first, passing_more, passing_done)
+pub ruleset passing_laws = (passing_first, passing_more, passing_done, advanced_is)
 
 -- one group more
 module _ (masks starts ends : List ℕ) (n a b : ℕ) where

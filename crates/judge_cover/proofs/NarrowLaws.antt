@@ -9,11 +9,11 @@ use native.Mathlib.Numerals.{add-one}
 use lib.ListN.{length, get_or, set, length-set}
 use lib.Seq.{get_or-set_same, get_or-set_other}
 use lib.Count.{ones}
+use Rattle.std.specs.Prelude.{Some, None}
 use Rattle.model.specs.Basic.{exists, keep, count_up, sum}
 use Rattle.model.proofs.Lists.{sum_append}
 use Rattle.judge_cover.specs.Cover.{coverable, group, groups, useful}
 use Rattle.judge_cover.specs.Steps.{Laid, Spans, CoversAtMost, BoundsOf, SiftedTo, Passed, NarrowedTo, groups_from}
-use Rattle.judge_cover.proofs.BitLaws.{ones_some}
 use Rattle.judge_cover.proofs.Counting.{map_count, count_last}
 use Rattle.judge_cover.proofs.CoverLaws.{Bounded, none, one, bound, bounded_append, above_kept, sift_one, front}
 use Rattle.judge_cover.proofs.CodeLaws.{other}
@@ -70,7 +70,6 @@ bounded masks starts ends n u gains total s =
 -- `narrow`: what is asked of it, and what holds before group k
 pub record Asked (masks from to : List ℕ) (n u : ℕ) (gains before : List ℕ) (total : ℕ) : Type 0 where
   pub few : n ≤ 16
-  pub some : 0 < u
   pub laid : Laid from to n (length masks)
   pub low : Laid from to n 512
   pub near : Spans from to n (length before)
@@ -92,13 +91,14 @@ pub record Narrowing (masks from to : List ℕ) (n u : ℕ) (gains before : List
   pub same : coverable (groups kept starts ends k ++ groups_from masks from to k n) u ≡ coverable (groups masks from to n) u
 
 module _ (masks from to : List ℕ) (n u : ℕ) (gains before : List ℕ) (total : ℕ) where
-  pub narrowing_first : n ≤ 16 → 0 < u → Laid from to n (length masks) → Laid from to n 512 → Spans from to n (length before) → length before ≤ 512
+  pub narrowing_first : n ≤ 16 → Laid from to n (length masks) → Laid from to n 512 → Spans from to n (length before)
+      → length before ≤ 512
       → BoundsOf masks from to n u gains total
       → (starts ends less : List ℕ) → length starts ≡ 16 → length ends ≡ 16 → length less ≡ 16
       → Narrowing masks from to n u gains before total before starts ends less total 0 0
   unfolding groups count_up sum
-  narrowing_first few some laid low near room b starts ends less p q r = record {
-    asked = record { few = few; some = some; laid = laid; low = low; near = near; room = room; bounds = b };
+  narrowing_first few laid low near room b starts ends less p q r = record {
+    asked = record { few = few; laid = laid; low = low; near = near; room = room; bounds = b };
     few = omega arith;
     size = refl;
     starts_size = p;
@@ -142,9 +142,6 @@ module _ (masks from to : List ℕ) (n u : ℕ) (gains before : List ℕ) (total
       c : CoversAtMost u (group masks x y) most
       c = w.bound
 
-      some : 0 < u
-      some = s.asked.some
-
       abbrev xs : List (List ℕ)
       xs = groups kept starts ends k
 
@@ -178,15 +175,15 @@ module _ (masks from to : List ℕ) (n u : ℕ) (gains before : List ℕ) (total
           ∙ ap (λ z. coverable (xs ++ z) u) (ap₂ (λ p q. group masks p q ∷ ys) ex ey ∙ sym (from_cons masks from to k n l)) ∙ s.same
 
       pub narrowing_none : next ≤ count → (starts' ends' less' : List ℕ) → length starts' ≡ 16 → length ends' ≡ 16 → length less' ≡ 16
-          → NarrowedTo masks from to n u before after starts' ends' less' 0
+          → NarrowedTo masks from to n u before after starts' ends' less' None
       unfolding exists
       narrowing_none m starts' ends' less' p q r = record {
         size = f.size ∙ s.size;
         starts_size = p;
         ends_size = q;
         gains_size = r;
-        enough = λ z. absurd (omega (arith, ones_some u some));
-        short = λ z. sym sifted ∙ ap (λ d. coverable (xs ++ d ∷ ys) u) (sym f.edges ∙ group_none after count next m) ∙ front xs [] ys u;
+        outcome = sym sifted
+            ∙ ap (λ d. coverable (xs ++ d ∷ ys) u) (sym f.edges ∙ group_none after count next m) ∙ front xs [] ys u;
       }
 
       total_is : t' ≡ sum cs + (most + sum bs)
@@ -196,15 +193,14 @@ module _ (masks from to : List ℕ) (n u : ℕ) (gains before : List ℕ) (total
       bounded_now = bounded_append u before_them (one (above_kept u (useful u t g) (group masks x y) most c) behind_them)
 
       pub narrowing_short : (all : ℕ) → all ≡ ones u → t' < all → (starts' ends' less' : List ℕ) → length starts' ≡ 16 → length ends' ≡ 16 → length less' ≡ 16
-          → NarrowedTo masks from to n u before after starts' ends' less' 0
+          → NarrowedTo masks from to n u before after starts' ends' less' None
       unfolding sum
       narrowing_short all ea m starts' ends' less' p q r = record {
         size = f.size ∙ s.size;
         starts_size = p;
         ends_size = q;
         gains_size = r;
-        enough = λ z. absurd (omega (arith, ones_some u some));
-        short = λ z. sym sifted ∙ too_few (xs ++ h ∷ ys) (cs ++ most ∷ bs) u bounded_now
+        outcome = sym sifted ∙ too_few (xs ++ h ∷ ys) (cs ++ most ∷ bs) u bounded_now
             (omega (arith, ea, total_is, sum_append cs (most ∷ bs)));
       }
 
@@ -297,7 +293,7 @@ module _ (masks from to : List ℕ) (n u : ℕ) (gains before : List ℕ) (total
               (add-one k)
               ∙ ap (λ z. z + sum bs) (sum_append cs (most ∷ []))
 
-    pub narrowing_done : n ≤ k → NarrowedTo masks from to n u before kept starts ends less t
+    pub narrowing_done : n ≤ k → NarrowedTo masks from to n u before kept starts ends less (Some t)
     unfolding count_up sum
     narrowing_done h =
         let few = s.few in
@@ -313,7 +309,7 @@ module _ (masks from to : List ℕ) (n u : ℕ) (gains before : List ℕ) (total
           starts_size = s.starts_size;
           ends_size = s.ends_size;
           gains_size = s.less_size;
-          enough = λ l. record {
+          outcome = record {
             laid = record {
               some = λ j l. s.laid.some j (omega arith);
               next = λ j l. s.laid.next j (omega arith);
@@ -322,7 +318,6 @@ module _ (masks from to : List ℕ) (n u : ℕ) (gains before : List ℕ) (total
             bounds = now;
             same = same;
           };
-          short = λ l. sym same ∙ too_few (groups kept starts ends n) (map (λ j. get_or less j 0) (count_up 0 n)) u (bounded kept starts ends n u less t now) (omega (arith, sums));
         }
 
 pub ruleset narrowing_laws = (narrowing_first, narrowing_none, narrowing_done)

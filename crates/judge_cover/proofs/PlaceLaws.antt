@@ -25,42 +25,6 @@ pub record Rowing (starts ends : List ℕ) (size least k : ℕ) : Type 0 where
   pub inside : (j : ℕ) → j < k → get_or ends j 0 ≤ size
   pub low : (j : ℕ) → j < k → get_or ends j 0 ≤ 512
 
-module _ (starts ends : List ℕ) (size : ℕ) where
-  pub rowing_first : Rowing starts ends size 0 0
-  rowing_first = record {
-    last = λ j e. absurd (omega arith);
-    next = λ j l. absurd (omega arith);
-    inside = λ j l. absurd (omega arith);
-    low = λ j l. absurd (omega arith);
-  }
-
-  module _ (least k : ℕ) (s : Rowing starts ends size least k) where
-    pub rowing_more : (a b : ℕ) → a ≡ get_or starts k 0 → b ≡ get_or ends k 0 → least ≤ a → b ≤ size → b ≤ 512 → Rowing starts ends size b (k + 1)
-    rowing_more a b ea eb x y z = record {
-      last = λ j e. let i : j ≡ k = omega arith in eb ∙ ap (λ h. get_or ends h 0) (sym i);
-      next = λ j l. elim (other (suc j) k l) [
-        | inl e ↦ omega (arith, s.last j e, ap (λ h. get_or starts h 0) e)
-        | inr e ↦ s.next j e
-      ];
-      inside = λ j l. elim (other j k l) [
-        | inl e ↦ omega (arith, ap (λ h. get_or ends h 0) e)
-        | inr e ↦ s.inside j e
-      ];
-      low = λ j l. elim (other j k l) [
-        | inl e ↦ omega (arith, ap (λ h. get_or ends h 0) e)
-        | inr e ↦ s.low j e
-      ];
-    }
-
-    pub rowing_done : (n : ℕ) (r : Bool) → n ≤ k → r ≡ true → InRow starts ends n size
-    rowing_done n r h e = record {
-      next = λ j l. s.next j (omega arith);
-      inside = λ j l. s.inside j (omega arith);
-      low = λ j l. s.low j (omega arith);
-    }
-
-pub ruleset rowing_laws = (rowing_first, rowing_more, rowing_done)
-
 -- `covered`: groups in a row that all have an edge
 module _ (starts ends : List ℕ) (n size : ℕ) (b : Bool) (e : b ≡ all_filled starts ends n) (h : b ≡ true) (r : InRow starts ends n size) where
   has_edge : (k : ℕ) → k < n → get_or starts k 0 < get_or ends k 0
@@ -105,11 +69,11 @@ module _ (starts ends : List ℕ) (n size : ℕ) (s : Laid starts ends n size) w
   end_inside k l b e = omega (arith, s.inside k l)
 
   -- `short`
-  pub short_low : (end : ℕ) (r : Bool) → Last ends n end → end ≤ 128 → r ≡ true → Spans starts ends n 128
-  short_low end r e h t = record { near = λ k l. omega (arith, laid_last k l, e.some (omega arith)) }
-
-  pub short_near : (end a : ℕ) → Last ends n end → 128 < end → a ≡ get_or starts 0 0 → leb (end - 128) a ≡ true → Spans starts ends n 128
-  short_near end a e g ea t = record { near = λ k l. omega (arith, laid_last k l, e.some (omega arith), leb-true (end - 128) a t) }
+  pub short_is : (end x a : ℕ) → Last ends n end → x ≡ end - 128 → a ≡ get_or starts 0 0 → leb x a ≡ true
+      → Spans starts ends n 128
+  short_is end x a e ex ea t = record {
+    near = λ k l. omega (arith, laid_last k l, e.some (omega arith), leb-true x a t);
+  }
 
 pub spans_all : (starts ends : List ℕ) (n : ℕ) → Laid starts ends n 512 → Spans starts ends n 512
 spans_all starts ends n s = record { near = λ k l. omega (arith, s.inside k l) }

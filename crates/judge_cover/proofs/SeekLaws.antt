@@ -12,16 +12,18 @@ use lib.Bits.{bit_and}
 use lib.Count.{ones}
 use lib.Dec.{eqb, ltb}
 use borrow.Author.Tests.{lt-ltb, ltb-true, ltb-false}
+use Rattle.std.specs.Prelude.{None}
 use Rattle.model.specs.Basic.{every, exists, keep, count_up, sum}
 use Rattle.model.specs.Table.{bit}
 use Rattle.model.proofs.Tests.{exists_map, every_ext, not-true}
 use Rattle.model.proofs.Lists.{every_map, sum_append}
 use Rattle.judge_cover.specs.Cover.{coverable, group, groups, groups_of, left_by, worth, named_in, spares, all_filled}
-use Rattle.judge_cover.specs.Steps.{Without, Laid, CoversAtMost, BoundsOf, SiftedTo, NarrowedTo, NextNamed, groups_from, others_at, through_at, tries_at}
+use Rattle.judge_cover.specs.Steps.{Without, Laid, CoversAtMost, BoundsOf, SiftedTo, NarrowedTo}
+use Rattle.judge_cover.specs.Steps.{groups_from, others_at, through_at, tries_at}
 use Rattle.judge_cover.proofs.Counting.{map_count, count_at_lem, every_count}
 use Rattle.judge_cover.proofs.CoverLaws.{exists_keep, exists_dropped, filled, nothing_left, one_empty, coverable_falls, above_part, above_kept}
 use Rattle.judge_cover.proofs.Branching.{group_out, through_covers, unnamed_uncovered, worth_is_enough}
-use Rattle.judge_cover.proofs.CodeLaws.{some_here, some_later, some_none}
+use Rattle.judge_cover.proofs.CodeLaws.{other, some_here, some_later, some_none}
 use Rattle.judge_cover.proofs.PlaceLaws.{laid_before, laid_cut, past_some, map_past}
 use Rattle.judge_cover.proofs.GroupLaws.{group_cons, group_none, group_same}
 use Rattle.judge_cover.proofs.NarrowLaws.{bounded, too_few, from_cons, from_first, from_none}
@@ -56,21 +58,10 @@ module _ (masks starts ends : List ℕ) (n u : ℕ) where
 pub ruleset seek_laws = (seek_covered, seek_short)
 
 -- `narrowed`
-module _ (masks from to : List ℕ) (n u : ℕ) (before kept starts ends gains : List ℕ) (t : ℕ)
-    (s : NarrowedTo masks from to n u before kept starts ends gains t) (x : ℕ) (ex : x ≡ ones u) where
-  pub narrowed_short : t < x → false ≡ coverable (groups masks from to n) u
-  narrowed_short l = sym (s.short (omega arith))
-
-  pub narrowed_is : x ≤ t → (r : Bool) → r ≡ coverable (groups kept starts ends n) u → r ≡ coverable (groups masks from to n) u
-  narrowed_is l r e = e ∙ (s.enough (omega arith)).same
-
-  pub narrowed_laid : x ≤ t → Laid starts ends n (length kept)
-  narrowed_laid l = (s.enough (omega arith)).laid
-
-  pub narrowed_bounds : x ≤ t → BoundsOf kept starts ends n u gains t
-  narrowed_bounds l = (s.enough (omega arith)).bounds
-
-pub ruleset narrowed_laws = (narrowed_short, narrowed_is, narrowed_laid, narrowed_bounds)
+module _ (masks from to : List ℕ) (n u : ℕ) (before kept starts ends gains : List ℕ) where
+  pub narrowed_short : NarrowedTo masks from to n u before kept starts ends gains None
+      → false ≡ coverable (groups masks from to n) u
+  narrowed_short s = sym s.outcome
 
 -- `tried`: without group k
 module _ (masks starts ends : List ℕ) (n k : ℕ) (few : n ≤ 16) (l : k < n) (from to : List ℕ) (f : Without k starts from) (g : Without k ends to) where
@@ -176,13 +167,13 @@ module _ (before starts first gains : List ℕ) (n u total v : ℕ) where
   answer = coverable (groups before starts first n) u
 
   pub branching_first : length first ≡ 16 → Laid starts first n (length before) → BoundsOf before starts first n u gains total
-      → (k : ℕ) → NextNamed before starts first 0 v k → Branching before starts first gains n u total v before first k
-  branching_first len s b k f = record {
+      → Branching before starts first gains n u total v before first 0
+  branching_first len s b = record {
     size = refl;
     ends_size = len;
     laid = s;
     bounds = b;
-    unnamed = λ j l. f.each j (omega arith) l;
+    unnamed = λ j l. absurd (omega arith);
     same = refl;
   }
 
@@ -260,26 +251,24 @@ module _ (before starts first gains : List ℕ) (n u total v : ℕ) where
             go false true x y = inr (inr (ltb-true k j y))
             go false false x y = let p = ltb-false j k x in let q = ltb-false k j y in inr (inl (omega arith))
 
-        spared_now : (j : ℕ) → (j < k) ⊎ ((j ≡ k) ⊎ (k < j)) → (k' : ℕ) → NextNamed after starts ends⁺ (k + 1) v k' → j < k'
-            → named_in after (get_or starts j 0) (get_or ends⁺ j 0) v ≡ false
-        spared_now j (inl m) k' f o =
+        spared_now : (j : ℕ) → (j ≡ k) ⊎ (j < k) → named_in after (get_or starts j 0) (get_or ends⁺ j 0) v ≡ false
+        spared_now j (inr m) =
             named_is after (get_or starts j 0) (get_or ends⁺ j 0) v ∙ ap (exists (λ r. not (bit r v))) (group_before j m)
             ∙ sym (named_is kept (get_or starts j 0) (get_or ends j 0) v) ∙ s.unnamed j m
-        spared_now j (inr (inl e)) k' f o =
+        spared_now j (inl e) =
             ap (λ i. named_in after (get_or starts i 0) (get_or ends⁺ i 0) v) e ∙ named_is after (get_or starts k 0) (get_or ends⁺ k 0) v
             ∙ ap (exists (λ r. not (bit r v))) group_here ∙ never_both v (group kept (get_or starts k 0) (get_or ends k 0))
-        spared_now j (inr (inr m)) k' f o = f.each j (omega arith) o
 
         pub branching_laid : a < end → Laid starts ends⁺ n (length after)
         branching_laid m = rw f.size (laid_cut starts ends n k end (length kept) s.laid l (omega (arith, s.ends_size)) (omega arith) (omega (arith, f.slow)))
 
-        pub branching_more : a < end → (k' : ℕ) → NextNamed after starts ends⁺ (k + 1) v k' → Branching before starts first gains n u total v after ends⁺ k'
-        branching_more m k' g = record {
+        pub branching_more : a < end → Branching before starts first gains n u total v after ends⁺ (k + 1)
+        branching_more m = record {
           size = f.size ∙ s.size;
           ends_size = length-set ends k end ∙ s.ends_size;
           laid = branching_laid m;
           bounds = record { each = λ j o. bound_now j o (split j); all = s.bounds.all };
-          unnamed = λ j o. spared_now j (split j) k' g o;
+          unnamed = λ j o. spared_now j (other j k o);
           same = dropped ∙ s.same;
         }
 

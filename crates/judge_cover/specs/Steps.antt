@@ -1,11 +1,12 @@
 -- What the functions of the search promise each other.
 use Rattle.std.specs.Prelude.{ℕ, suc, ◌+◌, ◌-◌, ◌≤◌, ◌<◌, ◌≡◌, Bool, true, false, not, ◌&&◌, length, get_or}
+use Rattle.std.specs.Prelude.{Option, MatchOption}
 use mathlib.Core.List.{List, ◌++◌, map, Memᴰ}
 use Rattle.std.specs.Int.Bits.{bit_and}
 use Rattle.std.specs.Int.Count.{ones}
 use Rattle.model.specs.Basic.{exists, keep, count_up, sum}
 use Rattle.model.specs.Table.{bit}
-use Rattle.judge_cover.specs.Cover.{coverable, group, groups, within, left_by, worth, named_in, past, useful}
+use Rattle.judge_cover.specs.Cover.{coverable, group, groups, within, left_by, worth, past, useful}
 
 unfoldable pub advanced : ℕ → Bool → ℕ
 advanced n true = n + 1
@@ -74,20 +75,15 @@ pub record Narrowed (masks from to : List ℕ) (n u : ℕ) (kept starts ends gai
   pub bounds : BoundsOf kept starts ends n u gains total
   pub same : coverable (groups kept starts ends n) u ≡ coverable (groups masks from to n) u
 
--- A total that is too low says that there is no cover.
-pub record NarrowedTo (masks from to : List ℕ) (n u : ℕ) (before kept starts ends gains : List ℕ) (total : ℕ)
+-- No total says that there is no cover.
+pub record NarrowedTo (masks from to : List ℕ) (n u : ℕ) (before kept starts ends gains : List ℕ) (total : Option ℕ)
     : Type 0 where
   pub size : length kept ≡ length before
   pub starts_size : length starts ≡ 16
   pub ends_size : length ends ≡ 16
   pub gains_size : length gains ≡ 16
-  pub enough : ones u ≤ total → Narrowed masks from to n u kept starts ends gains total
-  pub short : total < ones u → coverable (groups masks from to n) u ≡ false
-
--- Between group k and group r no edge mentions v.
-pub record NextNamed (masks starts ends : List ℕ) (k v r : ℕ) : Type 0 where
-  pub after : k ≤ r
-  pub each : (j : ℕ) → k ≤ j → j < r → named_in masks (get_or starts j 0) (get_or ends j 0) v ≡ false
+  pub outcome : MatchOption total (coverable (groups masks from to n) u ≡ false)
+      (Narrowed masks from to n u kept starts ends gains)
 
 -- the groups from group k on
 unfoldable pub groups_from : (masks starts ends : List ℕ) (k n : ℕ) → List (List ℕ)

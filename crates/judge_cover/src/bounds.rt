@@ -1,5 +1,5 @@
 // What the groups can cover at most.
-ghost use Rattle.std.specs.Prelude.{◌≡◌, ◌≤◌, ◌<◌, min, length};
+ghost use Rattle.std.specs.Prelude.{◌≡◌, ◌≤◌, length};
 ghost use Rattle.judge_cover.specs.Cover.{group};
 ghost use Rattle.judge_cover.specs.Steps.{CoversAtMost, BoundsOf};
 
@@ -13,13 +13,6 @@ pub struct Bounds {
     pub total: usize,
 }
 
-// The smaller of two numbers.
-pub(crate) fn smaller(a: usize, b: usize) -> usize
-    ensures { result ≡ min a b }
-{
-    if a < b { a } else { b }
-}
-
 // How many variables of u an edge between two places covers at most. No read needs a test, so that the compiler can
 // count several edges at once.
 fn gain_within(masks: &[u64], from: usize, to: usize, u: u64) -> usize
@@ -29,11 +22,8 @@ fn gain_within(masks: &[u64], from: usize, to: usize, u: u64) -> usize
 {
     let all = edges::size(u);
     let mut least = all;
-    let mut i = from;
-    while i < to {
-        let left = edges::size(u & masks[i]);
-        least = smaller(least, left);
-        i += 1;
+    for i in from..to {
+        least = least.min(edges::size(u & masks[i]));
     }
     all - least
 }
@@ -57,12 +47,10 @@ pub(crate) fn find(masks: &[u64], starts: &[usize], ends: &[usize], n: usize, u:
 {
     let mut gains = [0usize; 16];
     let mut total = 0;
-    let mut k = 0;
-    while k < n {
+    for k in 0..n {
         let most = gain(masks, places::place(starts, k), places::place(ends, k), u);
         gains[k] = most;
         total += most;
-        k += 1;
     }
     Bounds { gains, total }
 }

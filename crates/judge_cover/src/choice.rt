@@ -6,7 +6,7 @@ ghost use Rattle.judge_cover.specs.Steps.{PartOf};
 
 // For each variable how many edges mention it: bit K of the six sets from `ones` up to `more` is that number for
 // variable K, less 64 as often as it came to 64; `over` has the variables for which it did.
-#[derive(Clone, Copy)]
+#[derive(Clone, Copy, Default)]
 pub struct Tally {
     pub ones: u64,
     pub twos: u64,
@@ -17,38 +17,8 @@ pub struct Tally {
     pub over: u64,
 }
 
-fn nothing() -> Tally {
-    Tally {
-        ones: 0,
-        twos: 0,
-        fours: 0,
-        eights: 0,
-        sixteens: 0,
-        more: 0,
-        over: 0,
-    }
-}
-
-fn with(t: Tally, named: u64) -> Tally {
-    let two = t.ones & named;
-    let four = t.twos & two;
-    let eight = t.fours & four;
-    let sixteen = t.eights & eight;
-    let more = t.sixteens & sixteen;
-    let over = t.more & more;
-    Tally {
-        ones: t.ones ^ named,
-        twos: t.twos ^ two,
-        fours: t.fours ^ four,
-        eights: t.eights ^ eight,
-        sixteens: t.sixteens ^ sixteen,
-        more: t.more ^ more,
-        over: t.over | over,
-    }
-}
-
-// The same, where no number comes to 64.
-fn with_few(t: Tally, named: u64) -> Tally {
+// With an edge more. MANY says whether a number may come to 64.
+fn with<const MANY: bool>(t: Tally, named: u64) -> Tally {
     let two = t.ones & named;
     let four = t.twos & two;
     let eight = t.fours & four;
@@ -61,30 +31,14 @@ fn with_few(t: Tally, named: u64) -> Tally {
         eights: t.eights ^ eight,
         sixteens: t.sixteens ^ sixteen,
         more: t.more ^ more,
-        over: t.over,
+        over: if MANY { t.over | t.more & more } else { t.over },
     }
 }
 
-fn count_few(masks: &[u64], to: usize, u: u64) -> Tally
-    requires { to ≤ length masks.now }
-{
-    let mut t = nothing();
-    let mut i = 0;
-    while i < to {
-        t = with_few(t, u & !masks[i]);
-        i += 1;
-    }
-    t
-}
-
-fn count_many(masks: &[u64], to: usize, u: u64) -> Tally
-    requires { to ≤ length masks.now }
-{
-    let mut t = nothing();
-    let mut i = 0;
-    while i < to {
-        t = with(t, u & !masks[i]);
-        i += 1;
+fn count_all<const MANY: bool>(masks: &[u64], u: u64) -> Tally {
+    let mut t = Tally::default();
+    for mask in masks {
+        t = with::<MANY>(t, u & !*mask);
     }
     t
 }
@@ -95,9 +49,9 @@ fn count(masks: &[u64], to: usize, u: u64) -> Tally
     requires { to ≤ length masks.now }
 {
     if to < 64 {
-        count_few(masks, to, u)
+        count_all::<false>(&masks[..to], u)
     } else {
-        count_many(masks, to, u)
+        count_all::<true>(&masks[..to], u)
     }
 }
 
@@ -125,7 +79,7 @@ fn rarest(u: u64, t: Tally) -> u64
 fn first(set: u64) -> u32
     ensures { 0 < set → bit set result ≡ true }
 {
-    u64::trailing_zeros(set)
+    set.trailing_zeros()
 }
 
 pub(crate) fn choose(masks: &[u64], to: usize, u: u64) -> u32

@@ -2,7 +2,7 @@
 ghost use Rattle.std.specs.Prelude.{◌≡◌, ◌≤◌, ◌<◌, length};
 ghost use Rattle.std.specs.Int.Count.{ones};
 ghost use Rattle.judge_cover.specs.Cover.{within, left_by, dominated, skipped_at, worth, named_in, spares};
-ghost use Rattle.judge_cover.specs.Steps.{Laid, NextNamed, SiftedTo};
+ghost use Rattle.judge_cover.specs.Steps.{SiftedTo};
 
 use crate::places::{self};
 
@@ -10,7 +10,7 @@ use crate::places::{self};
 pub fn size(u: u64) -> usize
     ensures { result ≡ ones u }
 {
-    u64::count_ones(u) as usize
+    u.count_ones() as usize
 }
 
 // Is every variable of w in u?
@@ -41,12 +41,10 @@ fn skipped(masks: &[u64], from: usize, to: usize, u: u64, i: usize) -> bool
     requires { (i < length masks.now) × (to ≤ length masks.now) }
     ensures { result ≡ skipped_at masks.now from to u i }
 {
-    let mut j = from;
-    while j < to {
+    for j in from..to {
         if dominated(masks, u, i, j) {
             return true;
         }
-        j += 1;
     }
     false
 }
@@ -67,37 +65,12 @@ pub(crate) fn names(masks: &[u64], from: usize, to: usize, v: u32) -> bool
     requires { to ≤ length masks.now }
     ensures { result ≡ named_in masks.now from to v }
 {
-    let mut i = from;
-    while i < to {
+    for i in from..to {
         if !table_tree::in_word(masks[i], v) {
             return true;
         }
-        i += 1;
     }
     false
-}
-
-// The first group from group k on that has an edge that mentions v; n or more if there is none.
-pub(crate) fn next_named(
-    masks: &[u64],
-    starts: &[usize],
-    ends: &[usize],
-    k: usize,
-    n: usize,
-    v: u32,
-) -> usize
-    requires n_bound { n ≤ 16 }
-    requires laid { Laid starts.now ends.now n (length masks.now) }
-    ensures { NextNamed masks.now starts.now ends.now k v result }
-{
-    let mut j = k;
-    while j < n {
-        if names(masks, places::place(starts, j), places::place(ends, j), v) {
-            return j;
-        }
-        j += 1;
-    }
-    j
 }
 
 // Drops the edges between two places that mention v: the others move to the front. The place after them.
@@ -107,12 +80,10 @@ pub(crate) fn drop_named(masks: &mut [u64], from: usize, to: usize, v: u32) -> u
         from result }
 {
     let mut next = from;
-    let mut i = from;
-    while i < to {
+    for i in from..to {
         let r = masks[i];
         masks[next] = r;
-        next = places::advanced(next, table_tree::in_word(r, v));
-        i += 1;
+        next += usize::from(table_tree::in_word(r, v));
     }
     next
 }

@@ -32,7 +32,5 @@ pub fn covered(masks: &[u64], first: &[usize], takers: u64, changed: u64) -> boo
         return plain::cover(masks, &starts, &ends, 0, n, changed);
     }
     let b = bounds::find(masks, &starts, &ends, n, changed);
-    let gains = b.gains;
-    let total = b.total;
-    seek::seek(masks, &starts, &ends, &gains, n, changed, total)
+    seek::seek(masks, &starts, &ends, &b.gains, n, changed, b.total)
 }

@@ -1,9 +1,8 @@
 // The edges of use alone, copied to a list of their own; and new bounds, by one pass over the edges.
-ghost use Rattle.std.specs.Prelude.{◌≡◌, ◌+◌, ◌≤◌, ◌<◌, length};
+ghost use Rattle.std.specs.Prelude.{◌≡◌, ◌+◌, ◌≤◌, length};
 ghost use Rattle.judge_cover.specs.Cover.{group};
 ghost use Rattle.judge_cover.specs.Steps.{Laid, Spans, CoversAtMost, BoundsOf, Passed, NarrowedTo};
 
-use crate::bounds::{self};
 use crate::edges::{self};
 use crate::places::{self};
 
@@ -37,14 +36,12 @@ fn sift(
     let all = edges::size(u);
     let mut least = all;
     let mut next = count;
-    let mut i = from;
-    while i < to {
+    for i in from..to {
         let r = masks[i];
         kept[next] = r;
         let left = edges::size(u & r);
-        next = places::advanced(next, left <= others);
-        least = bounds::smaller(least, left);
-        i += 1;
+        next += usize::from(left <= others);
+        least = least.min(left);
     }
     let most = all - least;
     Sifted {
@@ -54,7 +51,7 @@ fn sift(
     }
 }
 
-// Does so with all groups, and says what they then cover at most; less than u has where they cannot cover it.
+// Does so with all groups, and says what they then cover at most; none where they cannot cover u.
 pub(crate) fn narrow(
     masks: &[u64],
     from: &[usize],
@@ -67,8 +64,8 @@ pub(crate) fn narrow(
     starts: &mut [usize; 16],
     ends: &mut [usize; 16],
     less: &mut [usize; 16],
-) -> usize
-    requires n_bound { (n ≤ 16) × (0 < u) }
+) -> Option<usize>
+    requires n_bound { n ≤ 16 }
     requires starts_len { (length starts.old ≡ 16) × (length ends.old ≡ 16) × (length less.old ≡ 16) }
     requires laid { Laid from.now to.now n (length masks.now) }
     requires laid_2 { Laid from.now to.now n 512 }
@@ -80,25 +77,23 @@ pub(crate) fn narrow(
     let all = edges::size(u);
     let mut t = total;
     let mut count = 0;
-    let mut k = 0;
-    while k < n {
+    for k in 0..n {
         let gain = places::place(gains, k);
         let a = places::place(from, k);
         let b = places::place(to, k);
         let s = sift(masks, a, b, u, t, gain, kept, count);
         let next = s.next;
         if next <= count {
-            return 0;
+            return None;
         }
         t = s.total;
         if t < all {
-            return 0;
+            return None;
         }
         starts[k] = count;
         ends[k] = next;
         less[k] = s.most;
         count = next;
-        k += 1;
     }
-    t
+    Some(t)
 }

@@ -1,26 +1,19 @@
 // Where the groups stand: group k has the places from `starts[k]` up to `ends[k]`. Past the end of a slice stands 0.
 ghost use Rattle.std.specs.Prelude.{◌≡◌, true, List, ℕ, ◌≤◌, length, get_or};
 ghost use Rattle.judge_cover.specs.Cover.{past, groups, groups_of, all_filled};
-ghost use Rattle.judge_cover.specs.Steps.{advanced, Without, InRow, Laid, Spans, Last};
+ghost use Rattle.judge_cover.specs.Steps.{Without, InRow, Laid, Spans, Last};
 
+// Stays two functions: each is a call of the library, and `place(starts, k)` is plainer than `at(starts, k, 0)`.
 pub fn mask_at(masks: &[u64], i: usize) -> u64
     ensures { result ≡ get_or masks.now i 0 }
 {
-    if i < masks.len() { masks[i] } else { 0 }
+    masks.get(i).copied().unwrap_or(0)
 }
 
 pub fn place(places: &[usize], k: usize) -> usize
     ensures { result ≡ get_or places.now k 0 }
 {
-    if k < places.len() { places[k] } else { 0 }
-}
-
-// One more, if the test says so.
-pub(crate) fn advanced(n: usize, test: bool) -> usize
-    requires { n ≤ 4294967296 }
-    ensures { result ≡ advanced n test }
-{
-    if test { n + 1 } else { n }
+    places.get(k).copied().unwrap_or(0)
 }
 
 // Item i of a list without item k is item `past(k, i)` of the list.
@@ -31,15 +24,15 @@ fn past(k: usize, i: usize) -> usize
     if i < k { i } else { i + 1 }
 }
 
+// Not inlined, so that the frames of the search stay small.
+#[inline(never)]
 pub(crate) fn without(list: &[usize], k: usize) -> [usize; 16]
     ensures without { Without k list.now result }
     ensures result_len { length result ≡ 16 }
 {
     let mut rest = [0usize; 16];
-    let mut i = 0;
-    while i < 16 {
+    for i in 0..16 {
         rest[i] = place(list, past(k, i));
-        i += 1;
     }
     rest
 }
@@ -48,12 +41,10 @@ pub(crate) fn without(list: &[usize], k: usize) -> [usize; 16]
 pub(crate) fn all_filled(starts: &[usize], ends: &[usize], n: usize) -> bool
     ensures { result ≡ all_filled starts.now ends.now n }
 {
-    let mut k = 0;
-    while k < n {
+    for k in 0..n {
         if place(ends, k) <= place(starts, k) {
             return false;
         }
-        k += 1;
     }
     true
 }
@@ -64,20 +55,15 @@ pub(crate) fn laid(length: usize, starts: &[usize], ends: &[usize], n: usize) ->
     ensures { result ≡ true → InRow starts.now ends.now n length }
 {
     let mut least = 0;
-    let mut k = 0;
-    while k < n {
+    for k in 0..n {
         if place(starts, k) < least {
             return false;
         }
         let end = place(ends, k);
-        if length < end {
-            return false;
-        }
-        if 512 < end {
+        if length.min(512) < end {
             return false;
         }
         least = end;
-        k += 1;
     }
     true
 }
@@ -98,11 +84,7 @@ pub(crate) fn short(starts: &[usize], ends: &[usize], n: usize) -> bool
     requires laid { Laid starts.now ends.now n 512 }
     ensures { result ≡ true → Spans starts.now ends.now n 128 }
 {
-    let end = last(ends, n);
-    if end <= 128 {
-        return true;
-    }
-    end - 128 <= place(starts, 0)
+    last(ends, n).saturating_sub(128) <= place(starts, 0)
 }
 
 // The places of the takers' groups, one after the other, and how many there are.
@@ -119,12 +101,10 @@ pub(crate) fn groups(
         ≡ groups_of masks first.now takers }
 {
     let mut n = 0;
-    let mut k = 0;
-    while k < 16 {
+    for k in 0..16 {
         starts[n] = place(first, k);
         ends[n] = place(first, k + 1);
-        n = advanced(n, table_tree::in_word(takers, k as u32));
-        k += 1;
+        n += usize::from(table_tree::in_word(takers, k as u32));
     }
     n
 }

@@ -21,13 +21,12 @@ pub(crate) fn cover(
     if n <= k {
         return u == 0;
     }
+    let from = places::place(starts, k);
     let to = places::place(ends, k);
-    let mut i = places::place(starts, k);
-    while i < to {
+    for i in from..to {
         if cover(masks, starts, ends, k + 1, n, edges::left_by(masks, u, i)) {
             return true;
         }
-        i += 1;
     }
     false
 }

@@ -1,4 +1,6 @@
 // The search: each call of `seek` has a group less to choose from.
+// Stays a list of parameters: `branch` writes to `kept` and `ends` between the calls that it lends them to, so a struct
+// of the slices would be made anew for each call, in frames that stand 16 deep.
 ghost use Rattle.std.specs.Prelude.{◌≡◌, true, ◌≤◌, ◌<◌, length};
 ghost use Rattle.model.specs.Table.{bit};
 ghost use Rattle.judge_cover.specs.Cover.{coverable, groups};
@@ -64,12 +66,10 @@ fn narrowed(
     let mut from = [0usize; 16];
     let mut to = [0usize; 16];
     let mut less = [0usize; 16];
-    let t = narrow::narrow(
+    let narrowed = narrow::narrow(
         masks, starts, ends, gains, n, u, total, kept, &mut from, &mut to, &mut less,
     );
-    if t < edges::size(u) {
-        return false;
-    }
+    let Some(t) = narrowed else { return false };
     branch(kept, &from, &mut to, &less, n, u, t)
 }
 
@@ -92,18 +92,20 @@ fn branch(
     ensures { result ≡ coverable (groups kept.old starts.now ends.old n) u }
 {
     let v = choice::choose(kept, places::last(ends, n), u);
-    let mut k = edges::next_named(kept, starts, ends, 0, n, v);
-    while k < n {
+    for k in 0..n {
+        let from = places::place(starts, k);
+        let to = places::place(ends, k);
+        if !edges::names(kept, from, to, v) {
+            continue;
+        }
         if tried(kept, starts, ends, gains, n, u, total, k, v) {
             return true;
         }
-        let from = places::place(starts, k);
-        let end = edges::drop_named(kept, from, places::place(ends, k), v);
+        let end = edges::drop_named(kept, from, to, v);
         if end <= from {
             return false;
         }
         ends[k] = end;
-        k = edges::next_named(kept, starts, ends, k + 1, n, v);
     }
     false
 }
@@ -134,15 +136,13 @@ fn tried(
     let rest = total - places::place(gains, k);
     let a = places::place(starts, k);
     let b = places::place(ends, k);
-    let mut i = a;
-    while i < b {
+    for i in a..b {
         if edges::worth(masks, a, b, u, v, i) {
             let left = edges::left_by(masks, u, i);
             if seek(masks, &from, &to, &less, n - 1, left, rest) {
                 return true;
             }
         }
-        i += 1;
     }
     false
 }

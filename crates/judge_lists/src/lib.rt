@@ -1,21 +1,18 @@
 // The lists of a run: their lengths, and the memory lent for the state at its end.
 #![tactic(auto)]
 
-ghost use Rattle.std.specs.Prelude.{◌≡◌, ◌*◌, ◌<◌, pos, length, get_or, take, eqb};
+ghost use Rattle.std.specs.Prelude.{◌≡◌, ◌*◌, length, take, eqb};
 ghost use Rattle.table_places.specs.Layout.{automata_of, variables_of};
 ghost use Rattle.judge_lists.specs.Lists.{lists_fit, end_fits, placed};
 
 use judge_rows::{Phase, State};
 use table_places::Layout;
 
-// Is the total n times the count? The product is not made: it might not fit.
+// Is the total n times the count? A product that does not fit is no total.
 fn times(total: usize, n: usize, count: usize) -> bool
     ensures { result ≡ eqb total (n * count) }
 {
-    if n == 0 {
-        return total == 0;
-    }
-    (total / n == count) & (total % n == 0)
+    n.checked_mul(count) == Some(total)
 }
 
 // So many locations and values are those of `count` proposals.
@@ -33,36 +30,12 @@ pub fn end_fits(x: Layout, locations: usize, values: usize) -> bool
 }
 
 // Puts the items at the front of lent memory; nothing where they are too many.
-fn put_words(list: &[u32], lent: &mut [u32])
+#[tactic(auto, using(crate::proofs::ListLaws::put_laws))]
+fn put<T: Copy>(list: &[T], lent: &mut [T])
     ensures { lent.new ≡ placed list.now lent.old }
 {
-    if lent.len() < list.len() {
-        return;
-    }
-    let mut i = 0;
-    while i < list.len() {
-        lent[i] = list[i];
-        i += 1;
-    }
-}
-
-fn value_at(list: &[i32], i: usize) -> i32
-    requires { i < length list.now }
-    ensures { result ≡ get_or list.now i (pos 0) }
-{
-    list[i]
-}
-
-fn put_values(list: &[i32], lent: &mut [i32])
-    ensures { lent.new ≡ placed list.now lent.old }
-{
-    if lent.len() < list.len() {
-        return;
-    }
-    let mut i = 0;
-    while i < list.len() {
-        lent[i] = value_at(list, i);
-        i += 1;
+    if list.len() <= lent.len() {
+        lent[..list.len()].copy_from_slice(list);
     }
 }
 
@@ -76,9 +49,7 @@ pub fn keep(x: Layout, s: State, end_locations: &mut [u32], end_values: &mut [i3
 {
     let n = table_places::automata_of(x);
     let v = table_places::variables_of(x);
-    let locations = s.locations;
-    let values = s.values;
-    put_words(&locations[..n], end_locations);
-    put_values(&values[..v], end_values);
+    put(&s.locations[..n], end_locations);
+    put(&s.values[..v], end_values);
     s.phase
 }

@@ -1,4 +1,8 @@
 -- Each way out of the code of src/.
+use Rattle.std.proofs.Common.{Result, Ok, Err}
+use Rattle.std.specs.Prelude.{⊤}
+use Rattle.model.specs.declared.Row.{Row}
+use Rattle.model.specs.Row.{row}
 use mathlib.Core.Path.{◌≡◌, refl, sym, ap, ◌∙◌}
 use mathlib.Core.Bool.{Bool, true, false, not, ◌&&◌, ◌||◌}
 use mathlib.Core.List.{List}
@@ -17,13 +21,9 @@ use Rattle.model.proofs.Tests.{not-true, not-false}
 use Rattle.table_places.specs.declared.layout.Layout.{Layout}
 use Rattle.table_places.specs.Outline.{location_count}
 use Rattle.table_places.specs.Layout.{automata_of}
-use Rattle.model.specs.declared.Checked.{Checked}
-use Rattle.model.specs.declared.Checked.TheVariants as C
 use Rattle.judge_rows.specs.declared.Phase.{Phase}
 use Rattle.judge_rows.specs.declared.Phase.TheVariants.{Start, Running}
 use Rattle.judge_rows.specs.declared.State.{State}
-use Rattle.judge_rows.specs.declared.Admitted.{Admitted}
-use Rattle.judge_rows.specs.declared.Admitted.TheVariants.{In, Out}
 use Rattle.judge_rows.specs.States.{filled, state_of}
 use Rattle.judge_rows.specs.Each.{each_from}
 use Rattle.judge_rows.specs.RowTests.{phase_read, lengths_fit, location_known, known_at, locations_known, range_has, values_known, action_known}
@@ -35,20 +35,18 @@ pub state_is : (phase : Phase) (l a : List ℕ) (v b : List ℤ) → a ≡ fille
 unfolding state_of
 state_is phase l a v b e f = rw (e, f)
 
--- `phase_of`
-pub phase_start : (p : ℕ) → p ≡ 0 → In Start ≡ phase_read p
+-- `Phase::try_from`
+pub phase_start : (p : ℕ) → p ≡ 0 → Ok Start ≡ phase_read p
 unfolding phase_read
 phase_start p e = rw (eq-eqb p 0 e, phase_read)
 
-pub phase_running : (p : ℕ) → p ≡ 1 → In Running ≡ phase_read p
+pub phase_running : (p : ℕ) → p ≡ 1 → Ok Running ≡ phase_read p
 unfolding phase_read
 phase_running p e = rw e
 
-pub phase_none : (p : ℕ) → (p ≡ 0 → ⊥) → (p ≡ 1 → ⊥) → Out 20 ≡ phase_read p
+pub phase_none : (p : ℕ) → (p ≡ 0 → ⊥) → (p ≡ 1 → ⊥) → Err (row 20) ≡ phase_read p
 unfolding phase_read
 phase_none p a b = rw (ne_eqb p 0 a, phase_read, ne_eqb p 1 b, phase_read)
-
-pub ruleset phase_laws = (phase_start, phase_running, phase_none)
 
 -- `lengths`
 pub lengths_is : (x : Layout) (l v : ℕ) → (eqb l x.automata && eqb v x.variables) ≡ lengths_fit x l v
@@ -84,7 +82,7 @@ action_known_is x action i e = rw e
 
 -- `state_checked`
 module _ (w : List ℕ) (x : Layout) (l : List ℕ) (v : List ℤ) (a : Bool) (e : a ≡ lengths_fit x (length l) (length v)) where
-  pub state_21 : not a ≡ true → C.Refused 21 ≡ state_checked w x l v
+  pub state_21 : not a ≡ true → Err (row 21) ≡ state_checked w x l v
   unfolding state_checked
   state_21 h =
       let y : lengths_fit x (length l) (length v) ≡ false = sym e ∙ not-true a h in
@@ -94,7 +92,7 @@ module _ (w : List ℕ) (x : Layout) (l : List ℕ) (v : List ℤ) (a : Bool) (e
     fit : lengths_fit x (length l) (length v) ≡ true
     fit = sym e ∙ not-false a h
 
-    pub state_22 : not b ≡ true → C.Refused 22 ≡ state_checked w x l v
+    pub state_22 : not b ≡ true → Err (row 22) ≡ state_checked w x l v
     unfolding state_checked
     state_22 i =
         let y : locations_known w x l ≡ false = sym f ∙ not-true b i in
@@ -104,98 +102,88 @@ module _ (w : List ℕ) (x : Layout) (l : List ℕ) (v : List ℤ) (a : Bool) (e
       known : locations_known w x l ≡ true
       known = sym f ∙ not-false b i
 
-      pub state_23 : not c ≡ true → C.Refused 23 ≡ state_checked w x l v
+      pub state_23 : not c ≡ true → Err (row 23) ≡ state_checked w x l v
       unfolding state_checked
       state_23 j =
           let y : values_known w x v ≡ false = sym g ∙ not-true c j in
           rw (fit, state_checked, known, state_checked, y, state_checked)
 
-      pub state_passes : not c ≡ false → C.Good ≡ state_checked w x l v
+      pub state_passes : not c ≡ false → Ok tt ≡ state_checked w x l v
       unfolding state_checked
       state_passes j =
           let y : values_known w x v ≡ true = sym g ∙ not-false c j in
           rw (fit, state_checked, known, state_checked, y, state_checked)
 
-pub ruleset state_laws = (state_21, state_22, state_23, state_passes)
-
 -- `values_checked`
 module _ (w : List ℕ) (x : Layout) (v : List ℤ) where
-  pub values_21 : (length v ≡ x.variables → ⊥) → C.Refused 21 ≡ values_checked w x v
+  pub values_21 : (length v ≡ x.variables → ⊥) → Err (row 21) ≡ values_checked w x v
   unfolding values_checked
   values_21 h = rw (ne_eqb (length v) x.variables h, values_checked)
 
   module _ (h : length v ≡ x.variables) (c : Bool) (g : c ≡ values_known w x v) where
-    pub values_23 : not c ≡ true → C.Refused 23 ≡ values_checked w x v
+    pub values_23 : not c ≡ true → Err (row 23) ≡ values_checked w x v
     unfolding values_checked
     values_23 j =
         let y : values_known w x v ≡ false = sym g ∙ not-true c j in
         rw (eq-eqb (length v) x.variables h, values_checked, y, values_checked)
 
-    pub values_pass : not c ≡ false → C.Good ≡ values_checked w x v
+    pub values_pass : not c ≡ false → Ok tt ≡ values_checked w x v
     unfolding values_checked
     values_pass j =
         let y : values_known w x v ≡ true = sym g ∙ not-false c j in
         rw (eq-eqb (length v) x.variables h, values_checked, y, values_checked)
 
-pub ruleset values_laws = (values_21, values_23, values_pass)
-
 -- `lists`
 module _ (w : List ℕ) (x : Layout) (l : List ℕ) (v : List ℤ) (l' : List ℕ) (v' : List ℤ) (a b : Bool) (e : a ≡ lengths_fit x (length l) (length v)) (f : b ≡ lengths_fit x (length l') (length v')) where
-  pub lists_21 : (not a || not b) ≡ true → C.Refused 21 ≡ lists_checked w x l v l' v'
+  pub lists_21 : (not a || not b) ≡ true → Err (row 21) ≡ lists_checked w x l v l' v'
   unfolding lists_checked
   lists_21 h = rw (rw (e, f) at h, lists_checked)
 
   module _ (h : (not a || not b) ≡ false) (c d : Bool) (g : c ≡ locations_known w x l) (i : d ≡ locations_known w x l') where
-    pub lists_22 : (not c || not d) ≡ true → C.Refused 22 ≡ lists_checked w x l v l' v'
+    pub lists_22 : (not c || not d) ≡ true → Err (row 22) ≡ lists_checked w x l v l' v'
     unfolding lists_checked
     lists_22 j = rw (rw (e, f) at h, lists_checked, rw (g, i) at j, lists_checked)
 
     module _ (j : (not c || not d) ≡ false) (p q : Bool) (k : p ≡ values_known w x v) (m : q ≡ values_known w x v') where
-      pub lists_23 : (not p || not q) ≡ true → C.Refused 23 ≡ lists_checked w x l v l' v'
+      pub lists_23 : (not p || not q) ≡ true → Err (row 23) ≡ lists_checked w x l v l' v'
       unfolding lists_checked
       lists_23 o = rw (rw (e, f) at h, lists_checked, rw (g, i) at j, lists_checked, rw (k, m) at o, lists_checked)
 
-      pub lists_good : (not p || not q) ≡ false → C.Good ≡ lists_checked w x l v l' v'
+      pub lists_good : (not p || not q) ≡ false → Ok tt ≡ lists_checked w x l v l' v'
       unfolding lists_checked
       lists_good o = rw (rw (e, f) at h, lists_checked, rw (g, i) at j, lists_checked, rw (k, m) at o, lists_checked)
 
-pub ruleset lists_laws = (lists_21, lists_22, lists_23, lists_good)
-
 -- `admitted`
-module _ (w : List ℕ) (x : Layout) (phase : ℕ) (l : List ℕ) (v : List ℤ) (l' : List ℕ) (v' : List ℤ) (y : Admitted) (f : y ≡ phase_read phase) where
-  pub out_of_phase : (row : ℕ) → y ≡ Out row → Out row ≡ admitted_on w x phase l v l' v'
+module _ (w : List ℕ) (x : Layout) (phase : ℕ) (l : List ℕ) (v : List ℤ) (l' : List ℕ) (v' : List ℤ) (y : Result Phase Row) (f : y ≡ phase_read phase) where
+  pub out_of_phase : (r : Row) → y ≡ Err r → Err r ≡ admitted_on w x phase l v l' v'
   unfolding admitted_on then_phase
-  out_of_phase row g = rw (sym f ∙ g)
+  out_of_phase r g = rw (sym f ∙ g)
 
-  module _ (p : Phase) (g : y ≡ In p) (z : Checked) (i : z ≡ lists_checked w x l v l' v') where
-    pub out_of_lists : (row : ℕ) → z ≡ C.Refused row → Out row ≡ admitted_on w x phase l v l' v'
+  module _ (p : Phase) (g : y ≡ Ok p) (z : Result ⊤ Row) (i : z ≡ lists_checked w x l v l' v') where
+    pub out_of_lists : (r : Row) → z ≡ Err r → Err r ≡ admitted_on w x phase l v l' v'
     unfolding admitted_on then_phase then_lists
-    out_of_lists row j = rw (sym f ∙ g, sym i ∙ j)
+    out_of_lists r j = rw (sym f ∙ g, sym i ∙ j)
 
-    pub admitted_in : z ≡ C.Good → In p ≡ admitted_on w x phase l v l' v'
+    pub admitted_in : z ≡ Ok tt → Ok p ≡ admitted_on w x phase l v l' v'
     unfolding admitted_on then_phase then_lists
     admitted_in j = rw (sym f ∙ g, sym i ∙ j)
 
-pub ruleset admitted_laws = (out_of_phase, out_of_lists, admitted_in)
-
 -- `begun`
-module _ (w : List ℕ) (x : Layout) (l : List ℕ) (v : List ℤ) (phase : ℕ) (y : Admitted) (f : y ≡ phase_read phase) where
-  pub not_in_phase : (row : ℕ) → y ≡ Out row → Out row ≡ begun_on w x l v phase
+module _ (w : List ℕ) (x : Layout) (l : List ℕ) (v : List ℤ) (phase : ℕ) (y : Result Phase Row) (f : y ≡ phase_read phase) where
+  pub not_in_phase : (r : Row) → y ≡ Err r → Err r ≡ begun_on w x l v phase
   unfolding begun_on then_phase
-  not_in_phase row g = rw (sym f ∙ g)
+  not_in_phase r g = rw (sym f ∙ g)
 
-  module _ (p : Phase) (g : y ≡ In p) (z : Checked) (i : z ≡ state_checked w x l v) where
-    pub not_begun : (row : ℕ) → z ≡ C.Refused row → Out row ≡ begun_on w x l v phase
+  module _ (p : Phase) (g : y ≡ Ok p) (z : Result ⊤ Row) (i : z ≡ state_checked w x l v) where
+    pub not_begun : (r : Row) → z ≡ Err r → Err r ≡ begun_on w x l v phase
     unfolding begun_on then_phase then_lists
-    not_begun row j = rw (sym f ∙ g, sym i ∙ j)
+    not_begun r j = rw (sym f ∙ g, sym i ∙ j)
 
-    pub begun_in : z ≡ C.Good → In p ≡ begun_on w x l v phase
+    pub begun_in : z ≡ Ok tt → Ok p ≡ begun_on w x l v phase
     unfolding begun_on then_phase then_lists
     begun_in j = rw (sym f ∙ g, sym i ∙ j)
 
-pub ruleset begun_laws = (not_in_phase, not_begun, begun_in)
-
--- `phase_number`
+-- `u32::from`
 pub number_start : (p : Phase) → p ≡ Start → 0 ≡ phase_number (phase_is p)
 unfolding phase_number phase_is
 number_start p e = rw e
@@ -204,4 +192,24 @@ pub number_running : (p : Phase) → p ≡ Running → 1 ≡ phase_number (phase
 unfolding phase_number phase_is
 number_running p e = rw e
 
-pub ruleset phase_number_laws = (number_start, number_running)
+pub ruleset row_laws = (phase_start, phase_running, phase_none, number_start, number_running, lengths_is, location_known_is, within_is, action_known_is)
+
+pub ruleset call_laws = (
+  state_21,
+  state_22,
+  state_23,
+  state_passes,
+  values_21,
+  values_23,
+  values_pass,
+  lists_21,
+  lists_22,
+  lists_23,
+  lists_good,
+  out_of_phase,
+  out_of_lists,
+  admitted_in,
+  not_in_phase,
+  not_begun,
+  begun_in,
+)

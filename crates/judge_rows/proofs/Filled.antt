@@ -1,11 +1,11 @@
--- An array that is filled from a list, item by item.
+-- An array that is filled from a list.
 use mathlib.Core.Path.{◌≡◌, refl, sym, ap, ◌∙◌}
-use mathlib.Core.List.{List, [], ◌∷◌, ◌++◌}
-use Prim.Native.Nat.{ℕ, zero, suc, ◌+◌, ◌≤◌, ◌<◌}
+use mathlib.Core.List.{List, [], ◌∷◌, ◌++◌, append-nil}
+use Prim.Native.Nat.{ℕ, zero, suc, ◌+◌, ◌-◌, ◌≤◌, ◌<◌}
 use native.Mathlib.Omega.{arith}
-use native.Mathlib.Numerals.{add-one}
-use lib.ListN.{length, get_or, take, set, replicate, length-append, length-replicate, length-set}
-use lib.Seq.{take_all, take_at, take-take, take-suc, take-suc-set, length-take-le, get_or-take}
+use lib.ListN.{length, get_or, take, drop, replicate, length-append, length-replicate}
+use lib.Seq.{take_all, take_at, take-take, take-append-add, length-take-le, get_or-take}
+use Rattle.std.proofs.lemmas.List.{take-append-le, take-replicate, drop-replicate}
 use Rattle.judge_rows.specs.States.{filled}
 
 module _ {A : Type 0} (n : ℕ) (other : A) (list : List A) where
@@ -36,31 +36,26 @@ module _ {A : Type 0} (n : ℕ) (other : A) (list : List A) where
       past (x ∷ l) zero = refl
       past (x ∷ l) (suc i) = past l i
 
-  -- The first i items are in place.
-  pub record Filling (all : List A) (i : ℕ) : Type 0 where
-    pub front : take i all ≡ take i (filled n other list)
-    pub size : length all ≡ n
-
-  pub fill_first : Filling (replicate n other) 0
-  fill_first = record { front = refl; size = length-replicate n other }
-
-  pub fill_step_lem : (all : List A) (i : ℕ) (x : A) → Filling all i → i < n → x ≡ get_or list i other → Filling (set all i x) (i + 1)
-  fill_step_lem all i x f h e =
-      let l : i < length all = omega (arith, f.size) in
-      let k : i < length (filled n other list) = omega (arith, filled_length) in
-      record {
-        front =
-            rw (add-one i)
-            (take-suc-set all i x l ∙ ap (λ (p : List A). p ++ x ∷ []) f.front ∙
-            ap (λ (y : A). take i (filled n other list) ++ y ∷ []) (e ∙ sym (filled_at i h)) ∙ sym (take-suc (filled n other list) i other k));
-        size = length-set all i x ∙ f.size;
-      }
-
-  pub fill_done : (all : List A) (i : ℕ) → Filling all i → n ≤ i → all ≡ filled n other list
-  fill_done all i f h =
-      sym (take_all i all (omega (arith, f.size))) ∙ f.front ∙ take_all i (filled n other list) (omega (arith, filled_length))
-
-pub ruleset fill_laws = (fill_first, fill_step_lem, fill_done)
+  -- the first items of the list, and behind them what an array of `other` has there
+  pub filled_over : (k : ℕ) → k ≤ n → k ≤ length list → (k < n → k ≡ length list) → take k list ++ drop k (replicate n other) ≡ filled n other list
+  unfolding filled
+  filled_over k h i whole = go (n - k) refl
+    where
+      go : (d : ℕ) → n - k ≡ d → take k list ++ drop k (replicate n other) ≡ take n (list ++ replicate n other)
+      go zero l =
+          let e : k ≡ n = omega arith in
+          let f : n ≤ length list = omega arith in
+          let z : n - n ≡ 0 = omega arith in
+          rw (e, drop-replicate n n other, z, append-nil, take-append-le n list (replicate n other) f)
+      go (suc m) l =
+          let e : k ≡ length list = whole (omega arith) in
+          let f : n ≡ length list + (n - k) = omega arith in
+          let d : n - k ≤ n = omega arith in
+          let all : take k list ≡ list = take_all k list (omega arith) in
+          ap (λ (p : List A). p ++ drop k (replicate n other)) all ∙
+          ap (λ (p : List A). list ++ p) (drop-replicate k n other ∙ sym (take-replicate (n - k) n other d)) ∙
+          sym (take-append-add list (replicate n other) (n - k)) ∙
+          ap (λ (m : ℕ). take m (list ++ replicate n other)) (sym f)
 
 -- so many of an array's items are within it
 pub front_fits : {A : Type 0} (most : ℕ) (l : List A) (n : ℕ) → length l ≡ most → n ≤ most → n ≤ length l

@@ -1,4 +1,7 @@
 -- A state of the definitions, and the code's arrays that show it.
+use Rattle.std.proofs.Common.{Result, Ok, Err}
+use Rattle.model.specs.declared.Row.{Row}
+use Rattle.model.specs.Row.{row}
 use mathlib.Core.Path.{◌≡◌, refl}
 use mathlib.Core.Bool.{Bool, true, false, ◌||◌}
 use mathlib.Core.List.{List}
@@ -20,8 +23,6 @@ use Rattle.table_places.proofs.Opened.{Sheet}
 use Rattle.judge_rows.specs.declared.Phase.{Phase}
 use Rattle.judge_rows.specs.declared.Phase.TheVariants.{Start, Running}
 use Rattle.judge_rows.specs.declared.State.{State}
-use Rattle.judge_rows.specs.declared.Admitted.{Admitted}
-use Rattle.judge_rows.specs.declared.Admitted.TheVariants.{In, Out}
 use Rattle.judge_rows.specs.Phases.{phase_is}
 use Rattle.judge_rows.specs.States.{state_of, filled}
 use Rattle.judge_rows.specs.RowTests.{phase_read}
@@ -64,7 +65,7 @@ shows m lawful phase l v a b c =
     }
 
 -- row 20: the code reads a phase exactly where the definitions have one
-pub phase_read_lem : (p : ℕ) (P : Admitted → Option R.Phase → Type 0) → ((q : Phase) → P (In q) (some (phase_is q))) → P (Out 20) none → P (phase_read p) (J.phase_of p)
+pub phase_read_lem : (p : ℕ) (P : Result Phase Row → Option R.Phase → Type 0) → ((q : Phase) → P (Ok q) (some (phase_is q))) → P (Err (row 20)) none → P (phase_read p) (J.phase_of p)
 unfolding phase_read J.phase_of phase_is
 phase_read_lem p P some-phase no_phase = go (eqb p 0) refl (eqb p 1) refl
   where

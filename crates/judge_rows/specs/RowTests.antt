@@ -1,22 +1,24 @@
 -- Rows 20 to 24 over the words of a table and a layout; each test is true where its row lets a call pass. On a model's
 -- table and its layout they are the rows of the definitions: the laws of RowLaws.
+use Rattle.std.specs.Prelude.{Result, Ok, Err}
+use Rattle.model.specs.declared.Row.{Row}
+use Rattle.model.specs.Row.{row}
 use Rattle.std.specs.Prelude.{Bool, true, false, ◌&&◌, List, ℕ, ℤ, pos, get_or, eqb, leb, ltb}
 use Rattle.model.specs.Basic.{between}
 use Rattle.model.specs.Table.{unbiased}
 use Rattle.table_places.specs.declared.layout.Layout.{Layout}
 use Rattle.table_places.specs.Outline.{location_count, range_at, low_at, high_at}
 use Rattle.table_places.specs.Layout.{automata_of}
+use Rattle.judge_rows.specs.declared.Phase.{Phase}
 use Rattle.judge_rows.specs.declared.Phase.TheVariants.{Start, Running}
-use Rattle.judge_rows.specs.declared.Admitted.{Admitted}
-use Rattle.judge_rows.specs.declared.Admitted.TheVariants.{In, Out}
 use Rattle.judge_rows.specs.Each.{each_from}
 
 -- row 20
-unfoldable pub phase_read : ℕ → Admitted
+unfoldable pub phase_read : ℕ → Result Phase Row
 phase_read phase =
     elim (eqb phase 0) [
-      | true ↦ In Start
-      | false ↦ elim (eqb phase 1) [ true ↦ In Running | false ↦ Out 20 ]
+      | true ↦ Ok Start
+      | false ↦ elim (eqb phase 1) [ true ↦ Ok Running | false ↦ Err (row 20) ]
     ]
 
 -- row 21, for so many locations and values

@@ -4,41 +4,26 @@ ghost use Rattle.judge_rows.specs.States.{filled, state_of};
 
 use crate::{Phase, State};
 
-fn locations_of(locations: &[u32]) -> [u32; 16]
-    ensures { result ≡ filled 16 0 locations.now }
+// The list in an array of its own: longer lists are cut, and `other` stands behind shorter ones.
+pub fn padded<T: Copy, const N: usize>(list: &[T], other: T) -> [T; N]
+    ensures { result ≡ filled N other list.now }
 {
-    let mut all = [0u32; 16];
-    let mut i = 0;
-    while i < 16 {
-        all[i] = table_places::word32(locations, i);
-        i += 1;
-    }
-    all
-}
-
-fn values_of(values: &[i32]) -> [i32; 48]
-    ensures { result ≡ filled 48 (pos 0) values.now }
-{
-    let mut all = [0i32; 48];
-    let mut i = 0;
-    while i < 48 {
-        all[i] = arithmetic::variable(values, i);
-        i += 1;
-    }
+    let mut all = [other; N];
+    let n = list.len().min(N);
+    all[..n].copy_from_slice(&list[..n]);
     all
 }
 
 impl State {
     // Longer lists are cut.
+    #[tactic(auto, using(crate::proofs::CodeLaws::state_is))]
     pub fn of(phase: Phase, locations: &[u32], values: &[i32]) -> State
         ensures { result ≡ state_of phase locations.now values.now }
     {
-        let at = locations_of(locations);
-        let has = values_of(values);
         State {
             phase,
-            locations: at,
-            values: has,
+            locations: padded(locations, 0),
+            values: padded(values, 0),
         }
     }
 }

@@ -7,10 +7,11 @@ mod fill;
 mod rows;
 
 pub use call::{admit, begun, state_checked, values_checked};
+pub use fill::padded;
 pub use rows::{action_known, phase_number};
 
 // Phase 0 is Start, phase 1 Running.
-#[derive(Clone, Copy)]
+#[derive(Clone, Copy, Debug, PartialEq, Eq)]
 pub enum Phase {
     Start,
     Running,
@@ -22,11 +23,4 @@ pub struct State {
     pub phase: Phase,
     pub locations: [u32; 16],
     pub values: [i32; 48],
-}
-
-// What the rows say of a call: it passes, in this phase; or the row that refuses it.
-#[derive(Clone, Copy)]
-pub enum Admitted {
-    In(Phase),
-    Out(u32),
 }

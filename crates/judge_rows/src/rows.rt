@@ -1,4 +1,6 @@
 // Rows 20 to 24, over the words of a table and its layout. Each test is true where its row lets a call pass.
+#![tactic(auto, using(crate::proofs::CodeLaws::row_laws))]
+
 ghost use Rattle.std.specs.Prelude.{◌≡◌};
 ghost use Rattle.model.specs.Basic.{between};
 ghost use Rattle.model.specs.Runs.{phase_number};
@@ -6,17 +8,33 @@ ghost use Rattle.judge_rows.specs.Phases.{phase_is};
 ghost use Rattle.judge_rows.specs.RowTests.{phase_read, lengths_fit, location_known, locations_known};
 ghost use Rattle.judge_rows.specs.RowTests.{range_has, values_known, action_known};
 
-use crate::{Admitted, Phase};
+use crate::Phase;
+use model::Row;
 use table_places::Layout;
 
-// Row 20: which phase has this number?
-pub(crate) fn phase_of(phase: u32) -> Admitted
-    ensures { result ≡ phase_read phase }
-{
-    match phase {
-        0 => Admitted::In(Phase::Start),
-        1 => Admitted::In(Phase::Running),
-        _ => Admitted::Out(20),
+// Row 20: the phase that has this number.
+impl TryFrom<u32> for Phase {
+    type Error = Row;
+
+    ghost try_from_gives = { λ phase result. result ≡ phase_read phase };
+
+    fn try_from(phase: u32) -> Result<Phase, Row> {
+        match phase {
+            0 => Ok(Phase::Start),
+            1 => Ok(Phase::Running),
+            _ => Err(Row(20)),
+        }
+    }
+}
+
+impl From<Phase> for u32 {
+    ghost from_gives = { λ phase result. result ≡ phase_number (phase_is phase) };
+
+    fn from(phase: Phase) -> u32 {
+        match phase {
+            Phase::Start => 0,
+            Phase::Running => 1,
+        }
     }
 }
 
@@ -24,10 +42,7 @@ pub(crate) fn phase_of(phase: u32) -> Admitted
 pub fn phase_number(phase: Phase) -> u32
     ensures { result ≡ phase_number (phase_is phase) }
 {
-    match phase {
-        Phase::Start => 0,
-        Phase::Running => 1,
-    }
+    u32::from(phase)
 }
 
 // Row 21: a list of so many locations and one of so many values have one for each automaton and each variable.
@@ -48,16 +63,8 @@ fn location_known(words: &[u32], at: usize, locations: &[u32], k: usize) -> bool
 pub(crate) fn locations_known(words: &[u32], x: Layout, locations: &[u32]) -> bool
     ensures { result ≡ locations_known words.now x locations.now }
 {
-    let n = table_places::automata_of(x);
     let places = x.sets;
-    let mut k = 0;
-    while k < n {
-        if !location_known(words, places[k], locations, k) {
-            return false;
-        }
-        k += 1;
-    }
-    true
+    (0..table_places::automata_of(x)).all(|k| location_known(words, places[k], locations, k))
 }
 
 fn within(low: i64, high: i64, value: i64) -> bool
@@ -80,15 +87,7 @@ fn value_known(words: &[u32], values: &[i32], k: usize) -> bool
 pub(crate) fn values_known(words: &[u32], x: Layout, values: &[i32]) -> bool
     ensures { result ≡ values_known words.now x values.now }
 {
-    let n = x.variables;
-    let mut k = 0;
-    while k < n {
-        if !value_known(words, values, k) {
-            return false;
-        }
-        k += 1;
-    }
-    true
+    (0..x.variables).all(|k| value_known(words, values, k))
 }
 
 // Row 24: the model has the action.

@@ -1,21 +1,17 @@
 -- A run over the words of a table, a layout and the automata's own sets, as the code does it. On a good table and what
 -- is found in it, it is the definitions': the law run_exact.
-use Rattle.std.specs.Prelude.{◌≡◌, true, false, List, [], ◌∷◌, ℕ, suc, ◌+◌, ℤ, length, take, drop, set, leb}
+use Rattle.std.specs.Prelude.{◌≡◌, true, false, List, [], ◌∷◌, ℕ, suc, ℤ, length, take, drop, set, leb, Result, Ok, Err}
 use Rattle.table_places.specs.declared.layout.Layout.{Layout}
 use Rattle.table_places.specs.Layout.{layout_of, automata_of, variables_of}
 use Rattle.judge_rows.specs.declared.State.{State}
-use Rattle.judge_runs.specs.declared.Ran.{Ran}
-use Rattle.judge_runs.specs.declared.Ran.TheVariants.{Ended, Refused, Uneven, AnswersShort, EndShort}
-use Rattle.judge_rows.specs.declared.Admitted.TheVariants.{In, Out}
+use Rattle.judge_rows.specs.declared.Phase.{Phase}
+use Rattle.judge_runs.specs.declared.RunError.{RunError}
+use Rattle.judge_runs.specs.declared.RunError.TheVariants.{Refused, Uneven, AnswersShort, EndShort}
 use Rattle.judge_rows.specs.States.{state_of}
 use Rattle.judge_call.specs.Calls.{own_of}
 use Rattle.judge_rows.specs.Checks.{begun_on}
 use Rattle.judge_turn.specs.Turns.{turn_on}
 use Rattle.judge_lists.specs.Lists.{lists_fit, end_fits, in_front}
-
--- the place n items on in a list of so many, or its end
-unfoldable pub onward : (size at n : ℕ) → ℕ
-onward size at n = elim (leb (at + n) size) [ true ↦ at + n | false ↦ size ]
 
 -- where a run is, and what its answers are so far
 pub record Gone : Type 0 where
@@ -32,7 +28,7 @@ go_on words x own n v s answers k (action ∷ actions) locations values =
 
 -- what a list leaves: its answer, and the memory lent for the answers and for the state at the end
 pub record Left : Type 0 where
-  pub ran : Ran
+  pub ran : Result Phase RunError
   pub answers : List ℕ
   pub locations : List ℕ
   pub values : List ℤ
@@ -40,7 +36,7 @@ pub record Left : Type 0 where
 module _ (words : List ℕ) (x : Layout) (own : List ℕ) (s : State) (actions ls : List ℕ) (vs : List ℤ)
     (answers locations : List ℕ) (values : List ℤ) where
   -- a fault: the memory as it was
-  abbrev pub untouched : Ran → Left
+  abbrev pub untouched : Result Phase RunError → Left
   untouched r = record { ran = r; answers = answers; locations = locations; values = values }
 
   -- the run
@@ -50,7 +46,7 @@ module _ (words : List ℕ) (x : Layout) (own : List ℕ) (s : State) (actions l
   unfoldable pub ran_on : Left
   ran_on =
       record {
-        ran = Ended gone.state.phase;
+        ran = Ok gone.state.phase;
         answers = gone.answers;
         locations = in_front (take (automata_of x) gone.state.locations) locations;
         values = in_front (take (variables_of x) gone.state.values) values;
@@ -60,12 +56,15 @@ module _ (words : List ℕ) (x : Layout) (own : List ℕ) (s : State) (actions l
   unfoldable pub listed_on : Left
   listed_on =
       elim (lists_fit x (length actions) (length ls) (length vs)) [
-        | false ↦ untouched Uneven
+        | false ↦ untouched (Err Uneven)
         | true ↦
             elim (leb (length actions) (length answers)) [
-              | false ↦ untouched AnswersShort
+              | false ↦ untouched (Err AnswersShort)
               | true ↦
-                  elim (end_fits x (length locations) (length values)) [ false ↦ untouched EndShort | true ↦ ran_on ]
+                  elim (end_fits x (length locations) (length values)) [
+                    | false ↦ untouched (Err EndShort)
+                    | true ↦ ran_on
+                  ]
             ]
       ]
 
@@ -75,10 +74,10 @@ unfoldable pub over_on : (words : List ℕ) (phase : ℕ) (l : List ℕ) (v : Li
 over_on words phase l v actions ls vs answers locations values =
     let x = layout_of words in
     elim (begun_on words x l v phase) [
-      | Out row ↦ record { ran = Refused row; answers = answers; locations = locations; values = values }
-      | In q ↦ listed_on words x (own_of words) (state_of q l v) actions ls vs answers locations values
+      | Err r ↦ record { ran = Err (Refused r); answers = answers; locations = locations; values = values }
+      | Ok q ↦ listed_on words x (own_of words) (state_of q l v) actions ls vs answers locations values
     ]
 
 -- the same of what a call leaves
-pub record Leaves (l : Left) (r : Ran) (answers locations : List ℕ) (values : List ℤ) : Type 0 where
+pub record Leaves (l : Left) (r : Result Phase RunError) (answers locations : List ℕ) (values : List ℤ) : Type 0 where
   pub is : record { ran = r; answers = answers; locations = locations; values = values } ≡ l

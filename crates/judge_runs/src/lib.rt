@@ -2,38 +2,33 @@
 // sets, found once for the list; and a state that a yes led to is not checked again.
 #![tactic(auto)]
 
-ghost use Rattle.std.specs.Prelude.{◌≡◌, ◌≤◌, true, length};
+ghost use Rattle.std.specs.Prelude.{◌≡◌, ◌≤◌, true, Ok, length};
 ghost use Rattle.table_places.specs.Layout.{automata_of, variables_of};
 ghost use Rattle.judge_lists.specs.Lists.{end_fits};
-ghost use Rattle.judge_runs.specs.declared.Ran.TheVariants.{Ended};
-ghost use Rattle.judge_runs.specs.RunWords.{onward, go_on, ran_on, listed_on, over_on, Leaves};
+ghost use Rattle.judge_runs.specs.declared.RunError.TheVariants.{Refused};
+ghost use Rattle.judge_runs.specs.RunWords.{go_on, ran_on, listed_on, over_on, Leaves};
 
-use judge_rows::{Admitted, Phase, State};
+use judge_rows::{Phase, State};
+use model::Row;
 use table_places::Layout;
 
-// The phase that a run ends in; or the row that refuses the table, the phase or the state that it starts from; or a
-// fault of the list: not one location for each automaton and one value for each variable at each proposal, no place
-// for each answer, no place for the state.
-#[derive(Clone, Copy)]
-pub enum Ran {
-    Ended(Phase),
-    Refused(u32),
+// Why a list is not run: the row that refuses the table, the phase or the state that it starts from; or a fault of the
+// list: not one location for each automaton and one value for each variable at each proposal, no place for each answer,
+// no place for the state.
+#[derive(Clone, Copy, Debug, PartialEq, Eq)]
+pub enum RunError {
+    Refused(Row),
     Uneven,
     AnswersShort,
     EndShort,
 }
 
-// The place n items on in a list of so many, or its end.
-fn onward(size: usize, at: usize, n: usize) -> usize
-    requires { at ≤ size }
-    ensures value { result ≡ onward size at n }
-    ensures lower_bound { at ≤ result }
-    ensures upper_bound { result ≤ size }
-{
-    if size - at < n {
-        return size;
+impl From<Row> for RunError {
+    ghost from_gives = { λ row e. e ≡ Refused row };
+
+    fn from(row: Row) -> RunError {
+        RunError::Refused(row)
     }
-    at + n
 }
 
 // Every proposal in its turn: its locations and values are the next ones. Gives the state at the end.
@@ -58,20 +53,16 @@ fn all(
     let n = table_places::automata_of(x);
     let v = table_places::variables_of(x);
     let mut s = start;
-    let mut at = 0;
-    let mut from = 0;
-    let mut k = 0;
-    while k < actions.len() {
-        let end = onward(new_locations.len(), at, n);
-        let locations = &new_locations[at..end];
-        let last = onward(new_values.len(), from, v);
-        let values = &new_values[from..last];
-        let next = judge_turn::put(words, x, own, s, actions[k], locations, values);
-        answers[k] = next.number;
-        s = next.state;
-        at = end;
-        from = last;
-        k += 1;
+    let mut all_locations = new_locations;
+    let mut all_values = new_values;
+    for (k, action) in actions.iter().enumerate() {
+        let (locations, later_locations) = all_locations.split_at(n.min(all_locations.len()));
+        let (values, later_values) = all_values.split_at(v.min(all_values.len()));
+        let turn = judge_turn::put(words, x, own, s, *action, locations, values);
+        answers[k] = turn.number;
+        s = turn.state;
+        all_locations = later_locations;
+        all_values = later_values;
     }
     s
 }
@@ -94,7 +85,7 @@ fn ended(
     ensures { Leaves (ran_on words.now x own.now start actions.now
         new_locations.now
         new_values.now answers.old end_locations.old end_values.old)
-        (Ended result) answers.new end_locations.new end_values.new }
+        (Ok result) answers.new end_locations.new end_values.new }
 {
     let end = all(
         words,
@@ -122,22 +113,22 @@ fn listed(
     answers: &mut [u32],
     end_locations: &mut [u32],
     end_values: &mut [i32],
-) -> Ran
+) -> Result<Phase, RunError>
     ensures { Leaves (listed_on words.now x own.now start actions.now
         new_locations.now
         new_values.now answers.old end_locations.old end_values.old)
         result answers.new end_locations.new end_values.new }
 {
     if !judge_lists::lengths_for(x, actions.len(), new_locations.len(), new_values.len()) {
-        return Ran::Uneven;
+        return Err(RunError::Uneven);
     }
     if answers.len() < actions.len() {
-        return Ran::AnswersShort;
+        return Err(RunError::AnswersShort);
     }
     if !judge_lists::end_fits(x, end_locations.len(), end_values.len()) {
-        return Ran::EndShort;
+        return Err(RunError::EndShort);
     }
-    Ran::Ended(ended(
+    Ok(ended(
         words,
         x,
         own,
@@ -163,31 +154,26 @@ pub fn over(
     answers: &mut [u32],
     end_locations: &mut [u32],
     end_values: &mut [i32],
-) -> Ran
+) -> Result<Phase, RunError>
     ensures { Leaves (over_on words.now phase locations.now values.now
         actions.now new_locations.now new_values.now answers.old
         end_locations.old end_values.old)
         result answers.new end_locations.new end_values.new }
 {
     let x = table_places::layout_of(words);
-    let begun = judge_rows::begun(words, x, phase, locations, values);
-    match begun {
-        Admitted::Out(row) => Ran::Refused(row),
-        Admitted::In(p) => {
-            let own = table_places::own_sets(words, x);
-            let start = State::of(p, locations, values);
-            listed(
-                words,
-                x,
-                &own,
-                start,
-                actions,
-                new_locations,
-                new_values,
-                answers,
-                end_locations,
-                end_values,
-            )
-        }
-    }
+    let p = judge_rows::begun(words, x, phase, locations, values)?;
+    let own = table_places::own_sets(words, x);
+    let start = State::of(p, locations, values);
+    listed(
+        words,
+        x,
+        &own,
+        start,
+        actions,
+        new_locations,
+        new_values,
+        answers,
+        end_locations,
+        end_values,
+    )
 }

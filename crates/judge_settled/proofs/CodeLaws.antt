@@ -2,10 +2,11 @@
 use mathlib.Core.Path.{◌≡◌, refl, sym, ap, ◌∙◌}
 use mathlib.Core.Bool.{Bool, true, false, not, ◌&&◌}
 use mathlib.Core.List.{List}
-use Prim.Native.Nat.{ℕ, zero, suc, ◌-◌, ◌≤◌}
-use native.Mathlib.Numerals.{sub-one}
+use Prim.Native.Nat.{ℕ, suc, ◌+◌, ◌-◌, ◌≤◌, ◌<◌}
+use native.Mathlib.Omega.{arith}
+use native.Mathlib.Nat.{sub-zero}
 use lib.IntN.{ℤ}
-use lib.ListN.{length, get_or, take, get_or-eq_default}
+use lib.ListN.{get_or, take}
 use Rattle.model.proofs.Tests.{not-true, not-false}
 use Rattle.evaluator.specs.Evaluate.{evaluate}
 use Rattle.table_places.specs.declared.layout.Layout.{Layout}
@@ -20,10 +21,6 @@ use Rattle.judge_settled.specs.declared.Part.TheVariants.{Init, Inv}
 use Rattle.judge_rows.specs.Each.{each_from}
 use Rattle.judge_settled.specs.Settled.{part_at, part_holds, location_holds, holds_at, all_hold, hold_from, starts_hold_at, started_in, settled_at}
 
--- `location`
-pub location_past : (l : List ℕ) (k : ℕ) → length l ≡ 16 → 16 ≤ k → 0 ≡ get_or l k 0
-location_past l k e h = sym (get_or-eq_default l 0 (rw e h))
-
 -- `part_at`
 module _ (w : List ℕ) (part : Part) (at j a init : ℕ) (e : a ≡ first_location w at) (f : init ≡ location_at w a j) where
   pub part_init : part ≡ Init → init ≡ part_at w part at j
@@ -33,8 +30,6 @@ module _ (w : List ℕ) (part : Part) (at j a init : ℕ) (e : a ≡ first_locat
   pub part_inv : part ≡ Inv → (r : ℕ) → r ≡ after_predicate w init → r ≡ part_at w part at j
   unfolding part_at
   part_inv g r h = rw (g, h, f, e)
-
-pub ruleset part_laws = (part_init, part_inv)
 
 -- `part_holds`
 pub part_holds_is : (w : List ℕ) (x : Layout) (values : List ℤ) (at n p : ℕ) (r : Bool) → n ≡ variables_of x → p ≡ nodes_place w at → r ≡ evaluate w (take n values) (take n values) p → r ≡ part_holds w x values at
@@ -54,9 +49,9 @@ all_walked w x part s n r e f = f ∙ ap (each_from (holds_at w x part s x.sets)
 
 -- `starts_hold`
 pub starts_walked : (w : List ℕ) (x : Layout) (s : State) (place n at : ℕ) → place ≡ starts_at w x.tree → n ≡ start_count w place
-    → at ≡ first_start w place → hold_from w x s.values at n ≡ starts_hold_at w x s
+    → at ≡ first_start w place → hold_from w x s.values at (n - 0) ≡ starts_hold_at w x s
 unfolding starts_hold_at
-starts_walked w x s place n at e f g = rw (g, f, e)
+starts_walked w x s place n at e f g = rw (sub-zero n, g, f, e)
 
 module _ (w : List ℕ) (x : Layout) (values : List ℤ) where
   pub hold_cons : (at left : ℕ) → hold_from w x values at (suc left) ≡ (part_holds w x values at && hold_from w x values (after_predicate w at) left)
@@ -66,26 +61,25 @@ module _ (w : List ℕ) (x : Layout) (values : List ℤ) where
       go true e = unfold hold_from in rw (e, hold_from)
       go false e = unfold hold_from in rw (e, hold_from)
 
-  module _ (at left : ℕ) (whole : Bool) (goes : hold_from w x values at left ≡ whole) where
-    pub hold_done : left ≡ 0 → true ≡ whole
+  -- predicate i of n is next, and the walk goes on to the same end
+  module _ (at n i : ℕ) (whole : Bool) (goes : hold_from w x values at (n - i) ≡ whole) where
+    pub hold_done : n ≤ i → true ≡ whole
     unfolding hold_from
-    hold_done z = rw z at goes
+    hold_done h =
+        let z : n - i ≡ 0 = omega arith in
+        rw z at goes
 
-    module _ (y : left ≡ 0 → ⊥) (r : Bool) (e : r ≡ part_holds w x values at) where
-      taken : (r && hold_from w x values (after_predicate w at) (left - 1)) ≡ whole
-      taken = go left y goes
-        where
-          go : (m : ℕ) → (m ≡ 0 → ⊥) → hold_from w x values at m ≡ whole → (r && hold_from w x values (after_predicate w at) (m - 1)) ≡ whole
-          go zero u i = absurd (u refl)
-          go (suc m) u i = rw (sub-one (suc m), e, ← hold_cons at m) i
+    module _ (h : i < n) (r : Bool) (e : r ≡ part_holds w x values at) where
+      taken : (r && hold_from w x values (after_predicate w at) (n - (i + 1))) ≡ whole
+      taken =
+          let z : n - i ≡ suc (n - (i + 1)) = omega arith in
+          rw (e, ← hold_cons at (n - (i + 1)), ← z) goes
 
       pub hold_fails : not r ≡ true → false ≡ whole
       hold_fails f = rw (not-true r f) at taken
 
-      pub hold_again : not r ≡ false → (b : ℕ) → b ≡ after_predicate w at → hold_from w x values b (left - 1) ≡ whole
+      pub hold_again : not r ≡ false → (b : ℕ) → b ≡ after_predicate w at → hold_from w x values b (n - (i + 1)) ≡ whole
       hold_again f b g = rw g (rw (not-false r f) at taken)
-
-pub ruleset hold_laws = (starts_walked, hold_done, hold_fails, hold_again)
 
 -- `started`
 module _ (w : List ℕ) (x : Layout) (s : State) (phase : Phase) where
@@ -96,8 +90,6 @@ module _ (w : List ℕ) (x : Layout) (s : State) (phase : Phase) where
   pub started_running : phase ≡ Running → true ≡ started_in w x s phase
   unfolding started_in
   started_running e = rw e
-
-pub ruleset started_laws = (started_start, started_running)
 
 -- `settled`
 module _ (w : List ℕ) (x : Layout) (s t : State) (a : Bool) (e : a ≡ started_in w x s s.phase) where
@@ -122,4 +114,4 @@ module _ (w : List ℕ) (x : Layout) (s t : State) (a : Bool) (e : a ≡ started
         let j : all_hold w x Inv s ≡ true = sym g ∙ not-false b i in
         rw (f, settled_at, j, settled_at) k
 
-pub ruleset settled_laws = (settled_start, settled_before, settled_after)
+pub ruleset code_laws = (part_holds_is, location_holds_is, part_init, part_inv, starts_walked, hold_done, hold_fails, hold_again, started_start, started_running, settled_start, settled_before, settled_after)

@@ -1,6 +1,6 @@
 // What holds of every automaton, whether it takes an edge or is still: its location's init (in phase Start) and inv.
 // And what holds of the composition, whoever takes an edge: the P of each `ini` (in phase Start).
-#![tactic(auto)]
+#![tactic(auto, using(crate::proofs::CodeLaws::code_laws))]
 
 ghost use Rattle.std.specs.Prelude.{◌≡◌, get_or};
 ghost use Rattle.judge_settled.specs.Settled.{part_at, part_holds, location_holds, all_hold, starts_hold_at, started};
@@ -20,12 +20,9 @@ pub enum Part {
 fn location(s: State, k: usize) -> usize
     ensures { result ≡ get_or s.locations k 0 }
 {
-    let all = s.locations;
-    if k < model::Model::AUTOMATA {
-        arithmetic::index(all[k])
-    } else {
-        0
-    }
+    s.locations
+        .get(k)
+        .map_or(0, |location| arithmetic::index(*location))
 }
 
 // Where a predicate of location j stands, `at` being where the automaton does.
@@ -61,16 +58,8 @@ fn location_holds(words: &[u32], x: Layout, part: Part, s: State, at: usize, k: 
 fn all_hold(words: &[u32], x: Layout, part: Part, s: State) -> bool
     ensures { result ≡ all_hold words.now x part s }
 {
-    let n = table_places::automata_of(x);
     let places = x.sets;
-    let mut k = 0;
-    while k < n {
-        if !location_holds(words, x, part, s, places[k], k) {
-            return false;
-        }
-        k += 1;
-    }
-    true
+    (0..table_places::automata_of(x)).all(|k| location_holds(words, x, part, s, places[k], k))
 }
 
 // Every P holds. They are predicates, one after the other.
@@ -78,14 +67,13 @@ fn starts_hold(words: &[u32], x: Layout, s: State) -> bool
     ensures { result ≡ starts_hold_at words.now x s }
 {
     let place = table_places::starts_at(words, x);
-    let mut left = table_places::start_count(words, place);
+    let n = table_places::start_count(words, place);
     let mut at = table_places::first_start(words, place);
-    while left != 0 {
+    for _ in 0..n {
         if !part_holds(words, x, at, s) {
             return false;
         }
         at = table_places::after_predicate(words, at);
-        left -= 1;
     }
     true
 }
@@ -94,8 +82,7 @@ fn starts_hold(words: &[u32], x: Layout, s: State) -> bool
 fn started(words: &[u32], x: Layout, s: State) -> bool
     ensures { result ≡ started words.now x s }
 {
-    let phase = s.phase;
-    match phase {
+    match s.phase {
         Phase::Start => all_hold(words, x, Part::Init, s) & starts_hold(words, x, s),
         Phase::Running => true,
     }

@@ -1,5 +1,6 @@
 -- One proposal of a run, over the words of a table, a layout and the automata's own sets.
-use Rattle.std.specs.Prelude.{true, false, List, ℕ, ◌%◌, ◌^◌, ℤ, eqb}
+use Rattle.model.specs.declared.Row.{Row}
+use Rattle.std.specs.Prelude.{true, false, List, ℕ, ◌%◌, ◌^◌, ℤ, eqb, Result, Ok, Err}
 use Rattle.table_places.specs.declared.layout.Layout.{Layout}
 use Rattle.judge_rows.specs.declared.Phase.TheVariants.{Running}
 use Rattle.judge_rows.specs.declared.State.{State}
@@ -17,7 +18,7 @@ environment_mark = 4294967295
 
 -- one proposal, from the state s that the run is in to the proposed state t
 unfoldable pub judged_on : (words : List ℕ) → Layout → (own : List ℕ) → State → (action : ℕ) → List ℕ → List ℤ
-    → State → Answer
+    → State → Result Answer Row
 judged_on words x own s action new_locations new_values t =
     elim (eqb action environment_mark) [
       | true ↦ environment_from words x s new_values t
@@ -33,11 +34,11 @@ proposed_on s action new_locations new_values =
     ]
 
 -- only a yes moves the run
-unfoldable pub moved_to : Answer → (s t : State) → State
-moved_to A.Yes s t = t
-moved_to (A.Marked mark) s t = t
-moved_to A.No s t = s
-moved_to (A.Refused row) s t = s
+unfoldable pub moved_to : Result Answer Row → (s t : State) → State
+moved_to (Ok A.Yes) s t = t
+moved_to (Ok (A.Marked mark)) s t = t
+moved_to (Ok A.No) s t = s
+moved_to (Err r) s t = s
 
 -- one proposal: its answer's number, and the state after it
 unfoldable pub turn_on : (words : List ℕ) → Layout → (own : List ℕ) → State → (action : ℕ) → List ℕ → List ℤ → Turn

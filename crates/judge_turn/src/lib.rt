@@ -7,6 +7,7 @@ ghost use Rattle.judge_turn.specs.Turns.{environment_mark, judged_on, proposed_o
 
 use judge_call::Answer;
 use judge_rows::{Phase, State};
+use model::Row;
 use table_places::Layout;
 
 fn for_environment(action: u32) -> bool
@@ -25,7 +26,7 @@ fn judged(
     new_locations: &[u32],
     new_values: &[i32],
     t: State,
-) -> Answer
+) -> Result<Answer, Row>
     ensures { result ≡ judged_on words.now x own.now s action new_locations.now
         new_values.now t }
 {
@@ -47,14 +48,12 @@ fn proposed(s: State, action: u32, new_locations: &[u32], new_values: &[i32]) ->
 }
 
 // Only a yes takes the run to the proposed state t.
-fn moved(answer: Answer, s: State, t: State) -> State
+fn moved(answer: Result<Answer, Row>, s: State, t: State) -> State
     ensures { result ≡ moved_to answer s t }
 {
     match answer {
-        Answer::Yes => t,
-        Answer::Marked(_) => t,
-        Answer::No => s,
-        Answer::Refused(_) => s,
+        Ok(Answer::Yes) | Ok(Answer::Marked(_)) => t,
+        Ok(Answer::No) | Err(_) => s,
     }
 }
 

@@ -1,10 +1,10 @@
 -- The highest action of a list.
-use Prim.Native.Nat.{ℕ, ◌≤◌, ◌<◌}
+use Prim.Native.Nat.{ℕ, ◌≤◌}
 use mathlib.Core.Path.{◌≡◌, refl, sym, ◌∙◌}
 use mathlib.Core.Bool.{Bool, true, false, cond}
 use mathlib.Core.List.{List, [], ◌∷◌}
 use native.Mathlib.Omega.{arith}
-use borrow.Author.Tests.{le-leb, lt-ltb, le-ltb, leb-true, ltb-true, ltb-false}
+use borrow.Author.Tests.{le-leb, leb-true, ltb-true, ltb-false}
 use lib.Dec.{leb, ltb}
 use Rattle.model.specs.Basic.{every}
 use Rattle.model.specs.Bounds.{max_actions}
@@ -12,17 +12,6 @@ use Rattle.model.specs.Limits.{rises}
 use Rattle.model.proofs.Tests.{and_left, and_right}
 use Rattle.model.proofs.Bits.{rises_cons}
 use Rattle.line_order.specs.Counts.{capped}
-
--- `capped`
-pub cap_low : (a : ℕ) → a < 63 → a ≡ capped a
-unfolding capped
-cap_low a h = rw (lt-ltb a 63 h)
-
-pub cap_high : (a : ℕ) → 63 ≤ a → 63 ≡ capped a
-unfolding capped
-cap_high a h = rw (le-ltb a 63 h)
-
-pub ruleset cap_laws = (cap_low, cap_high)
 
 -- The highest action that a set may hold, and 63: up to there the two bounds ask the same.
 module _ (A : ℕ) where

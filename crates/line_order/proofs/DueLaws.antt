@@ -9,16 +9,6 @@ use Rattle.line_order.specs.declared.Key.TheVariants.{Format, Actions, Variables
 use Rattle.line_order.specs.declared.Due.{Due}
 use Rattle.line_order.specs.Due.{if_none, due_first, due_variables, due_automata, due_locations, due_edges, due_after_key, due_after, key_named, automata_from, locations_from, later_keys, later_due, keys_due, code_of, number_of}
 
--- the test of a count for 0, as the code makes it
-pub if_none_lem : (n : ℕ) (d f : Due) → n ≡ 0 → if_none n d f ≡ d
-unfolding if_none
-if_none_lem n d f z = rw z
-
-pub if_some : (n : ℕ) (d f : Due) → (n ≡ 0 → ⊥) → if_none n d f ≡ f
-unfolding if_none
-if_some zero d f z = absurd (z refl)
-if_some (suc n) d f z = refl
-
 pub due_first_lem : keys_due due_first ≡ due_at_first
 unfolding keys_due key_named later_due later_keys due_at_first
 due_first_lem = refl

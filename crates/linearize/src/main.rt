@@ -3,64 +3,47 @@
 // It ends with status 0 also where reading or writing fails: a line on standard error says so.
 #![tactic(auto)]
 
-ghost use Rattle.std.specs.Prelude.{◌≤◌, length};
+ghost use Rattle.std.specs.Prelude.{◌≤◌, length, IfOk};
 
+use std::io;
 use std::io::{Read, Stderr, Stdin, Write};
 
 // One byte more than a text may have, so that a longer input shows.
 const BYTES: usize = model::Model::BYTES + 1;
 
-// How many bytes were read, and whether a read failed.
-#[derive(Clone, Copy)]
-struct Input {
-    length: usize,
-    failed: bool,
-}
-
-// Reads until the input ends, the bytes are full or a read fails.
-fn read_all(mut stdin: Stdin, bytes: &mut [u8]) -> Input
-    ensures { result.length ≤ length bytes.new }
+// Reads until the input ends or the bytes are full, and says how many were read.
+fn read_all(mut stdin: Stdin, bytes: &mut [u8]) -> io::Result<usize>
+    ensures { IfOk result (λ n. n ≤ length bytes.new) }
 {
     let mut n = 0;
+    // Stays a while: how far a round goes is what the read answers.
     while n < bytes.len() {
-        match stdin.read(&mut bytes[n..]) {
-            Ok(more) => {
-                if more == 0 {
-                    break;
-                }
-                n += more;
-            }
-            Err(_) => {
-                return Input {
-                    length: n,
-                    failed: true,
-                };
-            }
+        let more = stdin.read(&mut bytes[n..])?;
+        if more == 0 {
+            break;
         }
+        n += more;
     }
-    Input {
-        length: n,
-        failed: false,
-    }
+    Ok(n)
 }
 
 // What is lost where standard error takes no line is lost.
-fn say(mut stderr: Stderr, line: &[u8]) -> bool {
-    stderr.write_all(line).is_ok()
+fn say(mut stderr: Stderr, line: &[u8]) {
+    let _lost = stderr.write_all(line);
 }
 
 fn main(rt: HostRuntime) {
     let mut bytes = [0u8; BYTES];
-    let input = read_all(rt.stdin(), &mut bytes);
-    if input.failed {
+    let Ok(n) = read_all(rt.stdin(), &mut bytes) else {
         say(rt.stderr(), b"linearize: a read failed\n");
         return;
-    }
-    let n = input.length;
+    };
     let printed = merge_output::output(&bytes[..n]);
-    let out = printed.bytes;
-    let k = printed.length;
-    if rt.stdout().write_all(&out[..k]).is_err() {
+    if rt
+        .stdout()
+        .write_all(&printed.bytes[..printed.length])
+        .is_err()
+    {
         say(rt.stderr(), b"linearize: a write failed\n");
     }
 }

@@ -1,13 +1,16 @@
 -- Each way out of the code of src/words.rt, and the words of small numbers.
-use mathlib.Core.Path.{◌≡◌, refl}
-use Prim.Native.Nat.{ℕ, ◌+◌, ◌-◌, ◌%◌, ◌≤◌, ◌<◌}
+use mathlib.Core.Path.{◌≡◌, refl, ◌∙◌}
+use Prim.Native.Nat.{ℕ, ◌+◌, ◌%◌, ◌≤◌, ◌<◌, min}
+use Rattle.std.proofs.Common.{inl, inr}
+use Rattle.std.proofs.lemmas.Bool.{cases_lt}
 use native.Mathlib.Omega.{arith}
 use borrow.Author.Tests.{le-leb, lt-leb}
 use Rattle.model.specs.Bounds.{bias}
 use Rattle.node_words.specs.declared.Node.TheVariants.{All, Imp, Eq, Number, Old, New}
 use Rattle.node_words.specs.Nodes.{meant, fitted, word_for}
 use Rattle.merge_append.specs.Append.{narrow}
-use Rattle.merge_append.specs.NodeWords.{upward, imp_node, eq_node, all_node, number_node, old_node, new_node, pointer_of, most, capped}
+use Rattle.merge_append.specs.NodeWords.{upward, imp_node, eq_node, all_node, number_node, old_node, new_node}
+use Rattle.merge_append.specs.NodeWords.{pointer_of, most, capped}
 
 pub upward_is : (z : ℕ) → bias + z % 4294967296 ≡ upward z
 unfolding upward narrow
@@ -42,8 +45,6 @@ pub pointer_is : (v i : ℕ) → v % 4294967296 + i % 4294967296 ≡ pointer_of 
 unfolding pointer_of narrow
 pointer_is v i = refl
 
-pub ruleset node_laws = (upward_is, imp_is, eq_is, all_is, number_is, old_is, new_is, pointer_is)
-
 -- `add`
 pub capped_over : (n : ℕ) → most < n → most ≡ capped n
 unfolding capped
@@ -53,14 +54,12 @@ pub capped_is : (n : ℕ) → n ≤ most → n ≡ capped n
 unfolding capped
 capped_is n h = rw (le-leb n most h, capped)
 
-module _ (a b : ℕ) where
-  pub add_past : most < a → most ≡ capped (a + b)
-  add_past h = capped_over (a + b) (omega arith)
+-- the least of a number and the greatest word, also where the number was first cut at a greater one
+pub add_is : (n s r : ℕ) → s ≡ min n 18446744073709551615 → r ≡ min s most → r ≡ capped n
+add_is n s r e f =
+    elim (cases_lt most n) [
+      | inl h ↦ let z : r ≡ most = omega arith in z ∙ capped_over n h
+      | inr h ↦ let z : r ≡ n = omega arith in z ∙ capped_is n h
+    ]
 
-  pub add_over : a ≤ most → most - a < b → most ≡ capped (a + b)
-  add_over h k = capped_over (a + b) (omega arith)
-
-  pub add_within : a ≤ most → b ≤ most - a → a + b ≡ capped (a + b)
-  add_within h k = capped_is (a + b) (omega arith)
-
-pub ruleset add_laws = (add_past, add_over, add_within)
+pub ruleset node_laws = (upward_is, imp_is, eq_is, all_is, number_is, old_is, new_is, pointer_is, add_is)

@@ -6,6 +6,7 @@ ghost use Rattle.merge_append.specs.Runs.{run, nodes_at};
 use model::Model;
 
 // A number as a word; its low 32 bits.
+#[tactic(auto, unfolding(crate::specs::Append::narrow))]
 pub fn narrow(x: usize) -> u32
     ensures { result ≡ narrow x }
 {
@@ -19,17 +20,26 @@ pub fn put(x: usize, out: &mut [u32; Model::WORDS], at: usize) -> usize
     table_append::append_one(out, at, narrow(x))
 }
 
+// Some words, one after the other.
+pub fn put_all(xs: &[usize], out: &mut [u32; Model::WORDS], at: usize) -> usize
+    ensures { Appended xs.now at out.old out.new result }
+{
+    let mut next = at;
+    for x in xs {
+        next = put(*x, out, next);
+    }
+    next
+}
+
 // So many words of the table, from a place on.
 pub fn copy(t: &[u32], from: usize, count: usize, out: &mut [u32; Model::WORDS], at: usize) -> usize
     ensures { Appended (run t.now from count) at out.old out.new result }
 {
-    let mut left = count;
     let mut place = from;
     let mut next = at;
-    while left != 0 {
+    for _ in 0..count {
         next = put(table_places::word(t, place), out, next);
         place = table_places::step(t, place, 1);
-        left -= 1;
     }
     next
 }

@@ -1,4 +1,6 @@
 // The words of the nodes that merged predicates have of their own, and sums that stay within a word.
+#![tactic(auto, using(crate::proofs::NodeLaws::node_laws))]
+
 ghost use Rattle.std.specs.Prelude.{◌≡◌, ◌+◌};
 ghost use Rattle.merge_append.specs.NodeWords.{upward, imp_node, eq_node, all_node, number_node, old_node, new_node};
 ghost use Rattle.merge_append.specs.NodeWords.{pointer_of, capped};
@@ -22,6 +24,7 @@ fn held(node: Node) -> usize
     arithmetic::index(node_words::word_of(node))
 }
 
+// Stays six functions: with one that takes a node, each caller would cut its number to 32 bits itself.
 // `imp`.
 pub fn imp_node() -> usize
     ensures { result ≡ imp_node }
@@ -75,11 +78,5 @@ pub fn pointer(variables: usize, i: usize) -> usize
 pub fn add(a: usize, b: usize) -> usize
     ensures { result ≡ capped (a + b) }
 {
-    if 4294967295 < a {
-        return 4294967295;
-    }
-    if 4294967295 - a < b {
-        return 4294967295;
-    }
-    a + b
+    a.saturating_add(b).min(u32::MAX as usize)
 }

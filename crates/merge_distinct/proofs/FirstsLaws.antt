@@ -4,10 +4,13 @@ use mathlib.Core.Bool.{Bool, true, false, not, ◌||◌}
 use mathlib.Core.List.Memᴰ
 use mathlib.Core.List.{List, [], ◌∷◌, ◌++◌, Memᴰ}
 use mathlib.Core.Logic.{◌⊎◌, inl, inr}
-use Prim.Native.Nat.{ℕ, zero, suc, ◌+◌, ◌-◌, ◌≤◌, ◌<◌}
+use Prim.Native.Nat.{ℕ, zero, suc, ◌+◌, ◌-◌, ◌≤◌, ◌<◌, min}
 use native.Mathlib.Omega.{arith}
-use native.Mathlib.Numerals.{sub-one, add-one}
-use lib.ListN.{length, get_or, take, drop, set, length-set}
+use native.Mathlib.Numerals.{add-one}
+use Rattle.std.specs.List.{list_any}
+use Rattle.std.proofs.lemmas.List.{take_all}
+use Rattle.std.proofs.lemmas.Bool.{cases_lt}
+use lib.ListN.{length, get_or, take, drop, set, length-set, drop_of_length-le}
 use lib.Seq.{drop-cons, take-suc-set, length-take-le, get_or-set_same, get_or-set_other}
 use lib.Dec.{eqb}
 use borrow.Author.Tests.{le-leb, lt-leb, eqb-true, eqb-false, not-true, not-false}
@@ -25,36 +28,49 @@ pub edges_of_is : (t : List ℕ) (edges w r : ℕ) → w ≡ get_or t edges 0 �
 unfolding edges_of
 edges_of_is t edges w r ew er = rw (er, ew)
 
--- `is_listed`: from each turn on, the definition goes on to the same answer
-pub listed_begun : (t firsts : List ℕ) (at n : ℕ) → listed_in t at firsts 0 (n - 0) ≡ listed_in t at firsts 0 n
-listed_begun t firsts at n = let z : n - 0 ≡ n = omega arith in rw z
+-- `is_listed`: what is looked for in an array from a place on is what there is in that part of it
+module _ (t firsts : List ℕ) (at : ℕ) (long : length firsts ≡ max_edges) where
+  listed_is : (i n : ℕ) → listed_in t at firsts i n ≡ exists (same_edge_at t at) (take n (drop i firsts))
+  unfolding listed_in exists
+  listed_is i zero = refl
+  listed_is i (suc n) =
+      elim (cases_lt i max_edges) [
+        | inl h ↦
+            let inside : i < length firsts = omega arith in
+            rw (lt-leb max_edges i h, listed_in, drop-cons firsts i 0 inside, ← add-one i)
+            (go (same_edge_at t at (get_or firsts i 0)) (listed_is (i + 1) n))
+        | inr h ↦
+            let past : length firsts ≤ i = omega arith in
+            rw (le-leb max_edges i h, listed_in, drop_of_length-le firsts past)
+      ]
+    where
+      go : (b : Bool) → listed_in t at firsts (i + 1) n ≡ exists (same_edge_at t at) (take n (drop (i + 1) firsts))
+          → elim b [ true ↦ true | false ↦ listed_in t at firsts (i + 1) n ]
+          ≡ (b || exists (same_edge_at t at) (take n (drop (i + 1) firsts)))
+      go true e = refl
+      go false e = e
 
-module _ (t firsts : List ℕ) (at i n : ℕ) (whole : Bool) (u : listed_in t at firsts i (n - i) ≡ whole) where
-  pub listed_end : n ≤ i → false ≡ whole
-  unfolding listed_in
-  listed_end h = let z : n - i ≡ 0 = omega arith in rw z at u
+any_is : {A : Type 0} (f : A → Bool) (xs : List A) → list_any f xs ≡ exists f xs
+unfolding exists
+any_is f [] = refl
+any_is f (x ∷ xs) = ap (λ b. f x || b) (any_is f xs)
 
-  module _ (h : i < n) where
-    pub listed_past : max_edges ≤ i → false ≡ whole
-    unfolding listed_in
-    listed_past l = let z : n - i ≡ suc (n - (i + 1)) = omega arith in rw (z, le-leb max_edges i l, listed_in) at u
+-- the first n of 512, where n may be more
+pub first_of : (firsts : List ℕ) (n m : ℕ) → length firsts ≡ 512 → m ≡ min n 512 → take m firsts ≡ take n firsts
+first_of firsts n m long e =
+    elim (cases_lt 512 n) [
+      | inl h ↦
+          let a : length firsts ≤ m = omega arith in
+          let b : length firsts ≤ n = omega arith in
+          take_all m firsts a ∙ sym (take_all n firsts b)
+      | inr h ↦ let z : m ≡ n = omega arith in ap (λ k. take k firsts) z
+    ]
 
-    module _ (l : i < max_edges) (p : ℕ) (b : Bool) (ep : p ≡ get_or firsts i 0) (eb : b ≡ same_edge_at t at p) where
-      pub listed_here : b ≡ true → true ≡ whole
-      unfolding listed_in
-      listed_here s =
-          let z : n - i ≡ suc (n - (i + 1)) = omega arith in
-          let e : same_edge_at t at (get_or firsts i 0) ≡ true = rw (← ep, ← eb) s in
-          rw (z, lt-leb max_edges i l, listed_in, e, listed_in) at u
-
-      pub listed_on : b ≡ false → listed_in t at firsts (i + 1) (n - (i + 1)) ≡ whole
-      unfolding listed_in
-      listed_on s =
-          let z : n - i ≡ suc (n - (i + 1)) = omega arith in
-          let e : same_edge_at t at (get_or firsts i 0) ≡ false = rw (← ep, ← eb) s in
-          rw (z, lt-leb max_edges i l, listed_in, e, listed_in) at u
-
-pub ruleset listed_laws = (listed_begun, listed_end, listed_past, listed_here, listed_on)
+pub any_listed : (t firsts : List ℕ) (at n m : ℕ) → length firsts ≡ 512 → m ≡ min n 512
+    → list_any (same_edge_at t at) (take m firsts) ≡ listed_in t at firsts 0 n
+any_listed t firsts at n m long e =
+    any_is (same_edge_at t at) (take m firsts) ∙ ap (exists (same_edge_at t at)) (first_of firsts n m long e)
+    ∙ sym (listed_is t firsts at long 0 n)
 
 -- `is_repeat`
 module _ (t firsts : List ℕ) (at n : ℕ) (seen : Bool) where
@@ -62,54 +78,45 @@ module _ (t firsts : List ℕ) (at n : ℕ) (seen : Bool) where
   unfolding repeats_by
   repeat_look h r e = rw (h, repeats_by) e
 
-  pub repeat_not : seen ≡ false → false ≡ repeats_by t at seen firsts n
+  pub repeat_not : seen ≡ false → seen ≡ repeats_by t at seen firsts n
   unfolding repeats_by
   repeat_not h = rw (h, repeats_by)
 
-pub ruleset repeat_laws = (repeat_look, repeat_not)
-
--- what is looked for in an array from a place on is what there is in that part of it
-listed_is : (t firsts : List ℕ) (at i n : ℕ) → i + n ≤ max_edges → length firsts ≡ max_edges → listed_in t at firsts i n ≡ exists (same_edge_at t at) (take n (drop i firsts))
-unfolding listed_in exists
-listed_is t firsts at i zero h long = refl
-listed_is t firsts at i (suc n) h long =
-    let inside : i < length firsts = omega arith in
-    let more : i + 1 + n ≤ max_edges = omega arith in
-    rw (lt-leb max_edges i (omega arith), listed_in, drop-cons firsts i 0 inside, ← add-one i)
-    (go (same_edge_at t at (get_or firsts i 0)) (listed_is t firsts at (i + 1) n more long))
-  where
-    go : (b : Bool) → listed_in t at firsts (i + 1) n ≡ exists (same_edge_at t at) (take n (drop (i + 1) firsts))
-        → elim b [ true ↦ true | false ↦ listed_in t at firsts (i + 1) n ] ≡ (b || exists (same_edge_at t at) (take n (drop (i + 1) firsts)))
-    go true e = refl
-    go false e = e
+-- what the equations in src/firsts.rt need
+pub ruleset firsts_laws = (edges_of_is, repeat_look, repeat_not)
 
 -- every edge of a list has its hash marked
 pub record Marked (t list : List ℕ) (seen : List Bool) : Type 0 where
   pub marks : (p : ℕ) → Memᴰ p list → get_or seen (hash_at t p) false ≡ true
 
 -- so an edge whose hash is not marked equals none of them
-unseen : (t list : List ℕ) (seen : List Bool) (at : ℕ) → Marked t list seen → get_or seen (hash_at t at) false ≡ false → exists (same_edge_at t at) list ≡ false
+unseen : (t list : List ℕ) (seen : List Bool) (at : ℕ) → Marked t list seen → get_or seen (hash_at t at) false ≡ false
+    → exists (same_edge_at t at) list ≡ false
 unseen t list seen at m h = go (exists (same_edge_at t at) list) refl
   where
     go : (b : Bool) → exists (same_edge_at t at) list ≡ b → b ≡ false
     go false e = refl
     go true e =
         let found = exists_elim (same_edge_at t at) list e in
-        let there : get_or seen (hash_at t at) false ≡ true = rw (same_hash t at found.0 found.2) (m.marks found.0 found.1) in
+        let there : get_or seen (hash_at t at) false ≡ true =
+        rw (same_hash t at found.0 found.2) (m.marks found.0 found.1) in
         sym there ∙ h
 
 -- is_repeat finds an edge in the list if it is there
-repeats_is : (t firsts : List ℕ) (seen : List Bool) (at n : ℕ) → n ≤ max_edges → length firsts ≡ max_edges → Marked t (take n firsts) seen
+repeats_is : (t firsts : List ℕ) (seen : List Bool) (at n : ℕ) → n ≤ max_edges → length firsts ≡ max_edges
+    → Marked t (take n firsts) seen
     → repeats_by t at (get_or seen (hash_at t at) false) firsts n ≡ exists (same_edge_at t at) (take n firsts)
 unfolding repeats_by
 repeats_is t firsts seen at n h long m = go (get_or seen (hash_at t at) false) refl
   where
-    go : (b : Bool) → get_or seen (hash_at t at) false ≡ b → repeats_by t at b firsts n ≡ exists (same_edge_at t at) (take n firsts)
-    go true e = let l : 0 + n ≤ max_edges = omega arith in listed_is t firsts at 0 n l long
+    go : (b : Bool) → get_or seen (hash_at t at) false ≡ b
+        → repeats_by t at b firsts n ≡ exists (same_edge_at t at) (take n firsts)
+    go true e = listed_is t firsts at long 0 n
     go false e = sym (unseen t (take n firsts) seen at m e)
 
 -- a mark more
-mark_again : (t list : List ℕ) (seen : List Bool) (h : ℕ) → h < length seen → Marked t list seen → Marked t list (set seen h true)
+mark_again : (t list : List ℕ) (seen : List Bool) (h : ℕ) → h < length seen → Marked t list seen
+    → Marked t list (set seen h true)
 mark_again t list seen h l m = record { marks = λ p e. go (hash_at t p) (m.marks p e) }
   where
     go : (k : ℕ) → get_or seen k false ≡ true → get_or (set seen h true) k false ≡ true
@@ -120,7 +127,8 @@ mark_again t list seen h l m = record { marks = λ p e. go (hash_at t p) (m.mark
         cases false f = get_or-set_other seen h k true false (eqb-false k h f) ∙ e
 
 -- an edge more, with its mark
-mark_one : (t list : List ℕ) (seen : List Bool) (at : ℕ) → hash_at t at < length seen → Marked t list seen → Marked t (list ++ at ∷ []) (set seen (hash_at t at) true)
+mark_one : (t list : List ℕ) (seen : List Bool) (at : ℕ) → hash_at t at < length seen → Marked t list seen
+    → Marked t (list ++ at ∷ []) (set seen (hash_at t at) true)
 mark_one t list seen at l m = record { marks = λ p e. go p (Memᴰ.append_cases list e) }
   where
     again : Marked t list (set seen (hash_at t at) true)
@@ -139,44 +147,54 @@ pub record Gathering (t whole : List ℕ) (seen : List Bool) (firsts : List ℕ)
   pub table : length seen ≡ 4096
 
 -- nothing is listed before the first turn
-pub gather_begun : (t : List ℕ) (seen : List Bool) (firsts : List ℕ) (edges n at : ℕ) → n ≡ edges_of t edges → at ≡ first_edge t edges → n ≤ 512 → length firsts ≡ 512
-    → length seen ≡ 4096 → Gathering t (first_ones t edges) seen firsts n at 0
+pub gather_begun : (t : List ℕ) (seen : List Bool) (firsts : List ℕ) (edges n at : ℕ) → n ≡ edges_of t edges
+    → at ≡ first_edge t edges → n ≤ 512 → length firsts ≡ 512 → length seen ≡ 4096
+    → Gathering t (first_ones t edges) seen firsts (n - 0) at 0
 unfolding first_ones
 gather_begun t seen firsts edges n at en ea few long table =
-    record { goes = rw (en, ea); marked = record { marks = λ p e. absurd (Memᴰ.not-nil e) }; room = omega arith; long = long; table = table }
+    let z : n - 0 ≡ n = omega arith in
+    rw z
+    record {
+      goes = rw (en, ea);
+      marked = record { marks = λ p e. absurd (Memᴰ.not-nil e) };
+      room = omega arith;
+      long = long;
+      table = table;
+    }
 
-module _ (t whole : List ℕ) (seen : List Bool) (firsts : List ℕ) (left place n : ℕ) (u : Gathering t whole seen firsts left place n) where
+module _ (t whole : List ℕ) (seen : List Bool) (firsts : List ℕ) (total i place n : ℕ)
+    (u : Gathering t whole seen firsts (total - i) place n) where
   -- after the last turn all is listed
-  pub gather_end : left ≡ 0 → Gathered whole firsts n
+  pub gather_end : total ≤ i → Gathered whole firsts n
   unfolding firsts_from
-  gather_end z =
+  gather_end y =
+      let z : total - i ≡ 0 = omega arith in
       let stands : take n firsts ≡ whole = rw z at u.goes in
       let inside : n ≤ length firsts = omega (arith, u.room, u.long) in
       let count : n ≡ length (take n firsts) = sym (length-take-le n firsts inside) in
       record { count = count ∙ ap (length {A = ℕ}) stands; fits = omega (arith, u.room); stands = stands }
 
-  module _ (y : left ≡ 0 → ⊥) (h : ℕ) (s r : Bool) (q p : ℕ) (eh : h ≡ hash_at t place) (low : h < 4096) (es : s ≡ get_or seen h false) (er : r ≡ repeats_by t place s firsts n)
+  module _ (y : i < total) (h : ℕ) (s r : Bool) (q p : ℕ) (eh : h ≡ hash_at t place) (low : h < 4096)
+      (es : s ≡ get_or seen h false) (er : r ≡ repeats_by t place s firsts n)
       (eq : q ≡ update_place t place) (ep : p ≡ after_predicate t q) where
     -- it is found exactly where it is in the list
     found : r ≡ exists (same_edge_at t place) (take n firsts)
     found = er ∙ rw (es, eh) (repeats_is t firsts seen place n (omega (arith, u.room)) u.long u.marked)
 
     -- the definition goes on from the list with this edge
-    onward : (list : List ℕ) → list ≡ with_edge t place (take n firsts) → firsts_from t (left - 1) p list ≡ whole
+    onward : (list : List ℕ) → list ≡ with_edge t place (take n firsts) → firsts_from t (total - (i + 1)) p list ≡ whole
     unfolding firsts_from
-    onward list e = rw (ep, eq, e) (go left y u.goes)
-      where
-        go : (k : ℕ) → (k ≡ 0 → ⊥) → firsts_from t k place (take n firsts) ≡ whole
-            → firsts_from t (k - 1) (after_predicate t (update_place t place)) (with_edge t place (take n firsts)) ≡ whole
-        go zero z j = absurd (z refl)
-        go (suc k) z j = rw (sub-one (suc k)) j
+    onward list e =
+        let k : total - i ≡ suc (total - (i + 1)) = omega arith in
+        rw (ep, eq, e) (rw k at u.goes)
 
     -- the hash is a place of the table of marks
     inside : h < length seen
     inside = omega (arith, u.table)
 
     -- a repeat is not listed
-    pub gather_old : not r ≡ false → (array : List ℕ) (count : ℕ) → array ≡ firsts → count ≡ n → Gathering t whole (set seen h true) array (left - 1) p count
+    pub gather_old : not r ≡ false → (array : List ℕ) (count : ℕ) → array ≡ firsts → count ≡ n
+        → Gathering t whole (set seen h true) array (total - (i + 1)) p count
     unfolding with_edge
     gather_old e array count ea ec = rw (ea, ec)
         record {
@@ -188,11 +206,13 @@ module _ (t whole : List ℕ) (seen : List Bool) (firsts : List ℕ) (left place
         }
 
     -- any other edge is
-    pub gather_new : not r ≡ true → (array : List ℕ) (count : ℕ) → array ≡ set firsts n place → count ≡ n + 1 → Gathering t whole (set seen h true) array (left - 1) p count
+    pub gather_new : not r ≡ true → (array : List ℕ) (count : ℕ) → array ≡ set firsts n place → count ≡ n + 1
+        → Gathering t whole (set seen h true) array (total - (i + 1)) p count
     unfolding with_edge
     gather_new e array count ea ec =
         let some : n < length firsts = omega (arith, u.room, u.long) in
-        let more : take (n + 1) (set firsts n place) ≡ take n firsts ++ place ∷ [] = rw (add-one n) (take-suc-set firsts n place some) in
+        let more : take (n + 1) (set firsts n place) ≡ take n firsts ++ place ∷ [] =
+        rw (add-one n) (take-suc-set firsts n place some) in
         rw (ea, ec)
         record {
           goes = onward (take (n + 1) (set firsts n place)) (more ∙ rw (sym found ∙ not-true r e, with_edge));

@@ -42,11 +42,13 @@ reach_reach t at m n = go (leb (at + m) (length t)) refl
 
 module _ (t : List ℕ) where
   -- the first words are the same, and so are those after them
-  pub same_first : (a b n : ℕ) → same_run t a b (suc n) ≡ true → (get_or t a 0 ≡ get_or t b 0) × (same_run t (reach t a 1) (reach t b 1) n ≡ true)
+  pub same_first : (a b n : ℕ) → same_run t a b (suc n) ≡ true
+      → (get_or t a 0 ≡ get_or t b 0) × (same_run t (reach t a 1) (reach t b 1) n ≡ true)
   unfolding same_run
   same_first a b n h = go (eqb (get_or t a 0) (get_or t b 0)) refl
     where
-      go : (x : Bool) → eqb (get_or t a 0) (get_or t b 0) ≡ x → (get_or t a 0 ≡ get_or t b 0) × (same_run t (reach t a 1) (reach t b 1) n ≡ true)
+      go : (x : Bool) → eqb (get_or t a 0) (get_or t b 0) ≡ x
+          → (get_or t a 0 ≡ get_or t b 0) × (same_run t (reach t a 1) (reach t b 1) n ≡ true)
       go true e = (eqb-true (get_or t a 0) (get_or t b 0) e, rw (e, same_run) at h)
       go false e = never (rw (e, same_run) at h)
 
@@ -67,7 +69,8 @@ module _ (t : List ℕ) where
       rw (first, same_run) (same_of_run (reach t a 1) (reach t b 1) n (ap (drop 1) h))
 
   -- where four words are the same, the fourth is
-  fourth : (a b n : ℕ) → same_run t a b (suc (suc (suc (suc n)))) ≡ true → get_or t (reach t a 3) 0 ≡ get_or t (reach t b 3) 0
+  fourth : (a b n : ℕ) → same_run t a b (suc (suc (suc (suc n)))) ≡ true
+      → get_or t (reach t a 3) 0 ≡ get_or t (reach t b 3) 0
   fourth a b n h =
       let one = same_first a b (suc (suc (suc n))) h in
       let two = same_first (reach t a 1) (reach t b 1) (suc (suc n)) one.1 in

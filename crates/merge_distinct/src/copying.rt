@@ -1,5 +1,5 @@
 // The words that are copied: all but the edges that are repeats.
-ghost use Rattle.std.specs.Prelude.{◌≡◌, ◌-◌, length, take};
+ghost use Rattle.std.specs.Prelude.{◌≡◌, length, take};
 ghost use Rattle.merge_append.specs.Append.{Appended};
 ghost use Rattle.merge_append.specs.Runs.{run};
 ghost use Rattle.merge_distinct.specs.Equality.{edge_length};
@@ -11,18 +11,11 @@ use crate::firsts::{self};
 use model::Model;
 use table_places::Layout;
 
-// How far one place is from another behind it; 0, if it is not behind.
-fn distance(from: usize, to: usize) -> usize
-    ensures { result ≡ to - from }
-{
-    if from <= to { to - from } else { 0 }
-}
-
-// From one place up to another.
+// From one place up to another; nothing, if that is not behind.
 pub fn part(t: &[u32], from: usize, to: usize, out: &mut [u32; Model::WORDS], at: usize) -> usize
     ensures { Appended (part t.now from to) at out.old out.new result }
 {
-    merge_append::copy(t, from, distance(from, to), out, at)
+    merge_append::copy(t, from, to.saturating_sub(from), out, at)
 }
 
 // The edge at a place.
@@ -41,18 +34,12 @@ fn edges(
     out: &mut [u32; Model::WORDS],
     at: usize,
 ) -> usize
-    requires { length firsts.now ≡ 512 }
     ensures { Appended (edge_words t.now (take n firsts.now))
         at out.old out.new result }
 {
-    let mut i = 0;
     let mut next = at;
-    while i < n {
-        if 512 <= i {
-            return next;
-        }
-        next = edge(t, firsts[i], out, next);
-        i += 1;
+    for first in &firsts[..n.min(Model::EDGES)] {
+        next = edge(t, *first, out, next);
     }
     next
 }
@@ -66,7 +53,6 @@ fn automaton(
     out: &mut [u32; Model::WORDS],
     at: usize,
 ) -> usize
-    requires { length seen.old ≡ 4096 }
     ensures appended { Appended (automaton_words t.now set place)
         at out.old out.new result }
     ensures seen_len { length seen.new ≡ 4096 }
@@ -84,14 +70,10 @@ pub fn automata(t: &[u32], x: Layout, out: &mut [u32; Model::WORDS], at: usize) 
         at out.old out.new result }
 {
     let count = table_places::automata_of(x);
-    let sets = x.sets;
-    let places = x.edges;
     let mut seen = [false; 4096];
-    let mut i = 0;
     let mut next = at;
-    while i < count {
-        next = automaton(t, sets[i], places[i], &mut seen, out, next);
-        i += 1;
+    for i in 0..count {
+        next = automaton(t, x.sets[i], x.edges[i], &mut seen, out, next);
     }
     next
 }

@@ -1,4 +1,6 @@
 // When the edges at two places are equal: when their words are.
+#![tactic(auto, using(crate::proofs::EqualityLaws::equality_laws))]
+
 ghost use Rattle.std.specs.Prelude.{◌≡◌, ◌<◌};
 ghost use Rattle.merge_distinct.specs.Equality.{edge_length, same_run, same_edge_at, mixed, hash_at};
 
@@ -13,16 +15,14 @@ pub fn edge_length(t: &[u32], at: usize) -> usize
 fn same_words(t: &[u32], at: usize, other: usize, count: usize) -> bool
     ensures { result ≡ same_run t.now at other count }
 {
-    let mut left = count;
     let mut a = at;
     let mut b = other;
-    while left != 0 {
+    for _ in 0..count {
         if table_places::word(t, a) != table_places::word(t, b) {
             return false;
         }
         a = table_places::step(t, a, 1);
         b = table_places::step(t, b, 1);
-        left -= 1;
     }
     true
 }
@@ -45,13 +45,12 @@ pub fn hash(t: &[u32], at: usize) -> usize
     ensures value { result ≡ hash_at t.now at }
     ensures upper_bound { result < 4096 }
 {
-    let mut left = edge_length(t, at);
+    let length = edge_length(t, at);
     let mut place = at;
     let mut sum = 0;
-    while left != 0 {
+    for _ in 0..length {
         sum = mixed(sum, table_places::word(t, place));
         place = table_places::step(t, place, 1);
-        left -= 1;
     }
     sum
 }

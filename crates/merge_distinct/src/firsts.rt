@@ -1,4 +1,6 @@
 // The edges of an automaton that repeat no earlier one, by their places.
+#![tactic(auto, using(crate::proofs::FirstsLaws::firsts_laws))]
+
 ghost use Rattle.std.specs.Prelude.{◌≡◌, ◌≤◌, length};
 ghost use Rattle.merge_distinct.specs.Firsts.{edges_of, listed_in, repeats_by, first_ones, Gathered};
 
@@ -17,17 +19,10 @@ pub fn edges_of(t: &[u32], edges: usize) -> usize
 fn is_listed(t: &[u32], at: usize, firsts: &[usize; Model::EDGES], n: usize) -> bool
     ensures { result ≡ listed_in t.now at firsts.now 0 n }
 {
-    let mut i = 0;
-    while i < n {
-        if 512 <= i {
-            return false;
-        }
-        if equality::same_edge(t, at, firsts[i]) {
-            return true;
-        }
-        i += 1;
-    }
-    false
+    let listed = &firsts[..n.min(Model::EDGES)];
+    listed
+        .iter()
+        .any(|first| equality::same_edge(t, at, *first))
 }
 
 // The same; where no edge with its hash has been seen, the list is not looked at.
@@ -40,10 +35,7 @@ fn is_repeat(
 ) -> bool
     ensures { result ≡ repeats_by t.now at seen_hash firsts.now n }
 {
-    if seen_hash {
-        return is_listed(t, at, firsts, n);
-    }
-    false
+    seen_hash && is_listed(t, at, firsts, n)
 }
 
 // Lists the places of an automaton's edges that repeat no earlier one, and says how many they are. What `seen` holds
@@ -54,14 +46,13 @@ pub fn gather(
     seen: &mut [bool; 4096],
     firsts: &mut [usize; Model::EDGES],
 ) -> usize
-    requires { (length seen.old ≡ 4096) × (length firsts.old ≡ 512) }
     ensures gathered { Gathered (first_ones t.now edges) firsts.new result }
     ensures seen_len { (length seen.new ≡ 4096) × (length firsts.new ≡ 512) }
 {
-    let mut left = edges_of(t, edges);
+    let count = edges_of(t, edges);
     let mut place = table_places::first_edge(t, edges);
     let mut n = 0;
-    while left != 0 {
+    for _ in 0..count {
         let hash = equality::hash(t, place);
         if !is_repeat(t, place, seen[hash], firsts, n) {
             firsts[n] = place;
@@ -69,7 +60,6 @@ pub fn gather(
         }
         seen[hash] = true;
         place = table_places::after_predicate(t, table_places::update_at(t, place));
-        left -= 1;
     }
     n
 }

@@ -18,17 +18,14 @@ pub fn repeats(t: &[u32], x: Layout) -> bool
     ensures { result ≡ repeats_in t.now x }
 {
     let count = table_places::automata_of(x);
-    let places = x.edges;
     let mut seen = [false; 4096];
     let mut firsts = [0usize; Model::EDGES];
-    let mut i = 0;
-    while i < count {
-        let edges = places[i];
+    for i in 0..count {
+        let edges = x.edges[i];
         let n = firsts::gather(t, edges, &mut seen, &mut firsts);
         if n != firsts::edges_of(t, edges) {
             return true;
         }
-        i += 1;
     }
     false
 }

@@ -1,6 +1,7 @@
 -- Each way out of the code of src/edge.rt.
-use mathlib.Core.Path.{◌≡◌, sym, ap, ap₂, ◌∙◌}
-use mathlib.Core.Bool.{Bool, true, false, ◌||◌}
+use mathlib.Core.Path.{◌≡◌, refl, sym, ap, ap₂, ◌∙◌}
+use Rattle.std.specs.List.{fold, list_any}
+use mathlib.Core.Bool.{Bool, false, ◌||◌}
 use mathlib.Core.List.{List, [], ◌∷◌, ◌++◌}
 use Prim.Native.Nat.{ℕ, ◌+◌, ◌≤◌, ◌<◌}
 use native.Mathlib.Omega.{arith}
@@ -14,7 +15,8 @@ use Rattle.merge_append.specs.Runs.{nodes_at}
 use Rattle.merge_append.specs.NodeWords.{all_node, number_node, old_node, new_node, eq_node, pointer_of, capped}
 use Rattle.merge_append.proofs.AppendLaws.{nothing, then, Underway, begun, on_by, ended}
 use Rattle.merge_predicates.specs.Depths.{is_deeper}
-use Rattle.merge_edges.specs.Edge.{update_at, move_at, updates_at, moves_at, taker_nodes, takers_nodes, taker_operands, takers_operands, edge_by, update_deep, updates_deep}
+use Rattle.merge_edges.specs.Edge.{update_at, move_at, updates_at, moves_at, taker_nodes, takers_nodes, taker_operands}
+use Rattle.merge_edges.specs.Edge.{takers_operands, edge_by, update_deep, updates_deep}
 
 -- `update`
 module _ (t : List ℕ) (place at : ℕ) (old : List ℕ) where
@@ -22,16 +24,17 @@ module _ (t : List ℕ) (place at : ℕ) (old : List ℕ) where
   unfolding update_at
   update_none z = rw (eq-eqb place 0 z, update_at) (nothing old at)
 
-  pub update_is : (place ≡ 0 → ⊥) → (p r : ℕ) (new : List ℕ) → p ≡ update_place t place → Appended (nodes_at t p) at old new r → Appended (update_at t place) at old new r
+  pub update_is : (place ≡ 0 → ⊥) → (p r : ℕ) (new : List ℕ) → p ≡ update_place t place
+      → Appended (nodes_at t p) at old new r → Appended (update_at t place) at old new r
   unfolding update_at
   update_is y p r new e a = rw (ne_eqb place 0 y, update_at, ← e) a
 
 pub ruleset update_laws = (update_none, update_is)
 
 -- `equal`
-pub equal_is : (p l q z at a b r : ℕ) (old m1 m2 new : List ℕ) → q ≡ eq_node → z ≡ number_node l → Appended (q ∷ []) at old m1 a → Appended (p ∷ []) a m1 m2 b → Appended (z ∷ []) b m2 new r
-    → Appended (eq_node ∷ p ∷ number_node l ∷ []) at old new r
-equal_is p l q z at a b r old m1 m2 new f e p1 p2 p3 = rw (← f, ← e) (then p1 (then p2 p3))
+pub equal_is : (p l q z at r : ℕ) (old new : List ℕ) → q ≡ eq_node → z ≡ number_node l
+    → Appended (q ∷ p ∷ z ∷ []) at old new r → Appended (eq_node ∷ p ∷ number_node l ∷ []) at old new r
+equal_is p l q z at r old new f e a = rw (← f, ← e) a
 
 -- `pointer_move`
 module _ (t : List ℕ) (k place at : ℕ) (old : List ℕ) where
@@ -39,8 +42,10 @@ module _ (t : List ℕ) (k place at : ℕ) (old : List ℕ) where
   unfolding move_at
   move_none z = rw (eq-eqb place 0 z, move_at) (nothing old at)
 
-  pub move_is : (place ≡ 0 → ⊥) → (from to o n a r : ℕ) (mid new : List ℕ) → from ≡ edge_from t place → to ≡ edge_to t place → o ≡ old_node k → n ≡ new_node k
-      → Appended (eq_node ∷ o ∷ number_node from ∷ []) at old mid a → Appended (eq_node ∷ n ∷ number_node to ∷ []) a mid new r → Appended (move_at t k place) at old new r
+  pub move_is : (place ≡ 0 → ⊥) → (from to o n a r : ℕ) (mid new : List ℕ) → from ≡ edge_from t place
+      → to ≡ edge_to t place → o ≡ old_node k → n ≡ new_node k
+      → Appended (eq_node ∷ o ∷ number_node from ∷ []) at old mid a
+      → Appended (eq_node ∷ n ∷ number_node to ∷ []) a mid new r → Appended (move_at t k place) at old new r
   unfolding move_at
   move_is y from to o n a r mid new ef et eo en p q = rw (ne_eqb place 0 y, move_at, ← ef, ← et, ← eo, ← en) (then p q)
 
@@ -54,10 +59,15 @@ pub no_more : (l : List ℕ) (i : ℕ) → length l ≡ 16 → 16 ≤ i → drop
 no_more l i e h = let z : length l ≤ i = omega arith in drop_of_length-le l z
 
 -- `updates`
-module _ (t places whole old now : List ℕ) (at i next : ℕ) (e : length places ≡ 16) (u : Underway whole at old (updates_at t (drop i places)) next now) where
-  pub updates_turn : i < 16 → (p r : ℕ) (new : List ℕ) → p ≡ get_or places i 0 → Appended (update_at t p) next now new r → Underway whole at old (updates_at t (drop (i + 1) places)) r new
+module _ (t places whole old now : List ℕ) (at i next : ℕ) (e : length places ≡ 16)
+    (u : Underway whole at old (updates_at t (drop i places)) next now) where
+  pub updates_turn : i < 16 → (p r : ℕ) (new : List ℕ) → p ≡ get_or places i 0
+      → Appended (update_at t p) next now new r → Underway whole at old (updates_at t (drop (i + 1) places)) r new
   unfolding updates_at
-  updates_turn h p r new f a = on_by u (ap (updates_at t) (one_more_lem places i e h) ∙ ap (λ (x : ℕ). update_at t x ++ updates_at t (drop (i + 1) places)) (sym f)) a
+  updates_turn h p r new f a =
+      on_by u
+      (ap (updates_at t) (one_more_lem places i e h)
+      ∙ ap (λ (x : ℕ). update_at t x ++ updates_at t (drop (i + 1) places)) (sym f)) a
 
   pub updates_end : 16 ≤ i → Appended whole at old now next
   unfolding updates_at
@@ -66,12 +76,16 @@ module _ (t places whole old now : List ℕ) (at i next : ℕ) (e : length place
 pub ruleset updates_laws = (begun, updates_turn, updates_end)
 
 -- `pointer_moves`
-module _ (t places whole old now : List ℕ) (v at i next : ℕ) (e : length places ≡ 16) (u : Underway whole at old (moves_at t v i (drop i places)) next now) where
-  pub moves_turn : i < 16 → (k p r : ℕ) (new : List ℕ) → k ≡ pointer_of v i → p ≡ get_or places i 0 → Appended (move_at t k p) next now new r
+module _ (t places whole old now : List ℕ) (v at i next : ℕ) (e : length places ≡ 16)
+    (u : Underway whole at old (moves_at t v i (drop i places)) next now) where
+  pub moves_turn : i < 16 → (k p r : ℕ) (new : List ℕ) → k ≡ pointer_of v i → p ≡ get_or places i 0
+      → Appended (move_at t k p) next now new r
       → Underway whole at old (moves_at t v (i + 1) (drop (i + 1) places)) r new
   unfolding moves_at
   moves_turn h k p r new ek f a =
-      on_by u (ap (moves_at t v i) (one_more_lem places i e h) ∙ ap₂ (λ (j x : ℕ). move_at t j x ++ moves_at t v (i + 1) (drop (i + 1) places)) (sym ek) (sym f)) a
+      on_by u
+      (ap (moves_at t v i) (one_more_lem places i e h)
+      ∙ ap₂ (λ (j x : ℕ). move_at t j x ++ moves_at t v (i + 1) (drop (i + 1) places)) (sym ek) (sym f)) a
 
   pub moves_end : 16 ≤ i → Appended whole at old now next
   unfolding moves_at
@@ -85,23 +99,17 @@ module _ (t : List ℕ) (sum place : ℕ) where
   unfolding taker_nodes
   taker_nodes_none z = rw (eq-eqb place 0 z, taker_nodes)
 
-  pub taker_nodes_is : (place ≡ 0 → ⊥) → (s n c r : ℕ) → s ≡ update_place t place → n ≡ get_or t s 0 → c ≡ capped (sum + 6) → r ≡ capped (c + n) → r ≡ taker_nodes t sum place
+  pub taker_nodes_is : (place ≡ 0 → ⊥) → (s n c r : ℕ) → s ≡ update_place t place → n ≡ get_or t s 0
+      → c ≡ capped (sum + 6) → r ≡ capped (c + n) → r ≡ taker_nodes t sum place
   unfolding taker_nodes
   taker_nodes_is y s n c r es en ec er = rw (ne_eqb place 0 y, taker_nodes, ← es, ← en, ← ec) er
 
-pub ruleset taker_nodes_laws = (taker_nodes_none, taker_nodes_is)
-
 -- `takers_nodes`
-module _ (t places : List ℕ) (sum i whole : ℕ) (e : length places ≡ 16) (u : takers_nodes t sum (drop i places) ≡ whole) where
-  pub takers_nodes_turn : i < 16 → (p r : ℕ) → p ≡ get_or places i 0 → r ≡ taker_nodes t sum p → takers_nodes t r (drop (i + 1) places) ≡ whole
-  unfolding takers_nodes
-  takers_nodes_turn h p r f g = rw (g, f) (sym (ap (takers_nodes t sum) (one_more_lem places i e h)) ∙ u)
-
-  pub takers_nodes_end : 16 ≤ i → sum ≡ whole
-  unfolding takers_nodes
-  takers_nodes_end h = sym (ap (takers_nodes t sum) (no_more places i e h)) ∙ u
-
-pub ruleset takers_nodes_laws = (takers_nodes_turn, takers_nodes_end)
+pub nodes_folded : (t : List ℕ) (sum : ℕ) (places : List ℕ)
+    → fold (taker_nodes t) sum places ≡ takers_nodes t sum places
+unfolding takers_nodes
+nodes_folded t sum [] = refl
+nodes_folded t sum (p ∷ ps) = nodes_folded t (taker_nodes t sum p) ps
 
 -- `taker_operands`
 module _ (sum place : ℕ) where
@@ -113,28 +121,20 @@ module _ (sum place : ℕ) where
   unfolding taker_operands
   taker_operands_is y r er = rw (ne_eqb place 0 y, taker_operands) er
 
-pub ruleset taker_operands_laws = (taker_operands_none, taker_operands_is)
-
 -- `takers_operands`
-module _ (places : List ℕ) (sum i whole : ℕ) (e : length places ≡ 16) (u : takers_operands sum (drop i places) ≡ whole) where
-  pub takers_operands_turn : i < 16 → (p r : ℕ) → p ≡ get_or places i 0 → r ≡ taker_operands sum p → takers_operands r (drop (i + 1) places) ≡ whole
-  unfolding takers_operands
-  takers_operands_turn h p r f g = rw (g, f) (sym (ap (takers_operands sum) (one_more_lem places i e h)) ∙ u)
-
-  pub takers_operands_end : 16 ≤ i → sum ≡ whole
-  unfolding takers_operands
-  takers_operands_end h = sym (ap (takers_operands sum) (no_more places i e h)) ∙ u
-
-pub ruleset takers_operands_laws = (takers_operands_turn, takers_operands_end)
+pub operands_folded : (sum : ℕ) (places : List ℕ) → fold taker_operands sum places ≡ takers_operands sum places
+unfolding takers_operands
+operands_folded sum [] = refl
+operands_folded sum (p ∷ ps) = operands_folded (taker_operands sum p) ps
 
 -- `edge`
-pub edge_is : (t places : List ℕ) (action nodes operands word v : ℕ) → nodes ≡ takers_nodes t 1 places → operands ≡ takers_operands 0 places → word ≡ all_node operands
-    → (at a b c d e f r : ℕ) (old m1 m2 m3 m4 m5 m6 new : List ℕ)
-    → Appended (0 ∷ []) at old m1 a → Appended (action ∷ []) a m1 m2 b → Appended (0 ∷ []) b m2 m3 c → Appended (nodes ∷ []) c m3 m4 d → Appended (word ∷ []) d m4 m5 e
-    → Appended (updates_at t places) e m5 m6 f → Appended (moves_at t v 0 places) f m6 new r → Appended (edge_by t v action places) at old new r
+pub edge_is : (t places : List ℕ) (action nodes operands word v : ℕ) → nodes ≡ takers_nodes t 1 places
+    → operands ≡ takers_operands 0 places → word ≡ all_node operands → (at a b r : ℕ) (old m1 m2 new : List ℕ)
+    → Appended (0 ∷ action ∷ 0 ∷ nodes ∷ word ∷ []) at old m1 a → Appended (updates_at t places) a m1 m2 b
+    → Appended (moves_at t v 0 places) b m2 new r → Appended (edge_by t v action places) at old new r
 unfolding edge_by
-edge_is t places action nodes operands word v e1 e2 e3 at a b c d e f r old m1 m2 m3 m4 m5 m6 new p1 p2 p3 p4 p5 p6 p7 =
-    rw (← e1, ← e2, ← e3) (then p1 (then p2 (then p3 (then p4 (then p5 (then p6 p7))))))
+edge_is t places action nodes operands word v e1 e2 e3 at a b r old m1 m2 new p1 p2 p3 =
+    rw (← e1, ← e2, ← e3) (then p1 (then p2 p3))
 
 -- `update_deep`
 module _ (t : List ℕ) (place : ℕ) where
@@ -142,27 +142,23 @@ module _ (t : List ℕ) (place : ℕ) where
   unfolding update_deep
   update_deep_none z = rw (eq-eqb place 0 z, update_deep)
 
-  pub update_deep_is : (place ≡ 0 → ⊥) → (s : ℕ) (r : Bool) → s ≡ update_place t place → r ≡ is_deeper t 23 s → r ≡ update_deep t place
+  pub update_deep_is : (place ≡ 0 → ⊥) → (s : ℕ) (r : Bool) → s ≡ update_place t place → r ≡ is_deeper t 23 s
+      → r ≡ update_deep t place
   unfolding update_deep
   update_deep_is y s r es er = rw (ne_eqb place 0 y, update_deep, ← es) er
 
-pub ruleset update_deep_laws = (update_deep_none, update_deep_is)
-
 -- `updates_deep`
-module _ (t places : List ℕ) (i : ℕ) (whole : Bool) (e : length places ≡ 16) (u : updates_deep t (drop i places) ≡ whole) where
-  pub updates_none : 16 ≤ i → false ≡ whole
-  unfolding updates_deep
-  updates_none h = sym (ap (updates_deep t) (no_more places i e h)) ∙ u
+pub some_deep : (t places : List ℕ) → list_any (update_deep t) places ≡ updates_deep t places
+unfolding updates_deep
+some_deep t [] = refl
+some_deep t (p ∷ ps) = ap (λ b. update_deep t p || b) (some_deep t ps)
 
-  module _ (h : i < 16) (p : ℕ) (b : Bool) (ep : p ≡ get_or places i 0) (eb : b ≡ update_deep t p) where
-    split_updates : (b || updates_deep t (drop (i + 1) places)) ≡ whole
-    unfolding updates_deep
-    split_updates = rw (eb, ep) (sym (ap (updates_deep t) (one_more_lem places i e h)) ∙ u)
-
-    pub updates_deep_lem : b ≡ true → true ≡ whole
-    updates_deep_lem q = rw q at split_updates
-
-    pub updates_on : b ≡ false → updates_deep t (drop (i + 1) places) ≡ whole
-    updates_on q = rw q at split_updates
-
-pub ruleset updates_deep_laws = (updates_none, updates_deep_lem, updates_on)
+-- what the equations in src/edge.rt need
+pub ruleset edge_laws = (
+  taker_nodes_none,
+  taker_nodes_is,
+  taker_operands_none,
+  taker_operands_is,
+  update_deep_none,
+  update_deep_is,
+)

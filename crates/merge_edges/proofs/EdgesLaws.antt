@@ -1,8 +1,8 @@
 -- Each way out of the code of src/edges.rt.
-use mathlib.Core.Path.{◌≡◌, refl, sym, ap, ◌∙◌}
+use mathlib.Core.Path.{◌≡◌, sym, ap, ◌∙◌}
 use mathlib.Core.List.{List, ◌∷◌, ◌++◌}
-use Prim.Native.Nat.{ℕ, zero, suc, ◌+◌, ◌-◌, ◌≤◌, ◌<◌}
-use native.Mathlib.Numerals.{sub-one}
+use Prim.Native.Nat.{ℕ, suc, ◌+◌, ◌-◌, ◌≤◌, ◌<◌}
+use native.Mathlib.Omega.{arith}
 use lib.ListN.{length, get_or, drop}
 use borrow.Author.Tests.{eq-eqb, ne_eqb}
 use Rattle.table_places.specs.Outline.{reach, edge_action}
@@ -31,29 +31,35 @@ module _ (t places : List ℕ) (i whole : ℕ) (e : length places ≡ 16) (u : a
     unfolding action_at
     action_on z = rw (eq-eqb p 0 z, action_at) at split_action
 
+-- what the equations in src/edges.rt need
 pub ruleset action_laws = (action_none, action_here, action_on)
 
 -- `edge`
-pub edge_is : (t places : List ℕ) (v action at r : ℕ) (old new : List ℕ) → action ≡ action_at t places → Appended (edge_by t v action places) at old new r
+pub edge_is : (t places : List ℕ) (v action at r : ℕ) (old new : List ℕ) → action ≡ action_at t places
+    → Appended (edge_by t v action places) at old new r
     → Appended (edge_of t v places) at old new r
 unfolding edge_of
 edge_is t places v action at r old new e a = rw (← e) a
 
--- a list with an edge at least, and with none
-some_edges : (t list : List ℕ) (v at n : ℕ) → (n ≡ 0 → ⊥) → edges_from t v list at n ≡ edge_of t v (run list at 16) ++ edges_from t v list (reach list at 16) (n - 1)
-unfolding edges_from
-some_edges t list v at zero h = absurd (h refl)
-some_edges t list v at (suc n) h = rw (sub-one (suc n))
-
 -- `all_edges`
-module _ (t list whole old now : List ℕ) (v at place left next : ℕ) (u : Underway whole at old (edges_from t v list place left) next now) where
-  pub all_turn : (left ≡ 0 → ⊥) → (places : List ℕ) (p r : ℕ) (new : List ℕ) → places ≡ run list place 16 → Appended (edge_of t v places) next now new r → p ≡ reach list place 16
-      → Underway whole at old (edges_from t v list p (left - 1)) r new
-  all_turn h places p r new e a f =
-      rw f (on_by u (some_edges t list v place left h ∙ ap (λ (l : List ℕ). edge_of t v l ++ edges_from t v list (reach list place 16) (left - 1)) (sym e)) a)
-
-  pub all_end : left ≡ 0 → Appended whole at old now next
+module _ (t list whole old now : List ℕ) (v at place count i next : ℕ)
+    (u : Underway whole at old (edges_from t v list place (count - i)) next now) where
+  pub all_turn : i < count → (places : List ℕ) (p r : ℕ) (new : List ℕ) → places ≡ run list place 16
+      → Appended (edge_of t v places) next now new r → p ≡ reach list place 16
+      → Underway whole at old (edges_from t v list p (count - (i + 1))) r new
   unfolding edges_from
-  all_end z = ended u (ap (edges_from t v list place) z)
+  all_turn h places p r new e a f =
+      let n : count - i ≡ suc (count - (i + 1)) = omega arith in
+      let others = edges_from t v list (reach list place 16) (count - (i + 1)) in
+      rw f (on_by u (ap (edges_from t v list place) n ∙ ap (λ (l : List ℕ). edge_of t v l ++ others) (sym e)) a)
 
-pub ruleset all_laws = (begun, all_turn, all_end)
+  pub all_end : count ≤ i → Appended whole at old now next
+  unfolding edges_from
+  all_end h = let z : count - i ≡ 0 = omega arith in ended u (ap (edges_from t v list place) z)
+
+pub all_begun : (t list : List ℕ) (v count at : ℕ) (old : List ℕ)
+    → Underway (edges_from t v list 0 count) at old (edges_from t v list 0 (count - 0)) at old
+all_begun t list v count at old =
+    let z : count - 0 ≡ count = omega arith in rw z (begun (edges_from t v list 0 count) at old)
+
+pub ruleset all_laws = (all_begun, all_turn, all_end)

@@ -1,4 +1,6 @@
 // One merged edge, from where the edges stand that it has; 0 stands for an automaton that takes none.
+#![tactic(auto, using(crate::proofs::EdgeLaws::edge_laws))]
+
 ghost use Rattle.std.specs.Prelude.{◌≡◌, [], ◌∷◌};
 ghost use Rattle.merge_append.specs.Append.{Appended};
 ghost use Rattle.merge_append.specs.NodeWords.{number_node, eq_node};
@@ -22,9 +24,12 @@ fn equal(pointer: usize, location: usize, out: &mut [u32; Model::WORDS], at: usi
     ensures { Appended (eq_node ∷ pointer ∷ number_node location ∷ [])
         at out.old out.new result }
 {
-    let a = merge_append::put(merge_append::eq_node(), out, at);
-    let b = merge_append::put(pointer, out, a);
-    merge_append::put(merge_append::number_node(location), out, b)
+    let words = [
+        merge_append::eq_node(),
+        pointer,
+        merge_append::number_node(location),
+    ];
+    merge_append::put_all(&words, out, at)
 }
 
 // A taker's pointer was FROM and becomes TO.
@@ -52,10 +57,8 @@ fn updates(t: &[u32], places: [usize; 16], out: &mut [u32; Model::WORDS], at: us
         at out.old out.new result }
 {
     let mut next = at;
-    let mut i = 0;
-    while i < 16 {
-        next = update(t, places[i], out, next);
-        i += 1;
+    for place in places {
+        next = update(t, place, out, next);
     }
     next
 }
@@ -72,11 +75,9 @@ fn pointer_moves(
         at out.old out.new result }
 {
     let mut next = at;
-    let mut i = 0;
-    while i < 16 {
+    for (i, place) in places.iter().enumerate() {
         let pointer = merge_append::pointer(variables, i);
-        next = pointer_move(t, pointer, places[i], out, next);
-        i += 1;
+        next = pointer_move(t, pointer, *place, out, next);
     }
     next
 }
@@ -96,13 +97,9 @@ fn taker_nodes(t: &[u32], sum: usize, place: usize) -> usize
 pub fn takers_nodes(t: &[u32], places: [usize; 16]) -> usize
     ensures { result ≡ takers_nodes t.now 1 places }
 {
-    let mut sum = 1;
-    let mut i = 0;
-    while i < 16 {
-        sum = taker_nodes(t, sum, places[i]);
-        i += 1;
-    }
-    sum
+    places
+        .iter()
+        .fold(1, |sum, place| taker_nodes(t, sum, *place))
 }
 
 // Three operands for a taker, added to a sum.
@@ -119,13 +116,9 @@ fn taker_operands(sum: usize, place: usize) -> usize
 fn takers_operands(places: [usize; 16]) -> usize
     ensures { result ≡ takers_operands 0 places }
 {
-    let mut sum = 0;
-    let mut i = 0;
-    while i < 16 {
-        sum = taker_operands(sum, places[i]);
-        i += 1;
-    }
-    sum
+    places
+        .iter()
+        .fold(0, |sum, place| taker_operands(sum, *place))
 }
 
 // The merged edge of these takers, with pointers after so many variables.
@@ -140,14 +133,12 @@ pub fn edge(
     ensures { Appended (edge_by t.now variables action places)
         at out.old out.new result }
 {
-    let a = merge_append::put(0, out, at);
-    let b = merge_append::put(action, out, a);
-    let c = merge_append::put(0, out, b);
-    let d = merge_append::put(takers_nodes(t, places), out, c);
+    let nodes = takers_nodes(t, places);
     let operands = takers_operands(places);
-    let e = merge_append::put(merge_append::all_node(operands), out, d);
-    let f = updates(t, places, out, e);
-    pointer_moves(t, variables, places, out, f)
+    let head = [0, action, 0, nodes, merge_append::all_node(operands)];
+    let a = merge_append::put_all(&head, out, at);
+    let b = updates(t, places, out, a);
+    pointer_moves(t, variables, places, out, b)
 }
 
 // Is a taker's update so deep that the merged edge's, one deeper, is too deep?
@@ -165,12 +156,5 @@ fn update_deep(t: &[u32], place: usize) -> bool
 pub fn updates_deep(t: &[u32], places: [usize; 16]) -> bool
     ensures { result ≡ updates_deep t.now places }
 {
-    let mut i = 0;
-    while i < 16 {
-        if update_deep(t, places[i]) {
-            return true;
-        }
-        i += 1;
-    }
-    false
+    places.iter().any(|place| update_deep(t, *place))
 }

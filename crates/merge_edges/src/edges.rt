@@ -1,4 +1,6 @@
 // The words of all merged edges, from the list of their takers: sixteen places for each merged edge.
+#![tactic(auto, using(crate::proofs::EdgesLaws::action_laws))]
+
 ghost use Rattle.std.specs.Prelude.{◌≡◌};
 ghost use Rattle.merge_append.specs.Append.{Appended};
 ghost use Rattle.merge_edges.specs.Edges.{action_at, edge_of, edges_from};
@@ -10,13 +12,10 @@ use model::Model;
 fn action_of(t: &[u32], places: [usize; 16]) -> usize
     ensures { result ≡ action_at t.now places }
 {
-    let mut i = 0;
-    while i < 16 {
-        let place = places[i];
+    for place in places {
         if place != 0 {
             return table_places::edge_action(t, place);
         }
-        i += 1;
     }
     0
 }
@@ -48,14 +47,12 @@ pub fn all_edges(
     ensures { Appended (edges_from t.now variables list.now 0 count)
         at out.old out.new result }
 {
-    let mut left = count;
     let mut place = 0;
     let mut next = at;
-    while left != 0 {
+    for _ in 0..count {
         let places = merge_takers::places_at(list, place);
         next = edge(t, variables, places, out, next);
         place = table_places::step(list, place, 16);
-        left -= 1;
     }
     next
 }

@@ -1,11 +1,13 @@
 -- Each way out of the code of src/capping.rt; and what capping leaves of a count.
-use mathlib.Core.Path.{◌≡◌, refl, sym}
-use mathlib.Core.Bool.{Bool, true, false, ◌&&◌, true≢false}
-use Prim.Native.Nat.{ℕ, ◌+◌, ◌*◌, ◌≤◌, ◌<◌}
+use mathlib.Core.Path.{◌≡◌, refl, ◌∙◌}
+use mathlib.Core.Bool.{Bool, true, false}
+use Prim.Native.Nat.{ℕ, ◌+◌, ◌*◌, ◌≤◌, ◌<◌, min}
+use Rattle.std.proofs.Common.{inl, inr}
+use Rattle.std.proofs.lemmas.Bool.{cases_lt}
 use native.Mathlib.Omega.{arith}
 use native.Mathlib.Nat.{mul-le-mul}
 use mir.Syntax.{w32}
-use mir.Val.{Fits}
+use mir.Val.{Fits, bool_byte}
 use lib.Dec.{leb}
 use borrow.Author.Tests.{le-leb, lt-leb, leb-true}
 use Rattle.model.specs.Moves.{sides_count}
@@ -27,7 +29,12 @@ cap_bound x = go (leb x 512) refl
     go true e = omega (arith, leb-true x 512 e)
     go false e = omega arith
 
-pub ruleset capped_laws = (cap_small, cap_large)
+pub capped_is : (x r : ℕ) → r ≡ min x 513 → r ≡ capped x
+capped_is x r e =
+    elim (cases_lt 512 x) [
+      | inl h ↦ let z : r ≡ 513 = omega arith in z ∙ cap_large x h
+      | inr h ↦ let z : r ≡ x = omega arith in z ∙ cap_small x h
+    ]
 
 -- `sides_count`
 pub product_fits : (left right x y : ℕ) → x ≡ capped left → y ≡ capped right → Fits w32 (x * y)
@@ -37,62 +44,31 @@ product_fits left right x y hx hy =
     let p : x * y ≤ 513 * 513 = mul-le-mul a b in
     record { fits = omega arith }
 
-pub sum_fits : (left right x y : ℕ) → x ≡ capped left → y ≡ capped right → Fits w32 (x + y)
-sum_fits left right x y hx hy =
-    let a : x ≤ 513 = rw hx (cap_bound left) in
-    let b : y ≤ 513 = rw hy (cap_bound right) in
-    record { fits = omega arith }
-
-module _ (b e : Bool) (left right x y : ℕ) (hx : x ≡ capped left) (hy : y ≡ capped right) where
-  pub sides_product : (b && e) ≡ true → (r : ℕ) → r ≡ capped (x * y) → r ≡ capped (sides_count b e (capped left) (capped right))
+module _ (b e : Bool) (left right x y r : ℕ) (hx : x ≡ capped left) (hy : y ≡ capped right) where
+  pub sides_product : b ≡ true → e ≡ true → r ≡ capped (x * y)
+      → r ≡ capped (sides_count b e (capped left) (capped right))
   unfolding sides_count
-  sides_product h r hr = go b e h
-    where
-      go : (p q : Bool) → (p && q) ≡ true → r ≡ capped (sides_count p q (capped left) (capped right))
-      go true true i = rw (← hx, ← hy) hr
-      go true false i = absurd (true≢false (sym i))
-      go false q i = absurd (true≢false (sym i))
+  sides_product i j hr = rw (i, j, ← hx, ← hy) hr
 
-  module _ (h : (b && e) ≡ false) where
-    pub sides_left : b ≡ true → (r : ℕ) → r ≡ capped x → r ≡ capped (sides_count b e (capped left) (capped right))
-    unfolding sides_count
-    sides_left i r hr = go b e h i
-      where
-        go : (p q : Bool) → (p && q) ≡ false → p ≡ true → r ≡ capped (sides_count p q (capped left) (capped right))
-        go true true j k = absurd (true≢false j)
-        go true false j k = rw (← hx) hr
-        go false q j k = absurd (true≢false (sym k))
+  pub sides_left : b ≡ true → e ≡ false → r ≡ capped x → r ≡ capped (sides_count b e (capped left) (capped right))
+  unfolding sides_count
+  sides_left i j hr = rw (i, j, ← hx) hr
 
-    pub sides_right : b ≡ false → e ≡ true → (r : ℕ) → r ≡ capped y → r ≡ capped (sides_count b e (capped left) (capped right))
-    unfolding sides_count
-    sides_right i j r hr = rw (i, j, ← hy) hr
+  pub sides_right : b ≡ false → e ≡ true → r ≡ capped y → r ≡ capped (sides_count b e (capped left) (capped right))
+  unfolding sides_count
+  sides_right i j hr = rw (i, j, ← hy) hr
 
-    pub sides_sum : b ≡ false → e ≡ false → (r : ℕ) → r ≡ capped (x + y) → r ≡ capped (sides_count b e (capped left) (capped right))
-    unfolding sides_count
-    sides_sum i j r hr = rw (i, j, ← hx, ← hy) hr
-
-pub ruleset sides_laws = (sides_product, sides_left, sides_right, sides_sum)
+  pub sides_sum : b ≡ false → e ≡ false → r ≡ capped (x + y)
+      → r ≡ capped (sides_count b e (capped left) (capped right))
+  unfolding sides_count
+  sides_sum i j hr = rw (i, j, ← hx, ← hy) hr
 
 -- `cell`
-module _ (inside : Bool) (count x : ℕ) (hx : x ≡ capped count) where
-  pub twice_fits : Fits w32 (x * 2)
-  twice_fits =
-      let a : x ≤ 513 = rw hx (cap_bound count) in
-      record { fits = omega arith }
+pub cell_is : (inside : Bool) (count x v : ℕ) → x ≡ capped count → v ≡ bool_byte inside
+    → x * 2 + v ≡ cell_of inside count
+unfolding cell_of
+cell_is true count x v hx e = rw (hx, e)
+cell_is false count x v hx e = let z : x * 2 + v ≡ x * 2 = omega arith in rw (z, hx)
 
-  pub twice_one_fits : Fits w32 (x * 2 + 1)
-  twice_one_fits =
-      let a : x ≤ 513 = rw hx (cap_bound count) in
-      record { fits = omega arith }
-
-  pub cell_inside : inside ≡ true → x * 2 + 1 ≡ cell_of inside count
-  unfolding cell_of
-  cell_inside h = rw (h, hx)
-
-  pub cell_outside : inside ≡ false → x * 2 ≡ cell_of inside count
-  unfolding cell_of
-  cell_outside h = rw (h, hx)
-
-pub ruleset cell_laws = (cell_inside, cell_outside)
-
-pub ruleset cell_fits = (twice_fits, twice_one_fits)
+-- what the equations in src/capping.rt need
+pub ruleset capping_laws = (capped_is, sides_product, sides_left, sides_right, sides_sum, cell_is)

@@ -189,7 +189,7 @@ module _ (m : Model) (action : ℕ) where
           let small : Y ≤ 512 = omega arith in
           let cap = cap_small Y small in
           let t : Both (k / Y) (k % Y) ≡ divided_by true true (capped X) (capped Y) k =
-          ap (λ v. Both (k / v) (k % v)) cap ∙ divide_both (capped X) (capped Y) k true true refl (λ v. omega arith) in
+          ap (λ v. Both (k / v) (k % v)) cap ∙ divide_both true true (capped X) (capped Y) k refl refl (λ v. omega arith) in
           let rest : k % Y < Y = mod-lt k f.1 in
           let turn : k / Y < X = quotient k X Y f.1 h in
           let at : k / Y * length R + k % Y ≡ k = ap (λ v. k / Y * v + k % Y) (moves_length m action d) ∙ div-add-mod' k Y in
@@ -209,7 +209,7 @@ module _ (m : Model) (action : ℕ) where
 
           go : Dec (k < X) → Goal false false
           go (yes l) =
-              let t = divide_first (capped X) (capped Y) k false false refl refl (omega (arith, cap)) in
+              let t = divide_first false false (capped X) (capped Y) k refl refl (omega (arith, cap)) in
               let lx = moves_length m action c in
               again _ _ _ _ t
               (sym (get_or-append L R [] k (omega arith)))
@@ -218,7 +218,7 @@ module _ (m : Model) (action : ℕ) where
               let lx = moves_length m action c in
               let u : k - X ≡ k - capped X = ap (λ v. k - v) cap in
               let v : k - length L ≡ k - X = ap (λ v. k - v) lx in
-              let t = ap Right u ∙ divide_then (capped X) (capped Y) k false false refl refl (omega (arith, cap)) in
+              let t = ap Right u ∙ divide_then false false (capped X) (capped Y) k refl refl (omega (arith, cap)) in
               again _ _ _ _ t
               (sym (then_at L R k (omega arith) ∙ ap (λ v. get_or R v []) v))
               (took_right (k - X) (omega arith) (omega arith))

@@ -16,20 +16,29 @@ use Rattle.table_tree.specs.Nodes.{node_at}
 use Rattle.table_tree.proofs.Falling.{walk_is}
 use Rattle.merge_moves.specs.declared.planning.Planned.{Planned}
 use Rattle.merge_moves.specs.Capping.{capped, cell_of}
-use Rattle.merge_moves.specs.Plan.{planned, par_plan, syn_plan, leaf_plan, plan_by, plan_step, plan_within, plan_at, stored, fill_by, fill_step, fill_within, fill_at}
+use Rattle.merge_moves.specs.Plan.{planned, par_plan, syn_plan, leaf_plan, plan_by, plan_step, plan_within, plan_at}
+use Rattle.merge_moves.specs.Plan.{stored, fill_by, fill_step, fill_within, fill_at}
 
 -- `par_plan`, `syn_plan` and `leaf_plan`
-pub par_plan_is : (c d : Planned) (x : ℕ) → x ≡ capped (sides_count c.inside d.inside (capped c.count) (capped d.count)) → planned (c.inside || d.inside) x d.next d.left ≡ par_plan c d
+pub par_plan_is : (c d : Planned) (x : ℕ)
+    → x ≡ capped (sides_count c.inside d.inside (capped c.count) (capped d.count))
+    → planned (c.inside || d.inside) x d.next d.left ≡ par_plan c d
 unfolding par_plan
 par_plan_is c d x hx = rw hx
 
-pub syn_plan_is : (list : List ℕ) (action : ℕ) (c : Planned) (b : Bool) → b ≡ member action list → planned (b || c.inside) c.count c.next c.left ≡ syn_plan list action c
+pub syn_plan_is : (list : List ℕ) (action : ℕ) (c : Planned) (b : Bool) → b ≡ member action list
+    → planned (b || c.inside) c.count c.next c.left ≡ syn_plan list action c
 unfolding syn_plan
 syn_plan_is list action c b hb = rw hb
 
-pub leaf_plan_is : (sets under : List ℕ) (action k next left s u : ℕ) (b : Bool) (x : ℕ) → s ≡ get_or sets k 0 → b ≡ bit s action → u ≡ get_or under k 0 → x ≡ capped u → planned b x next left ≡ leaf_plan sets under action k next left
+pub leaf_plan_is : (sets under : List ℕ) (action k next left s u : ℕ) (b : Bool) (x : ℕ) → s ≡ get_or sets k 0
+    → b ≡ bit s action → u ≡ get_or under k 0 → x ≡ capped u
+    → planned b x next left ≡ leaf_plan sets under action k next left
 unfolding leaf_plan
 leaf_plan_is sets under action k next left s u b x hs hb hu hx = rw (hb, hs, hx, hu)
+
+-- what the equations in src/planning.rt need
+pub ruleset planning_laws = (par_plan_is, syn_plan_is, leaf_plan_is)
 
 abbrev Planner : Type 0
 Planner = (left at : ℕ) → Planned
@@ -68,14 +77,16 @@ module _ (words sets under : List ℕ) (action : ℕ) where
   within_falls (suc d) left at = omega (arith, step_falls (W d) (within_falls d) left at)
 
   -- walks that agree up to n nodes left give the same node
-  by_same : (R S : Planner) (n : ℕ) → Falls R → ((left : ℕ) → left ≤ n → R left ≡ S left) → (at : ℕ) (f : Found) → plan_by R sets under action n at f ≡ plan_by S sets under action n at f
+  by_same : (R S : Planner) (n : ℕ) → Falls R → ((left : ℕ) → left ≤ n → R left ≡ S left) → (at : ℕ) (f : Found)
+      → plan_by R sets under action n at f ≡ plan_by S sets under action n at f
   unfolding plan_by
   by_same R S n h same at (Par next) =
       let c = R n next in
       let l = h n next in
       ap (λ (g : ℕ → Planned). par_plan c (g c.next)) (same c.left (omega arith))
       ∙ ap (λ (g : ℕ → Planned). let c = g next in par_plan c (S c.left c.next)) (same n (omega arith))
-  by_same R S n h same at (Syn a b next) = ap (λ (g : ℕ → Planned). syn_plan (set_of a b) action (g next)) (same n (omega arith))
+  by_same R S n h same at (Syn a b next) =
+      ap (λ (g : ℕ → Planned). syn_plan (set_of a b) action (g next)) (same n (omega arith))
   by_same R S n h same at (Leaf k next) = refl
   by_same R S n h same at Stray = refl
 
@@ -95,7 +106,8 @@ module _ (words sets under : List ℕ) (action : ℕ) where
   plan_left left at c e = rw (e, plan_step_lem left at) (step_falls Q (λ l a. within_falls l l a) left at)
 
   module _ (root : ℕ) where
-    fill_same : (R S : Filler) (n : ℕ) → ((left : ℕ) → left ≤ n → R left ≡ S left) → (f : Found) (cells : List ℕ) → fill_by Q R n f cells ≡ fill_by Q S n f cells
+    fill_same : (R S : Filler) (n : ℕ) → ((left : ℕ) → left ≤ n → R left ≡ S left) → (f : Found) (cells : List ℕ)
+        → fill_by Q R n f cells ≡ fill_by Q S n f cells
     unfolding fill_by
     fill_same R S n same (Par next) cells =
         let c = Q n next in
@@ -106,14 +118,21 @@ module _ (words sets under : List ℕ) (action : ℕ) where
     fill_same R S n same (Leaf k next) cells = refl
     fill_same R S n same Stray cells = refl
 
-    fill_walk : (left : ℕ) → fill_at words sets under action root left ≡ fill_step words sets under action root (fill_at words sets under action root) left
+    fill_walk : (left : ℕ)
+        → fill_at words sets under action root left
+        ≡ fill_step words sets under action root (fill_at words sets under action root) left
     unfolding fill_at fill_within fill_step
     fill_walk =
-        walk_is (λ left at cells. cells) (fill_step words sets under action root) (fill_within words sets under action root) (λ R. Unit {0})
+        walk_is (λ left at cells. cells) (fill_step words sets under action root)
+        (fill_within words sets under action root) (λ R. Unit {0})
         (λ left. refl) (λ d left. refl) (λ d. tt) (λ R. refl)
-        (λ R S n h same. fun_ext (λ at. fun_ext (λ cells. ap (stored root at (Q (suc n) at)) (fill_same R S n same (node_at words at) cells))))
+        (λ R S n h same. fun_ext
+        (λ at. fun_ext
+        (λ cells. ap (stored root at (Q (suc n) at)) (fill_same R S n same (node_at words at) cells))))
 
-    pub fill_step_lem : (left at : ℕ) (cells : List ℕ) → fill_at words sets under action root left at cells ≡ fill_step words sets under action root (fill_at words sets under action root) left at cells
+    pub fill_step_lem : (left at : ℕ) (cells : List ℕ)
+        → fill_at words sets under action root left at cells
+        ≡ fill_step words sets under action root (fill_at words sets under action root) left at cells
     fill_step_lem left at cells = ap (λ (g : ℕ → List ℕ → List ℕ). g at cells) (fill_walk left)
 
 module _ (words sets under : List ℕ) (action root : ℕ) where
@@ -144,20 +163,24 @@ module _ (words sets under : List ℕ) (action root : ℕ) where
     unfolding fill_step
     fill_by_lem cells = go left z ∙ ap (λ g. stored root at (P left at) (fill_by P F (left - 1) g cells)) (sym e)
       where
-        go : (n : ℕ) → (n ≡ 0 → ⊥) → F n at cells ≡ stored root at (P n at) (fill_by P F (n - 1) (node_at words at) cells)
+        go : (n : ℕ) → (n ≡ 0 → ⊥)
+            → F n at cells ≡ stored root at (P n at) (fill_by P F (n - 1) (node_at words at) cells)
         go zero y = absurd (y refl)
         go (suc n) y = fill_step_lem words sets under action root (suc n) at cells ∙ rw (sub-one (suc n))
 
     module _ (r : Planned) where
-      pub plan_par : (n : ℕ) → f ≡ Par n → (c d : Planned) → c ≡ P (left - 1) n → d ≡ P c.left c.next → (p : Planned) → p ≡ par_plan c d → r ≡ p → r ≡ P left at
+      pub plan_par : (n : ℕ) → f ≡ Par n → (c d : Planned) → c ≡ P (left - 1) n → d ≡ P c.left c.next → (p : Planned)
+          → p ≡ par_plan c d → r ≡ p → r ≡ P left at
       unfolding plan_by
       plan_par n h c d hc hd p hp hr = rw (plan_by_lem, h, ← hc, ← hd) (hr ∙ hp)
 
-      pub plan_syn : (a b n : ℕ) → f ≡ Syn a b n → (c : Planned) → c ≡ P (left - 1) n → (p : Planned) → p ≡ syn_plan (set_of a b) action c → r ≡ p → r ≡ P left at
+      pub plan_syn : (a b n : ℕ) → f ≡ Syn a b n → (c : Planned) → c ≡ P (left - 1) n → (p : Planned)
+          → p ≡ syn_plan (set_of a b) action c → r ≡ p → r ≡ P left at
       unfolding plan_by
       plan_syn a b n h c hc p hp hr = rw (plan_by_lem, h, ← hc) (hr ∙ hp)
 
-      pub plan_leaf : (k n : ℕ) → f ≡ Leaf k n → (p : Planned) → p ≡ leaf_plan sets under action k n (left - 1) → r ≡ p → r ≡ P left at
+      pub plan_leaf : (k n : ℕ) → f ≡ Leaf k n → (p : Planned) → p ≡ leaf_plan sets under action k n (left - 1) → r ≡ p
+          → r ≡ P left at
       unfolding plan_by
       plan_leaf k n h p hp hr = rw (plan_by_lem, h) (hr ∙ hp)
 
@@ -167,22 +190,30 @@ module _ (words sets under : List ℕ) (action root : ℕ) where
 
     -- the cells of the nodes below, then this node's
     module _ (cells new : List ℕ) where
-      fill_own : (es : List ℕ) → es ≡ fill_by P F (left - 1) f cells → (p : Planned) → p ≡ P left at → new ≡ stored root at p es → new ≡ F left at cells
+      fill_own : (es : List ℕ) → es ≡ fill_by P F (left - 1) f cells → (p : Planned) → p ≡ P left at
+          → new ≡ stored root at p es → new ≡ F left at cells
       fill_own es he p hp hn = rw (fill_by_lem cells, ← hp, ← he) hn
 
-      pub fill_par : (n : ℕ) → f ≡ Par n → (c d : Planned) → c ≡ P (left - 1) n → (es : List ℕ) → es ≡ F (left - 1) n cells → d ≡ P c.left c.next → (fs : List ℕ) → fs ≡ F c.left c.next es → (p : Planned) → p ≡ par_plan c d → new ≡ stored root at p fs → new ≡ F left at cells
+      pub fill_par : (n : ℕ) → f ≡ Par n → (c d : Planned) → c ≡ P (left - 1) n → (es : List ℕ)
+          → es ≡ F (left - 1) n cells → d ≡ P c.left c.next → (fs : List ℕ) → fs ≡ F c.left c.next es → (p : Planned)
+          → p ≡ par_plan c d → new ≡ stored root at p fs → new ≡ F left at cells
       unfolding fill_by
-      fill_par n h c d hc es he hd fs hf p hp hn = fill_own fs (rw (h, ← hc, ← he) hf) p (plan_par p n h c d hc hd p hp refl) hn
+      fill_par n h c d hc es he hd fs hf p hp hn =
+          fill_own fs (rw (h, ← hc, ← he) hf) p (plan_par p n h c d hc hd p hp refl) hn
 
-      pub fill_syn : (a b n : ℕ) → f ≡ Syn a b n → (c : Planned) → c ≡ P (left - 1) n → (es : List ℕ) → es ≡ F (left - 1) n cells → (p : Planned) → p ≡ syn_plan (set_of a b) action c → new ≡ stored root at p es → new ≡ F left at cells
+      pub fill_syn : (a b n : ℕ) → f ≡ Syn a b n → (c : Planned) → c ≡ P (left - 1) n → (es : List ℕ)
+          → es ≡ F (left - 1) n cells → (p : Planned) → p ≡ syn_plan (set_of a b) action c → new ≡ stored root at p es
+          → new ≡ F left at cells
       unfolding fill_by
       fill_syn a b n h c hc es he p hp hn = fill_own es (rw h he) p (plan_syn p a b n h c hc p hp refl) hn
 
-      pub fill_leaf : (k n : ℕ) → f ≡ Leaf k n → (p : Planned) → p ≡ leaf_plan sets under action k n (left - 1) → new ≡ stored root at p cells → new ≡ F left at cells
+      pub fill_leaf : (k n : ℕ) → f ≡ Leaf k n → (p : Planned) → p ≡ leaf_plan sets under action k n (left - 1)
+          → new ≡ stored root at p cells → new ≡ F left at cells
       unfolding fill_by
       fill_leaf k n h p hp hn = fill_own cells (rw h) p (plan_leaf p k n h p hp refl) hn
 
-      pub fill_stray : f ≡ Stray → (p : Planned) → p ≡ planned false 0 at (left - 1) → new ≡ stored root at p cells → new ≡ F left at cells
+      pub fill_stray : f ≡ Stray → (p : Planned) → p ≡ planned false 0 at (left - 1) → new ≡ stored root at p cells
+          → new ≡ F left at cells
       unfolding fill_by
       fill_stray h p hp hn = fill_own cells (rw h) p (plan_stray p h p hp refl) hn
 

@@ -1,4 +1,6 @@
 // The plan of one action: for each subtree, whether the action is in its set and how many moves it has.
+#![tactic(auto, using(crate::proofs::PlanLaws::planning_laws))]
+
 ghost use Rattle.std.specs.Prelude.{◌≡◌, false, ◌-◌, get_or};
 ghost use Rattle.model.specs.Bounds.{max_tree_nodes};
 ghost use Rattle.model.specs.Table.{set_of};
@@ -9,7 +11,7 @@ use table_tree::Found;
 
 // Is the action in the set of a subtree, how many moves has it, where do its words end, and how many nodes are left
 // there?
-#[derive(Clone, Copy)]
+#[derive(Clone, Copy, Debug, PartialEq, Eq)]
 pub struct Planned {
     pub inside: bool,
     pub count: u32,
@@ -21,17 +23,17 @@ pub struct Planned {
 fn edges_under(under: &[u32], k: usize) -> u32
     ensures { result ≡ get_or under.now k 0 }
 {
-    if k < under.len() { under[k] } else { 0 }
+    under.get(k).copied().unwrap_or(0)
 }
 
 // The place of a node's cell: its word's place, counted from the root's.
 pub fn place(at: usize, root: usize) -> usize
     ensures { result ≡ at - root }
 {
-    if at < root { 0 } else { at - root }
+    at.saturating_sub(root)
 }
 
-// A `par` from its sides, a `syn` from its set and what is under it, and a leaf.
+// A `par` from its sides, and a `syn` from its set and what is under it.
 fn par_plan(c: Planned, d: Planned) -> Planned
     ensures { result ≡ par_plan c d }
 {
@@ -51,24 +53,6 @@ fn syn_plan(low: u32, high: u32, action: u32, c: Planned) -> Planned
         count: c.count,
         next: c.next,
         left: c.left,
-    }
-}
-
-fn leaf_plan(
-    sets: &[u64],
-    under: &[u32],
-    action: u32,
-    k: usize,
-    next: usize,
-    left: usize,
-) -> Planned
-    ensures { result ≡ leaf_plan sets.now under.now action k next left }
-{
-    Planned {
-        inside: table_tree::in_word(table_tree::own(sets, k), action),
-        count: capping::capped(edges_under(under, k)),
-        next,
-        left,
     }
 }
 
@@ -95,45 +79,53 @@ fn store(cells: &mut [u32; 192], root: usize, at: usize, p: Planned) -> Planned
     p
 }
 
-// The subtree at `at`, with `left` nodes left: its own node uses one, and the rest goes from side to side. So on any
-// words no more nodes are read than were given.
-fn plan_at(
-    words: &[u32],
-    at: usize,
-    left: usize,
+// What a plan reads: a tree's words, where its root's word stands, the automata's own sets, the action, and how many
+// edges each automaton has under it.
+#[derive(Clone, Copy)]
+struct Planning<'a> {
+    words: &'a [u32],
     root: usize,
-    sets: &[u64],
-    under: &[u32],
+    sets: &'a [u64],
+    under: &'a [u32],
     action: u32,
-    cells: &mut [u32; 192],
-) -> Planned
-    ensures { PlansTree words.now sets.now under.now action root left at
-        cells.old cells.new result }
-{
-    if left == 0 {
-        return no_plan(at, left);
+}
+
+impl Planning<'_> {
+    // The leaf of automaton k.
+    fn leaf(&self, k: usize, next: usize, left: usize) -> Planned
+        ensures { result ≡ leaf_plan self.now.sets.now self.now.under.now self.now.action k next left }
+    {
+        Planned {
+            inside: table_tree::in_word(table_tree::own(self.sets, k), self.action),
+            count: capping::capped(edges_under(self.under, k)),
+            next,
+            left,
+        }
     }
-    let f = table_tree::node_at(words, at);
-    let rest = left - 1;
-    match f {
-        Found::Par(next) => {
-            let c = plan_at(words, next, rest, root, sets, under, action, cells);
-            let d = plan_at(words, c.next, c.left, root, sets, under, action, cells);
-            store(cells, root, at, par_plan(c, d))
+
+    // The subtree at `at`, with `left` nodes left: its own node uses one, and the rest goes from side to side. So on
+    // any words no more nodes are read than were given.
+    fn plan(&self, at: usize, left: usize, cells: &mut [u32; 192]) -> Planned
+        ensures { PlansTree self.now.words.now self.now.sets.now self.now.under.now self.now.action
+            self.now.root left at cells.old cells.new result }
+    {
+        if left == 0 {
+            return no_plan(at, left);
         }
-        Found::Syn(low, high, next) => {
-            let c = plan_at(words, next, rest, root, sets, under, action, cells);
-            store(cells, root, at, syn_plan(low, high, action, c))
+        let rest = left - 1;
+        match table_tree::node_at(self.words, at) {
+            Found::Par(next) => {
+                let c = self.plan(next, rest, cells);
+                let d = self.plan(c.next, c.left, cells);
+                store(cells, self.root, at, par_plan(c, d))
+            }
+            Found::Syn(low, high, next) => {
+                let c = self.plan(next, rest, cells);
+                store(cells, self.root, at, syn_plan(low, high, self.action, c))
+            }
+            Found::Leaf(k, next) => store(cells, self.root, at, self.leaf(k, next, rest)),
+            Found::Stray => store(cells, self.root, at, no_plan(at, rest)),
         }
-        Found::Leaf(k, next) => {
-            store(
-                cells,
-                root,
-                at,
-                leaf_plan(sets, under, action, k, next, rest),
-            )
-        }
-        Found::Stray => store(cells, root, at, no_plan(at, rest)),
     }
 }
 
@@ -149,14 +141,12 @@ pub fn plan(
     ensures { PlansTree words.now sets.now under.now action at max_tree_nodes at
         cells.old cells.new result }
 {
-    plan_at(
+    let planning = Planning {
         words,
-        at,
-        model::Tree::NODES,
-        at,
+        root: at,
         sets,
         under,
         action,
-        cells,
-    )
+    };
+    planning.plan(at, model::Tree::NODES, cells)
 }

@@ -20,31 +20,25 @@ use Rattle.format.specs.Writer.{with_text}
 use Rattle.format.specs.Merger.{MergeAnswer as Answer, unmerged, merged, merge_answer, merge_after}
 use Rattle.format.specs.Program.{refusal, merge_output, program_output}
 use Rattle.format.proofs.FitsLaws.{decimal_width}
-use Rattle.text_bytes.specs.declared.answer.Written.{Written}
-use Rattle.text_bytes.specs.declared.answer.Written.TheVariants.{To, Full}
+use Rattle.std.specs.Prelude.{Option, Some, None, Result, Ok, Err, unwrap_or}
 use Rattle.text_bytes.specs.Write.{fits, written_to, after, Wrote}
+use Rattle.reader.specs.Read.{refusal as refused}
 use Rattle.reader.proofs.LineBound.{refusal_line}
-use Rattle.merger.specs.declared.Outcome.{Outcome}
-use Rattle.merger.specs.declared.Outcome.TheVariants.{Merged, Refused}
+use Rattle.merger.specs.declared.Merged.{Merged}
+use Rattle.reader.specs.declared.Refusal.{Refusal}
 use Rattle.merge_output.specs.declared.Printed.{Printed}
 use Rattle.merger.specs.Answers.{merge_of}
 use Rattle.merger.specs.Outcome.{passed_on, outcome, outcome_after}
 use Rattle.merge_output.specs.Printed.{place_of, printed, Put, Stands}
 
--- `place`
-pub place_to : (w : Written) (n : ℕ) → w ≡ To n → n ≡ place_of w
-unfolding place_of
-place_to w n e = sym (ap place_of e)
-
-pub place_full : (w : Written) → w ≡ Full → 0 ≡ place_of w
-unfolding place_of
-place_full w e = sym (ap place_of e)
-
-pub ruleset place_laws = (place_to, place_full)
-
 -- `put` and `digits`
-pub put_by : (t : Bytes) (at : ℕ) (old new : Bytes) (w : Written) (n : ℕ) → Wrote t at old new w → n ≡ place_of w → Put t at old new n
-put_by t at old new w n x e = record { end = e ∙ ap place_of x.answer; memory = x.memory; long = x.long }
+place_is : (w : Option ℕ) → unwrap_or w 0 ≡ place_of w
+unfolding place_of
+place_is (Some n) = refl
+place_is None = refl
+
+pub put_by : (t : Bytes) (at : ℕ) (old new : Bytes) (w : Option ℕ) (n : ℕ) → Wrote t at old new w → n ≡ unwrap_or w 0 → Put t at old new n
+put_by t at old new w n x e = record { end = e ∙ place_is w ∙ ap place_of x.answer; memory = x.memory; long = x.long }
 
 -- `refusal`: a text is written on behind what stands in the first bytes
 stands_none : (old : Bytes) → Stands [] old old 0
@@ -59,7 +53,7 @@ stands_then t u old mid new n k s x room =
     let h : n + length u ≤ length mid = omega arith in
     let f : leb (n + length u) (length mid) ≡ true = le-leb (n + length u) (length mid) h in
     let both = length-append t u in
-    let r : written_to u n mid ≡ To (n + length u) = rw (f, written_to) in
+    let r : written_to u n mid ≡ Some (n + length u) = rw (f, written_to) in
     let m : new ≡ (take n mid ++ u) ++ drop (n + length u) mid = x.memory ∙ rw (f, after) in
     let first : take n mid ≡ t = ap (take n) s.memory ∙ take_at t (drop (length t) old) n (sym n-is) in
     let rest : drop (n + length u) mid ≡ drop (length (t ++ u)) old =
@@ -106,6 +100,9 @@ record Printing (text new : Bytes) (n : ℕ) : Type 0 where
   memory : new ≡ with_text (program_output text) (replicate 65536 0)
   within : n ≤ length new
 
+abbrev merged_as : Bytes → (edges : ℕ) → Merged
+merged_as t edges = record { length = length t; edges = edges }
+
 record Refusing (text new : Bytes) (row line : ℕ) : Type 0 where
   prints : program_output text ≡ refusal row line
   short : line ≤ max_bytes + 1
@@ -140,42 +137,41 @@ module _ (text zeros : Bytes) (are : zeros ≡ replicate 65536 0) where
       record { prints = rw (f, program_output); short = refusal_line text table_words row line f; same = after ∙ are }
 
   -- which of them, by the outcome
-  in_text : (n edges : ℕ) → outcome text (length zeros) ≡ Merged n edges → Printing text (outcome_after text zeros) n
+  in_text : (k : Merged) → outcome text (length zeros) ≡ Ok k → Printing text (outcome_after text zeros) k.length
   unfolding outcome passed_on merge_of
-  in_text n edges e = go (read_answer text table_words) refl
+  in_text k e = go (read_answer text table_words) refl
     where
-      never : (row line : ℕ) → Refused row line ≡ Merged n edges → ⊥
-      never row line h = let z : ◌≡◌ {A = ℕ} 0 1 = cc in omega arith
+      never : (r : Refusal) → Err r ≡ Ok k → ⊥
+      never r h = let z : ◌≡◌ {A = ℕ} 0 1 = cc in omega arith
 
-      in_model : (m : Model) → read_answer text table_words ≡ Reader.accepted m → (a : Answer) → merge_answer (table_of m) (length zeros) ≡ a → Printing text (outcome_after text zeros) n
-      in_model m f (unmerged row) g = absurd (never row 0 (sym (rw (f, outcome, g, passed_on)) ∙ e))
-      in_model m f (merged t k) g =
-          let s : Merged (length t) k ≡ Merged n edges = sym (rw (f, outcome, g, passed_on)) ∙ e in
-          let same : length t ≡ n = cc in
-          subst (λ (i : ℕ). Printing text (outcome_after text zeros) i) same (prints_text m f t k g)
+      in_model : (m : Model) → read_answer text table_words ≡ Reader.accepted m → (a : Answer) → merge_answer (table_of m) (length zeros) ≡ a → Printing text (outcome_after text zeros) k.length
+      in_model m f (unmerged row) g = absurd (never (refused row 0) (sym (rw (f, outcome, g, passed_on)) ∙ e))
+      in_model m f (merged t edges) g =
+          let s : Ok (merged_as t edges) ≡ Ok k = sym (rw (f, outcome, g, passed_on)) ∙ e in
+          let same : merged_as t edges ≡ k = cc in
+          subst (λ (x : Merged). Printing text (outcome_after text zeros) x.length) same (prints_text m f t edges g)
 
-      go : (a : Reader.ReadAnswer) → read_answer text table_words ≡ a → Printing text (outcome_after text zeros) n
-      go (Reader.refused row line) f = absurd (never row line (sym (rw (f, outcome)) ∙ e))
+      go : (a : Reader.ReadAnswer) → read_answer text table_words ≡ a → Printing text (outcome_after text zeros) k.length
+      go (Reader.refused row line) f = absurd (never (refused row line) (sym (rw (f, outcome)) ∙ e))
       go (Reader.accepted m) f = in_model m f (merge_answer (table_of m) (length zeros)) refl
 
-  in_row : (row line : ℕ) → outcome text (length zeros) ≡ Refused row line → Refusing text (outcome_after text zeros) row line
+  in_row : (r : Refusal) → outcome text (length zeros) ≡ Err r → Refusing text (outcome_after text zeros) r.row.0 r.line
   unfolding outcome passed_on merge_of
-  in_row row line e = go (read_answer text table_words) refl
+  in_row r e = go (read_answer text table_words) refl
     where
-      both : (x y : ℕ) → Refused x y ≡ Refused row line → Refusing text (outcome_after text zeros) x y → Refusing text (outcome_after text zeros) row line
-      both x y s r =
-          let i : x ≡ row = cc in
-          let j : y ≡ line = cc in
-          subst (λ (b : ℕ). Refusing text (outcome_after text zeros) row b) j (subst (λ (a : ℕ). Refusing text (outcome_after text zeros) a y) i r)
+      both : (x y : ℕ) → ◌≡◌ {A = Result Merged Refusal} (Err (refused x y)) (Err r) → Refusing text (outcome_after text zeros) x y → Refusing text (outcome_after text zeros) r.row.0 r.line
+      both x y s h =
+          let same : refused x y ≡ r = cc in
+          subst (λ (z : Refusal). Refusing text (outcome_after text zeros) z.row.0 z.line) same h
 
-      in_model : (m : Model) → read_answer text table_words ≡ Reader.accepted m → (a : Answer) → merge_answer (table_of m) (length zeros) ≡ a → Refusing text (outcome_after text zeros) row line
+      in_model : (m : Model) → read_answer text table_words ≡ Reader.accepted m → (a : Answer) → merge_answer (table_of m) (length zeros) ≡ a → Refusing text (outcome_after text zeros) r.row.0 r.line
       in_model m f (unmerged x) g = both x 0 (sym (rw (f, outcome, g, passed_on)) ∙ e) (prints_row m f x g)
-      in_model m f (merged t k) g =
-          let s : Merged (length t) k ≡ Refused row line = sym (rw (f, outcome, g, passed_on)) ∙ e in
+      in_model m f (merged t edges) g =
+          let s : Ok (merged_as t edges) ≡ Err r = sym (rw (f, outcome, g, passed_on)) ∙ e in
           let z : ◌≡◌ {A = ℕ} 0 1 = cc in
           absurd (omega arith)
 
-      go : (a : Reader.ReadAnswer) → read_answer text table_words ≡ a → Refusing text (outcome_after text zeros) row line
+      go : (a : Reader.ReadAnswer) → read_answer text table_words ≡ a → Refusing text (outcome_after text zeros) r.row.0 r.line
       go (Reader.refused x y) f = both x y (sym (rw (f, outcome)) ∙ e) (prints_line x y f)
       go (Reader.accepted m) f = in_model m f (merge_answer (table_of m) (length zeros)) refl
 
@@ -184,30 +180,30 @@ printed_by : (text new : Bytes) (n : ℕ) → n ≡ length (program_output text)
 unfolding printed
 printed_by text new n e f = rw (e, f)
 
-module _ (text : Bytes) (o : Outcome) (e : o ≡ outcome text (length {A = ℕ} (replicate 65536 0))) (new : Bytes) (g : new ≡ outcome_after text (replicate 65536 0)) where
-  module _ (n edges : ℕ) (f : o ≡ Merged n edges) where
-    printing : Printing text new n
-    printing = subst (λ (b : Bytes). Printing text b n) (sym g) (in_text text (replicate 65536 0) refl n edges (sym e ∙ f))
+module _ (text : Bytes) (o : Result Merged Refusal) (e : o ≡ outcome text (length {A = ℕ} (replicate 65536 0))) (new : Bytes) (g : new ≡ outcome_after text (replicate 65536 0)) where
+  module _ (k : Merged) (f : o ≡ Ok k) where
+    printing : Printing text new k.length
+    printing = subst (λ (b : Bytes). Printing text b k.length) (sym g) (in_text text (replicate 65536 0) refl k (sym e ∙ f))
 
-    pub output_text : ◌≡◌ {A = Printed} (record { bytes = new; length = n }) (printed (program_output text))
-    output_text = printed_by text new n printing.size printing.memory
+    pub output_text : ◌≡◌ {A = Printed} (record { bytes = new; length = k.length }) (printed (program_output text))
+    output_text = printed_by text new k.length printing.size printing.memory
 
-    pub output_within : n ≤ length new
+    pub output_within : k.length ≤ length new
     output_within = printing.within
 
-  module _ (row line : ℕ) (f : o ≡ Refused row line) where
-    refusing : Refusing text new row line
-    refusing = subst (λ (b : Bytes). Refusing text b row line) (sym g) (in_row text (replicate 65536 0) refl row line (sym e ∙ f))
+  module _ (r : Refusal) (f : o ≡ Err r) where
+    refusing : Refusing text new r.row.0 r.line
+    refusing = subst (λ (b : Bytes). Refusing text b r.row.0 r.line) (sym g) (in_row text (replicate 65536 0) refl r (sym e ∙ f))
 
-    module _ (end : Bytes) (n : ℕ) (s : Stands (refusal row (line % 4294967296)) new end n) where
+    module _ (end : Bytes) (n : ℕ) (s : Stands (refusal r.row.0 (r.line % 4294967296)) new end n) where
       spelled : Printing text end n
       unfolding with_text
       spelled =
           let short = refusing.short in
-          let k : line < 4294967296 = omega arith in
-          let is : refusal row (line % 4294967296) ≡ program_output text = ap (refusal row) (mod-eq_of_lt k) ∙ sym refusing.prints in
+          let k : r.line < 4294967296 = omega arith in
+          let is : refusal r.row.0 (r.line % 4294967296) ≡ program_output text = ap (refusal r.row.0) (mod-eq_of_lt k) ∙ sym refusing.prints in
           let whole = ap length s.memory in
-          let parts = length-append (refusal row (line % 4294967296)) (drop (length (refusal row (line % 4294967296))) new) in
+          let parts = length-append (refusal r.row.0 (r.line % 4294967296)) (drop (length (refusal r.row.0 (r.line % 4294967296))) new) in
           let size = s.end in
           record { size = size ∙ ap length is; memory = s.memory ∙ ap₂ with_text is refusing.same; within = omega arith }
 

@@ -1,17 +1,15 @@
 -- What the program prints, as the code gives it: bytes of which the first are the text.
-use Rattle.std.specs.Prelude.{ℕ, ◌≡◌, length, replicate}
+use Rattle.std.specs.Prelude.{ℕ, ◌≡◌, Option, Some, None, length, replicate}
 use Rattle.model.specs.Bounds.{max_bytes}
 use Rattle.format.specs.Bytes.{Bytes}
 use Rattle.format.specs.Writer.{with_text}
 use Rattle.text_bytes.specs.Write.{written_to, after}
-use Rattle.text_bytes.specs.declared.answer.Written.{Written}
-use Rattle.text_bytes.specs.declared.answer.Written.TheVariants.{To, Full}
 use Rattle.merge_output.specs.declared.Printed.{Printed}
 
 -- how many bytes were written, where there was room
-unfoldable pub place_of : Written → ℕ
-place_of (To n) = n
-place_of Full = 0
+unfoldable pub place_of : Option ℕ → ℕ
+place_of (Some n) = n
+place_of None = 0
 
 -- a text, and zeros after it
 unfoldable pub printed : Bytes → Printed

@@ -4,10 +4,9 @@
 ghost use Rattle.std.specs.Prelude.{◌≡◌, ◌%◌, ◌≤◌, length};
 ghost use Rattle.format.specs.Number.{decimal};
 ghost use Rattle.format.specs.Program.{refusal, program_output};
-ghost use Rattle.merge_output.specs.Printed.{place_of, printed, Put, Stands};
+ghost use Rattle.merge_output.specs.Printed.{printed, Put, Stands};
 
-use merger::Outcome;
-use text_bytes::Written;
+use merger::Refusal;
 
 // The first `length` bytes.
 #[derive(Drop)]
@@ -16,39 +15,29 @@ pub struct Printed {
     pub length: usize,
 }
 
-// Where the bytes end that were written; 0 where there was no room for them.
-fn place(end: Written) -> usize
-    ensures { result ≡ place_of end }
-{
-    match end {
-        Written::To(n) => n,
-        Written::Full => 0,
-    }
-}
-
-// Bytes from a place on, and where they end.
+// Bytes from a place on, and where they end; 0 where there is no room for them.
 fn put(s: &[u8], out: &mut [u8], at: usize) -> usize
     ensures { Put s.now at out.old out.new result }
 {
-    place(text_bytes::copy(s, out, at))
+    text_bytes::copy(s, out, at).unwrap_or(0)
 }
 
 // The same for a number's digits.
 fn digits(n: u32, out: &mut [u8], at: usize) -> usize
     ensures { Put (decimal n) at out.old out.new result }
 {
-    place(text_bytes::decimal(n, out, at))
+    text_bytes::decimal(n, out, at).unwrap_or(0)
 }
 
 // `refused=ROW,LINE` with LF. No text has a line of more than 32 bits.
-fn refusal(row: u32, line: usize, out: &mut [u8]) -> usize
+fn refusal(r: Refusal, out: &mut [u8]) -> usize
     requires { 30 ≤ length out.old }
-    ensures { Stands (refusal row (line % 4294967296)) out.old out.new result }
+    ensures { Stands (refusal r.row.0 (r.line % 4294967296)) out.old out.new result }
 {
     let a = put(b"refused=", out, 0);
-    let b = digits(row, out, a);
+    let b = digits(r.row.0, out, a);
     let c = put(b",", out, b);
-    let d = digits((line % 4294967296) as u32, out, c);
+    let d = digits((r.line % 4294967296) as u32, out, c);
     put(b"\n", out, d)
 }
 
@@ -57,12 +46,14 @@ pub fn output(text: &[u8]) -> Printed
     ensures { (result ≡ printed (program_output text.now)) × (result.length ≤ length result.bytes) }
 {
     let mut bytes = [0u8; 65536];
-    let outcome = merger::merge_text(text, &mut bytes);
-    match outcome {
-        Outcome::Merged(n, _) => Printed { bytes, length: n },
-        Outcome::Refused(row, line) => {
-            let end = refusal(row, line, &mut bytes);
-            Printed { bytes, length: end }
+    match merger::merge_text(text, &mut bytes) {
+        Ok(merged) => Printed {
+            bytes,
+            length: merged.length,
+        },
+        Err(r) => {
+            let length = refusal(r, &mut bytes);
+            Printed { bytes, length }
         }
     }
 }

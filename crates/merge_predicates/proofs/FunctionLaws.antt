@@ -5,7 +5,7 @@ use mathlib.Core.List.{List, [], ◌∷◌, ◌++◌}
 use Prim.Native.Nat.{ℕ, zero, suc, ◌+◌, ◌-◌, ◌*◌, ◌≤◌, ◌<◌}
 use native.Mathlib.Omega.{arith}
 use native.Mathlib.Nat.{add-zero}
-use native.Mathlib.Numerals.{sub-one, add-one}
+use native.Mathlib.Numerals.{add-one}
 use lib.ListN.{length, get_or, set, replicate, length-append}
 use lib.Seq.{sets}
 use Rattle.model.specs.Bounds.{max_locations}
@@ -14,7 +14,8 @@ use Rattle.table_places.specs.AtMost.{at_most}
 use Rattle.table_places.specs.Outline.{after_predicate, location_count, first_location}
 use Rattle.table_places.specs.Layout.{automata_of}
 use Rattle.merge_predicates.specs.declared.functions.Functions.{Functions}
-use Rattle.merge_predicates.specs.Functions.{part_at, values_from, domain_at, domains_from, functions_from, functions_of}
+use Rattle.merge_predicates.specs.Functions.{part_at, values_from, domain_at, domains_from, functions_from}
+use Rattle.merge_predicates.specs.Functions.{functions_of}
 
 -- `part`
 module _ (t : List ℕ) (inv : Bool) (at : ℕ) where
@@ -26,47 +27,31 @@ module _ (t : List ℕ) (inv : Bool) (at : ℕ) where
   unfolding part_at
   part_init e = rw e
 
-pub ruleset part_laws = (part_inv, part_init)
-
 -- `domain`
 pub domain_is : (t : List ℕ) (at n r : ℕ) → n ≡ location_count t at → r ≡ at_most max_locations n → r ≡ domain_at t at
 unfolding domain_at
 domain_is t at n r e f = rw (f, e)
 
 -- `values`: what is noted so far, and what is to come
-pub record Noting (t : List ℕ) (inv : Bool) (whole : List ℕ) (end left place next : ℕ) (ps : List ℕ) : Type 0 where
-  pub noted : sets ps next (values_from t inv left place) ≡ whole
-  pub ends : next + left ≡ end
-  pub room : end ≤ 512
+pub noting_begun : (t : List ℕ) (inv : Bool) (at count first : ℕ) (ps : List ℕ)
+    → sets ps at (values_from t inv (at + count - at) first) ≡ sets ps at (values_from t inv count first)
+noting_begun t inv at count first ps = let z : at + count - at ≡ count = omega arith in rw z
 
-pub noting_begun : (t : List ℕ) (inv : Bool) (count first at : ℕ) (ps : List ℕ) → at + count ≤ 512
-    → Noting t inv (sets ps at (values_from t inv count first)) (at + count) count first at ps
-noting_begun t inv count first at ps h = record { noted = refl; ends = refl; room = h }
-
-module _ (t : List ℕ) (inv : Bool) (whole : List ℕ) (end left place next : ℕ) (ps : List ℕ) (u : Noting t inv whole end left place next ps) where
-  pub noting_turn : (left ≡ 0 → ⊥) → (p a b : ℕ) → p ≡ part_at t inv place → a ≡ after_predicate t place → b ≡ after_predicate t a
-      → Noting t inv whole end (left - 1) b (next + 1) (set ps next p)
+module _ (t : List ℕ) (inv : Bool) (whole : List ℕ) (end place i : ℕ) (ps : List ℕ)
+    (u : sets ps i (values_from t inv (end - i) place) ≡ whole) where
+  pub noting_turn : i < end → (p a b : ℕ) → p ≡ part_at t inv place → a ≡ after_predicate t place
+      → b ≡ after_predicate t a → sets (set ps i p) (i + 1) (values_from t inv (end - (i + 1)) b) ≡ whole
   unfolding values_from
-  noting_turn y p a b ep ea eb =
-      record {
-        noted = rw (add-one next, eb, ea, ep) (go left y u.noted);
-        ends = let e = u.ends in omega arith;
-        room = u.room;
-      }
-    where
-      go : (n : ℕ) → (n ≡ 0 → ⊥) → sets ps next (values_from t inv n place) ≡ whole
-          → sets (set ps next (part_at t inv place)) (suc next) (values_from t inv (n - 1) (after_predicate t (after_predicate t place))) ≡ whole
-      go zero z i = absurd (z refl)
-      go (suc n) z i = rw (sub-one (suc n)) i
+  noting_turn h p a b ep ea eb =
+      let n : end - i ≡ suc (end - (i + 1)) = omega arith in
+      rw (add-one i, eb, ea, ep) (rw (n, add-one i) at u)
 
-  pub noting_end : left ≡ 0 → next ≡ end
-  noting_end z = let e = u.ends in omega arith
-
-  pub noting_all : left ≡ 0 → ps ≡ whole
+  pub noting_end : end ≤ i → ps ≡ whole
   unfolding values_from
-  noting_all z = rw z at u.noted
+  noting_end h = let z : end - i ≡ 0 = omega arith in rw z at u
 
-pub ruleset noting_laws = (noting_begun, noting_turn, noting_end, noting_all)
+-- what the equations in src/functions.rt need
+pub ruleset function_laws = (part_inv, part_init, domain_is, noting_begun, noting_turn, noting_end)
 
 -- some stores, and then others
 sets_append : (vs ws l : List ℕ) (i : ℕ) → sets l i (vs ++ ws) ≡ sets (sets l i vs) (i + length vs) ws
@@ -82,11 +67,13 @@ values_length t inv (suc n) at = ap suc (values_length t inv n (after_predicate 
 
 -- `functions`: what is gathered of the automata before i, and what is to come
 pub record Gathering (t : List ℕ) (inv : Bool) (automata : List ℕ) (count i total : ℕ) (ds ps : List ℕ) : Type 0 where
-  pub sizes : sets ds i (domains_from t automata i (count - i)) ≡ sets (replicate 16 0) 0 (domains_from t automata 0 count)
-  pub values : sets ps total (functions_from t inv automata i (count - i)) ≡ sets (replicate 512 0) 0 (functions_from t inv automata 0 count)
-  pub counted : total + length (functions_from t inv automata i (count - i)) ≡ length (functions_from t inv automata 0 count)
+  pub sizes : sets ds i (domains_from t automata i (count - i))
+      ≡ sets (replicate 16 0) 0 (domains_from t automata 0 count)
+  pub values : sets ps total (functions_from t inv automata i (count - i))
+      ≡ sets (replicate 512 0) 0 (functions_from t inv automata 0 count)
+  pub counted : total + length (functions_from t inv automata i (count - i))
+      ≡ length (functions_from t inv automata 0 count)
   pub few : count ≤ 16
-  pub inside : i ≤ count
   pub room : total ≤ 32 * i
 
 module _ (t : List ℕ) (inv : Bool) (automata : List ℕ) where
@@ -98,12 +85,12 @@ module _ (t : List ℕ) (inv : Bool) (automata : List ℕ) where
         values = rw z;
         counted = rw z (omega arith);
         few = few;
-        inside = omega arith;
         room = omega arith;
       }
 
   module _ (count i total : ℕ) (ds ps : List ℕ) (u : Gathering t inv automata count i total ds ps) where
-    pub gathering_turn : i < count → (at d f r : ℕ) (new : List ℕ) → at ≡ get_or automata i 0 → d ≡ domain_at t at → d ≤ 32 → f ≡ first_location t at → r ≡ total + d
+    pub gathering_turn : i < count → (at d f r : ℕ) (new : List ℕ) → at ≡ get_or automata i 0 → d ≡ domain_at t at
+        → d ≤ 32 → f ≡ first_location t at → r ≡ total + d
         → new ≡ sets ps total (values_from t inv d f) → Gathering t inv automata count (i + 1) r (set ds i d) new
     unfolding domains_from functions_from
     gathering_turn h at d f r new ea ed small ef er en =
@@ -119,14 +106,15 @@ module _ (t : List ℕ) (inv : Bool) (automata : List ℕ) where
           sizes = let p = u.sizes in rw (← size, add-one i) (rw (c, add-one i) at p);
           values =
               let p = u.values in
-              let q : sets ps total (first ++ others) ≡ sets (replicate 512 0) 0 (functions_from t inv automata 0 count) = rw c at p in
-              ap₂ (λ (l : List ℕ) (n : ℕ). sets l n others) (en ∙ ap (sets ps total) (sym is)) (sym next) ∙ sym (sets_append first others ps total) ∙ q;
+              let q : sets ps total (first ++ others)
+              ≡ sets (replicate 512 0) 0 (functions_from t inv automata 0 count) = rw c at p in
+              ap₂ (λ (l : List ℕ) (n : ℕ). sets l n others) (en ∙ ap (sets ps total) (sym is)) (sym next)
+              ∙ sym (sets_append first others ps total) ∙ q;
           counted =
               let p = u.counted in
               let q : total + length (first ++ others) ≡ length (functions_from t inv automata 0 count) = rw c at p in
               omega (arith, length-append first others);
           few = u.few;
-          inside = omega arith;
           room = let b = u.room in omega arith;
         }
 

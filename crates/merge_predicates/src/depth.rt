@@ -1,7 +1,9 @@
 // How deep the predicates nest that the merged ones take in (row 33).
+#![tactic(auto, using(crate::proofs::DepthLaws::depth_laws))]
+
 ghost use Rattle.std.specs.Prelude.{◌≡◌, get_or};
 ghost use Rattle.node_words.specs.Nodes.{meant};
-ghost use Rattle.merge_predicates.specs.Depths.{arity, operands_of, greater, depth_at, is_deeper, values_deeper};
+ghost use Rattle.merge_predicates.specs.Depths.{arity, operands_of, depth_at, is_deeper, values_deeper};
 ghost use Rattle.merge_predicates.specs.Depths.{starts_deeper};
 
 use crate::functions::{self};
@@ -9,7 +11,7 @@ use crate::starts::Starts;
 use node_words::Node;
 
 // How deep a node and its operands nest, and where the words after them begin.
-#[derive(Clone, Copy)]
+#[derive(Clone, Copy, Debug, PartialEq, Eq)]
 pub struct Depth {
     pub depth: usize,
     pub next: usize,
@@ -20,8 +22,7 @@ fn operands_of(node: Node) -> usize
     ensures { result ≡ arity (meant node) }
 {
     match node {
-        Node::All(k) => arithmetic::index(k),
-        Node::Any(k) => arithmetic::index(k),
+        Node::All(k) | Node::Any(k) => arithmetic::index(k),
         Node::Not => 1,
         Node::Imp | Node::Eq | Node::Le | Node::Add | Node::Sub | Node::Mul => 2,
         Node::If => 3,
@@ -33,16 +34,7 @@ fn operands_of(node: Node) -> usize
 fn operands_at(t: &[u32], at: usize) -> usize
     ensures { result ≡ operands_of (get_or t.now at 0) }
 {
-    if t.len() <= at {
-        return operands_of(node_words::node_of(0));
-    }
-    operands_of(node_words::node_of(t[at]))
-}
-
-fn greater(a: usize, b: usize) -> usize
-    ensures { result ≡ greater a b }
-{
-    if a < b { b } else { a }
+    operands_of(node_words::node_of(t.get(at).copied().unwrap_or(0)))
 }
 
 // The node at a place, and its operands, at most `left` deep: what depth remains falls at each call.
@@ -53,14 +45,13 @@ fn depth_at(t: &[u32], left: usize, at: usize) -> Depth
         return Depth { depth: 0, next: at };
     }
     let below = left - 1;
-    let mut rest = operands_at(t, at);
+    let operands = operands_at(t, at);
     let mut next = table_places::step(t, at, 1);
-    let mut deepest = 0;
-    while rest != 0 {
+    let mut deepest: usize = 0;
+    for _ in 0..operands {
         let d = depth_at(t, below, next);
         next = d.next;
-        deepest = greater(deepest, d.depth);
-        rest -= 1;
+        deepest = deepest.max(d.depth);
     }
     Depth {
         depth: merge_append::add(1, deepest),
@@ -82,12 +73,10 @@ pub fn is_deeper(t: &[u32], most: usize, at: usize) -> bool
 pub fn merged_deep(t: &[u32], places: &[usize], count: usize) -> bool
     ensures { result ≡ values_deeper t.now 22 places.now 0 count }
 {
-    let mut i = 0;
-    while i < count {
+    for i in 0..count {
         if is_deeper(t, model::Model::DEPTH - 2, functions::value(places, i)) {
             return true;
         }
-        i += 1;
     }
     false
 }
@@ -96,14 +85,12 @@ pub fn merged_deep(t: &[u32], places: &[usize], count: usize) -> bool
 pub fn starts_deep(t: &[u32], s: Starts) -> bool
     ensures { result ≡ starts_deeper t.now 23 s.first s.count }
 {
-    let mut left = s.count;
     let mut place = s.first;
-    while left != 0 {
+    for _ in 0..s.count {
         if is_deeper(t, model::Model::DEPTH - 1, place) {
             return true;
         }
         place = table_places::after_predicate(t, place);
-        left -= 1;
     }
     false
 }

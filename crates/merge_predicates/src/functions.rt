@@ -1,5 +1,7 @@
 // Definition 4's fs and gs: where the initial predicate, or the invariant, of each location stands. They are gathered
 // once, and the merged predicates are made from what was gathered.
+#![tactic(auto, using(crate::proofs::FunctionLaws::function_laws))]
+
 ghost use Rattle.std.specs.Prelude.{◌≡◌, ◌+◌, ◌≤◌, get_or};
 ghost use Rattle.std.proofs.lemmas.List.Edits.{sets};
 ghost use Rattle.merge_predicates.specs.Functions.{part_at, domain_at, values_from, functions_of};
@@ -12,7 +14,7 @@ const VALUES: usize = Model::AUTOMATA * Model::LOCATIONS;
 
 // Of each automaton its function from locations to initial predicates (fs), or to invariants (gs): how many locations
 // it has, and where the predicate of each stands, the automata's in a row; and how many locations all automata have.
-#[derive(Clone, Copy)]
+#[derive(Clone, Copy, Debug, PartialEq, Eq)]
 pub struct Functions {
     pub domains: [usize; Model::AUTOMATA],
     pub places: [usize; VALUES],
@@ -52,16 +54,13 @@ fn values(
     ensures places_after { places.new
         ≡ sets places.old at (values_from t.now inv count first) }
 {
-    let mut left = count;
     let mut place = first;
-    let mut next = at;
-    while left != 0 {
+    let end = at + count;
+    for next in at..end {
         places[next] = part(t, inv, place);
         place = table_places::after_predicate(t, table_places::after_predicate(t, place));
-        next += 1;
-        left -= 1;
     }
-    next
+    end
 }
 
 // The functions of all automata, which stand where the layout says: fs, or gs if the invariants are asked for.
@@ -69,18 +68,15 @@ pub fn functions_of(t: &[u32], x: Layout, inv: bool) -> Functions
     ensures { result ≡ functions_of t.now x inv }
 {
     let count = table_places::automata_of(x);
-    let automata = x.sets;
     let mut domains = [0usize; Model::AUTOMATA];
     let mut places = [0usize; VALUES];
-    let mut i = 0;
     let mut total = 0;
-    while i < count {
-        let at = automata[i];
+    for i in 0..count {
+        let at = x.sets[i];
         let locations = domain(t, at);
         let first = table_places::first_location(t, at);
         domains[i] = locations;
         total = values(t, inv, locations, first, &mut places, total);
-        i += 1;
     }
     Functions {
         domains,
@@ -93,5 +89,5 @@ pub fn functions_of(t: &[u32], x: Layout, inv: bool) -> Functions
 pub fn value(places: &[usize], i: usize) -> usize
     ensures { result ≡ get_or places.now i 0 }
 {
-    if i < places.len() { places[i] } else { 0 }
+    places.get(i).copied().unwrap_or(0)
 }

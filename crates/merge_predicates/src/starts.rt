@@ -1,5 +1,7 @@
 // The composition's own start conditions, the P of each `ini`: they stand in the merged init after its clauses, and the
 // merged inv has none. In the table they are predicates, one after the other.
+#![tactic(auto, using(crate::proofs::StartLaws::start_laws))]
+
 ghost use Rattle.std.specs.Prelude.{◌≡◌};
 ghost use Rattle.merge_append.specs.Append.{Appended};
 ghost use Rattle.merge_predicates.specs.Starts.{starts_of, no_starts, add_starts, start_nodes_at};
@@ -8,7 +10,7 @@ use model::Model;
 use table_places::Layout;
 
 // Where the first P stands, and how many there are.
-#[derive(Clone, Copy)]
+#[derive(Clone, Copy, Debug, PartialEq, Eq)]
 pub struct Starts {
     pub first: usize,
     pub count: usize,
@@ -35,13 +37,11 @@ pub fn no_starts() -> Starts
 pub fn starts_nodes(t: &[u32], s: Starts, sum: usize) -> usize
     ensures { result ≡ add_starts t.now s.first s.count sum }
 {
-    let mut left = s.count;
     let mut place = s.first;
     let mut nodes = sum;
-    while left != 0 {
+    for _ in 0..s.count {
         nodes = merge_append::add(nodes, table_places::word(t, place));
         place = table_places::after_predicate(t, place);
-        left -= 1;
     }
     nodes
 }
@@ -51,13 +51,11 @@ pub fn copied(t: &[u32], s: Starts, out: &mut [u32; Model::WORDS], at: usize) ->
     ensures { Appended (start_nodes_at t.now s.first s.count)
         at out.old out.new result }
 {
-    let mut left = s.count;
     let mut place = s.first;
     let mut next = at;
-    while left != 0 {
+    for _ in 0..s.count {
         next = merge_append::nodes(t, place, out, next);
         place = table_places::after_predicate(t, place);
-        left -= 1;
     }
     next
 }

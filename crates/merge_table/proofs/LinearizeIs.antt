@@ -7,8 +7,7 @@ use mathlib.Core.Option.{Option, none, some}
 use Prim.Native.Nat.{ℕ, suc}
 use native.Mathlib.Omega.{arith}
 use lib.ListN.{length, replicate, length-replicate}
-use lib.Dec.{eqb, ltb}
-use borrow.Author.Tests.{eq-eqb, ne_eqb}
+use lib.Dec.{ltb}
 use Rattle.model.specs.Bounds.{max_edges, max_nodes, table_words}
 use Rattle.model.specs.Model.{Model}
 use Rattle.model.specs.Lawful.{Lawful}
@@ -18,8 +17,10 @@ use Rattle.model.specs.Linear.{row31, merge_fault}
 use Rattle.model.specs.Repeats.{distinct, linear_with_repeats, count_with_repeats, row32_with_repeats, row33_with_repeats, row34_with_repeats, fault_with_repeats}
 use Rattle.model.proofs.Distinct.{lawful_distinct, count_distinct, linear_distinct, fault_distinct}
 use Rattle.table_places.proofs.Opened.{sheet_of}
-use Rattle.model.specs.declared.Checked.{Checked}
-use Rattle.model.specs.declared.Checked.TheVariants.{Good, Refused}
+use Rattle.std.proofs.Common.{Result, Ok, Err}
+use Rattle.std.specs.Prelude.{⊤}
+use Rattle.model.specs.declared.Row.{Row}
+use Rattle.model.specs.Row.{row}
 use Rattle.table_check.specs.Check.{answered}
 use Rattle.merge_words.specs.declared.Linearization.{Linearization}
 use Rattle.table_append.specs.Append.{put}
@@ -43,7 +44,7 @@ use Rattle.merge_table.proofs.DistinctTable.{distinct_table_lem}
 
 -- a row, or the table of a model with so many edges
 abbrev answer : Option ℕ → ℕ → Model → Linearization
-answer o n k = elim o [ some row ↦ refused_by row | none ↦ merged_to n (table_of k) ]
+answer o n k = elim o [ some x ↦ refused_by x | none ↦ merged_to n (table_of k) ]
 
 -- of a model: the rows 31 to 34 that count repeats, or the table of its merged model with them
 unfoldable pub model_with_repeats : Model → Linearization
@@ -68,14 +69,12 @@ module _ (m : Model) (lawful : Lawful m) (t rest : List ℕ) (e : t ≡ sheet_wo
   counted_all b = count_exact m lawful t rest e b
 
   -- a row that refuses
-  refuses : (row : ℕ) → fault_by t g list ≡ suc row → fault_with_repeats m ≡ some (suc row) → found ≡ model_with_repeats m
+  refuses : (n : ℕ) → fault_by t g list ≡ Err (row n) → fault_with_repeats m ≡ some n → found ≡ model_with_repeats m
   unfolding linear_for model_with_repeats
-  refuses row f h =
-      let z : eqb (fault_by t g list) 0 ≡ false = ne_eqb (fault_by t g list) 0 (λ q. let n : suc row ≡ 0 = sym f ∙ q in omega arith) in
-      rw (z, linear_for, h, model_with_repeats, f)
+  refuses n f h = rw (f, linear_for, h, model_with_repeats)
 
   -- no row refuses
-  merges : fault_by t g list ≡ 0 → fault_with_repeats m ≡ none → found ≡ model_with_repeats m
+  merges : fault_by t g list ≡ Ok tt → fault_with_repeats m ≡ none → found ≡ model_with_repeats m
   unfolding linear_for model_with_repeats sheet_table
   merges z f =
       let ws = merged_sheet t g list in
@@ -83,7 +82,7 @@ module _ (m : Model) (lawful : Lawful m) (t rest : List ℕ) (e : t ≡ sheet_wo
       let there : Appended ws 0 zeros (put 0 (map narrow ws) zeros) (placed 0 (length ws)) = record { next = refl; memory = refl } in
       let table : sheet_table t g list ≡ table_of (linear_with_repeats m) = whole_table m lawful t rest e f _ _ there in
       let count : g.edges ≡ count_with_repeats m = counted_all (rows_kept m f).edges in
-      rw (eq-eqb (fault_by t g list) 0 z, linear_for, f, model_with_repeats) (ap₂ merged_to count table)
+      rw (z, linear_for, f, model_with_repeats) (ap₂ merged_to count table)
 
   -- the tests over words are the rows
   test31 : is_crowded lay ≡ row31 m
@@ -119,17 +118,17 @@ module _ (m : Model) (lawful : Lawful m) (t rest : List ℕ) (e : t ≡ sheet_wo
 
       in34 : row33_with_repeats m ≡ false → (d : Bool) → row34_with_repeats m ≡ d → found ≡ model_with_repeats m
       unfolding fault_by fault_with_repeats broken
-      in34 c true d = refuses 33 (rw (test32 ∙ b, fault_by, test33 ∙ c, fault_by, test34 ∙ d, fault_by)) (rw (a, broken, b, broken, c, broken, d, broken))
+      in34 c true d = refuses 34 (rw (test32 ∙ b, fault_by, test33 ∙ c, fault_by, test34 ∙ d, fault_by)) (rw (a, broken, b, broken, c, broken, d, broken))
       in34 c false d = merges (rw (test32 ∙ b, fault_by, test33 ∙ c, fault_by, test34 ∙ d, fault_by)) (rw (a, broken, b, broken, c, broken, d, broken))
 
       in33 : (c : Bool) → row33_with_repeats m ≡ c → found ≡ model_with_repeats m
       unfolding fault_by fault_with_repeats broken
-      in33 true c = refuses 32 (rw (test32 ∙ b, fault_by, test33 ∙ c, fault_by)) (rw (a, broken, b, broken, c, broken))
+      in33 true c = refuses 33 (rw (test32 ∙ b, fault_by, test33 ∙ c, fault_by)) (rw (a, broken, b, broken, c, broken))
       in33 false c = in34 c (row34_with_repeats m) refl
 
     in32 : (b : Bool) → row32_with_repeats m ≡ b → found ≡ model_with_repeats m
     unfolding fault_by fault_with_repeats broken
-    in32 true b = refuses 31 (rw (test32 ∙ b, fault_by)) (rw (a, broken, b, broken))
+    in32 true b = refuses 32 (rw (test32 ∙ b, fault_by)) (rw (a, broken, b, broken))
     in32 false b = in33 b (row33_with_repeats m) refl
 
   pub linear_by_is : linear_by t ≡ model_with_repeats m
@@ -177,20 +176,20 @@ module _ (t : List ℕ) (x : Layout) (e : x ≡ layout_of t) (b : Bool) (f : b �
 pub ruleset linearize_once_laws = (once_repeats, once_as_it_is)
 
 -- `linearize`
-module _ (t : List ℕ) (c : Checked) (e : c ≡ answered (open_table t)) (r : Linearization) where
-  pub linearize_refused : (row : ℕ) → c ≡ Refused row → r ≡ refused_by row → r ≡ linearization t
+module _ (t : List ℕ) (c : Result ⊤ Row) (e : c ≡ answered (open_table t)) (r : Linearization) where
+  pub linearize_refused : (k : Row) → c ≡ Err k → r ≡ refused_by k.0 → r ≡ linearization t
   unfolding linearization linearization_of answered
-  linearize_refused row f h = go (open_table t) refl
+  linearize_refused k f h = go (open_table t) refl
     where
       go : (o : Opened) → open_table t ≡ o → r ≡ linearization_of (open_table t)
       go (unopened x) p =
-          let z : row ≡ x = cc (ap answered p) in
-          h ∙ ap refused_by z ∙ sym (ap linearization_of p)
+          let z : row x ≡ k = cc (ap answered p) in
+          h ∙ sym (ap (λ (y : Row). refused_by y.0) z) ∙ sym (ap linearization_of p)
       go (opened m) p =
           let z : ◌≡◌ {A = ℕ} 0 1 = cc (ap answered p) in
           absurd (omega arith)
 
-  pub linearize_good : c ≡ Good → r ≡ linear_by (distinct_table t) → r ≡ linearization t
+  pub linearize_good : c ≡ Ok tt → r ≡ linear_by (distinct_table t) → r ≡ linearization t
   unfolding linearization linearization_of answered
   linearize_good f h = go (open_table t) refl
     where

@@ -6,7 +6,7 @@ ghost use Rattle.merge_words.specs.Linearize.{linear_by};
 ghost use Rattle.merge_table.specs.Linearization.{distinct_table, linearization};
 
 pub use merge_words::Linearization;
-use model::{Checked, Model};
+use model::Model;
 
 // The same for a table that has been checked. The edges of an automaton are a set, so equal ones are one: then no
 // merged edge comes about twice.
@@ -26,9 +26,8 @@ fn linearize_once(t: &[u32]) -> Linearization
 pub fn linearize(t: &[u32]) -> Linearization
     ensures { result ≡ linearization t.now }
 {
-    let checked = table_check::check(t);
-    match checked {
-        Checked::Good => linearize_once(t),
-        Checked::Refused(row) => merge_words::refused(row),
+    match table_check::check(t) {
+        Ok(()) => linearize_once(t),
+        Err(row) => merge_words::refused(row),
     }
 }

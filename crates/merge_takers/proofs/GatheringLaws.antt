@@ -1,11 +1,11 @@
 -- Each way out of the code of src/gathering.rt.
-use mathlib.Core.Path.{◌≡◌, refl, sym, ap, ◌∙◌}
-use mathlib.Core.List.{List, [], ◌∷◌, ◌++◌}
+use mathlib.Core.Path.{◌≡◌, refl, ap, ◌∙◌}
+use mathlib.Core.List.{List}
 use Prim.Native.Nat.{ℕ, suc, ◌+◌, ◌-◌, ◌≤◌, ◌<◌}
 use native.Mathlib.Omega.{arith}
 use native.Mathlib.Numerals.{add-one}
-use lib.ListN.{length, get_or, set, drop, replicate, length-set, drop_of_length-le}
-use lib.Seq.{sets, drop-cons}
+use lib.ListN.{length, get_or, set, replicate, length-set}
+use lib.Seq.{sets}
 use borrow.Author.Tests.{lt-ltb, le-ltb}
 use Rattle.model.specs.Bounds.{max_edges}
 use Rattle.table_places.specs.declared.layout.Layout.{Layout}
@@ -17,33 +17,25 @@ use Rattle.merge_takers.specs.declared.moves.ActionPlan.{ActionPlan}
 use Rattle.merge_takers.specs.Moves.{plan_of, places_of, last_action, moves_in}
 use Rattle.merge_takers.specs.Gather.{takers_from, takers_under, takers_of, takers_in, gathered}
 
--- `put_places`: what is put and what is left make up the sixteen
-module _ (places old now : List ℕ) (at i next : ℕ) (e : length places ≡ 16) (u : Underway places at old (drop i places) next now) where
-  pub put_turn : i < 16 → (p r : ℕ) (new : List ℕ) → p ≡ get_or places i 0 → Appended (p ∷ []) next now new r → Underway places at old (drop (i + 1) places) r new
-  put_turn h p r new f a =
-      let one : drop i places ≡ get_or places i 0 ∷ drop (i + 1) places = rw (add-one i) (drop-cons places i 0 (omega arith)) in
-      on_by u (one ∙ ap (λ (x : ℕ). (x ∷ []) ++ drop (i + 1) places) (sym f)) a
-
-  pub put_end : 16 ≤ i → Appended places at old now next
-  put_end h = let z : length places ≤ i = omega arith in ended u (drop_of_length-le places z)
-
-pub ruleset put_laws = (begun, put_turn, put_end)
-
 -- `gather_move`
-pub move_is : (t cells places : List ℕ) (x : Layout) (action k at r : ℕ) (old new : List ℕ) → places ≡ places_of t x cells action k → Appended places at old new r
+pub move_is : (t cells places : List ℕ) (x : Layout) (action k at r : ℕ) (old new : List ℕ)
+    → places ≡ places_of t x cells action k → Appended places at old new r
     → Appended (places_of t x cells action k) at old new r
 move_is t cells places x action k at r old new e a = rw (← e) a
 
 -- `gather_moves`
 pub moves_begun : (t cells : List ℕ) (x : Layout) (action count at : ℕ) (old : List ℕ)
     → Underway (takers_from t x cells action 0 count) at old (takers_from t x cells action 0 (count - 0)) at old
-moves_begun t cells x action count at old = let z : count - 0 ≡ count = omega arith in rw z (begun (takers_from t x cells action 0 count) at old)
+moves_begun t cells x action count at old =
+    let z : count - 0 ≡ count = omega arith in rw z (begun (takers_from t x cells action 0 count) at old)
 
-module _ (t cells whole old now : List ℕ) (x : Layout) (action at k count next : ℕ) (u : Underway whole at old (takers_from t x cells action k (count - k)) next now) where
+module _ (t cells whole old now : List ℕ) (x : Layout) (action at k count next : ℕ)
+    (u : Underway whole at old (takers_from t x cells action k (count - k)) next now) where
   pub moves_turn : k < count → (r : ℕ) (new : List ℕ) → Appended (places_of t x cells action k) next now new r
       → Underway whole at old (takers_from t x cells action (k + 1) (count - (k + 1))) r new
   unfolding takers_from
-  moves_turn h r new a = let n : count - k ≡ suc (count - (k + 1)) = omega arith in on_by u (ap (takers_from t x cells action k) n) a
+  moves_turn h r new a =
+      let n : count - k ≡ suc (count - (k + 1)) = omega arith in on_by u (ap (takers_from t x cells action k) n) a
 
   pub moves_end : count ≤ k → Appended whole at old now next
   unfolding takers_from
@@ -52,27 +44,38 @@ module _ (t cells whole old now : List ℕ) (x : Layout) (action at k count next
 pub ruleset moves_laws = (moves_begun, moves_turn, moves_end)
 
 -- `gather_action`
-pub action_is : (t own : List ℕ) (x : Layout) (action a at r : ℕ) (old new : List ℕ) (p : ActionPlan) → p ≡ plan_of t x own action → a ≡ action
+pub action_is : (t own : List ℕ) (x : Layout) (action a at r : ℕ) (old new : List ℕ) (p : ActionPlan)
+    → p ≡ plan_of t x own action → a ≡ action
     → Appended (takers_from t x p.cells a 0 p.count) at old new r → Appended (takers_under t x own action) at old new r
 unfolding takers_under plan_of
 action_is t own x action a at r old new p ep e h = rw (ep, e) at h
 
 -- `gather_all`
-pub all_begun : (t own : List ℕ) (x : Layout) (last at : ℕ) (old : List ℕ) → last ≡ last_action x → Underway (takers_in t x own) at old (takers_of t x own 0 (last + 1 - 0)) at old
+pub all_begun : (t own : List ℕ) (x : Layout) (last at : ℕ) (old : List ℕ) → last ≡ last_action x
+    → Underway (takers_in t x own) at old (takers_of t x own 0 (last + 1 - 0)) at old
 unfolding takers_in
-all_begun t own x last at old e = let z : last + 1 - 0 ≡ last + 1 = omega arith in rw (z, e) (begun (takers_of t x own 0 (last_action x + 1)) at old)
+all_begun t own x last at old e =
+    let z : last + 1 - 0 ≡ last + 1 = omega arith in rw (z, e) (begun (takers_of t x own 0 (last_action x + 1)) at old)
 
-module _ (t own whole old now : List ℕ) (x : Layout) (at action last next : ℕ) (u : Underway whole at old (takers_of t x own action (last + 1 - action)) next now) where
+module _ (t own whole old now : List ℕ) (x : Layout) (at action last next : ℕ)
+    (u : Underway whole at old (takers_of t x own action (last + 1 - action)) next now) where
   pub all_turn : action ≤ last → (r : ℕ) (new : List ℕ) → Appended (takers_under t x own action) next now new r
       → Underway whole at old (takers_of t x own (action + 1) (last + 1 - (action + 1))) r new
   unfolding takers_of
-  all_turn h r new a = let n : last + 1 - action ≡ suc (last + 1 - (action + 1)) = omega arith in on_by u (ap (takers_of t x own action) n) a
+  all_turn h r new a =
+      let n : last + 1 - action ≡ suc (last + 1 - (action + 1)) = omega arith in on_by u
+      (ap (takers_of t x own action) n) a
 
-  pub all_end : last < action → Appended whole at old now next
+  -- after the last action none is left
+  pub all_last : action ≤ last → last ≤ action → (r : ℕ) (new : List ℕ)
+      → Appended (takers_under t x own action) next now new r
+      → Appended whole at old new r
   unfolding takers_of
-  all_end h = let n : last + 1 - action ≡ 0 = omega arith in ended u (ap (takers_of t x own action) n)
+  all_last h k r new a =
+      let n : last + 1 - (action + 1) ≡ 0 = omega arith in
+      ended (all_turn h r new a) (ap (takers_of t x own (action + 1)) n)
 
-pub ruleset all_laws = (all_begun, all_turn, all_end)
+pub ruleset all_laws = (all_begun, all_turn, all_last)
 
 -- `gather`
 module _ (t own old : List ℕ) (x : Layout) (count : ℕ) (e : count ≡ moves_in t x own) where
@@ -80,7 +83,8 @@ module _ (t own old : List ℕ) (x : Layout) (count : ℕ) (e : count ≡ moves_
   unfolding gathered
   gather_none h = rw (← e, lt-ltb max_edges count h, gathered)
 
-  pub gather_is : count ≤ max_edges → (r : ℕ) (new : List ℕ) → Appended (takers_in t x own) 0 old new r → new ≡ gathered t x own old
+  pub gather_is : count ≤ max_edges → (r : ℕ) (new : List ℕ) → Appended (takers_in t x own) 0 old new r
+      → new ≡ gathered t x own old
   unfolding gathered
   gather_is h r new a = rw (← e, le-ltb max_edges count h, gathered) a.memory
 
@@ -89,27 +93,26 @@ pub ruleset gather_laws = (gather_none, gather_is)
 -- `places_at`: the places so far, and those to come
 pub record Reading (list : List ℕ) (at place i : ℕ) (places : List ℕ) : Type 0 where
   pub whole : sets places i (run list place (16 - i)) ≡ sets (replicate 16 0) 0 (run list at 16)
-  pub inside : i ≤ 16
   pub long : length places ≡ 16
 
 pub reading_begun : (list : List ℕ) (at : ℕ) → Reading list at at 0 (replicate 16 0)
-reading_begun list at = record { whole = refl; inside = omega arith; long = refl }
+reading_begun list at = record { whole = refl; long = refl }
 
 module _ (list places : List ℕ) (at place i : ℕ) (u : Reading list at place i places) where
-  pub reading_turn : i < 16 → (w p : ℕ) → w ≡ get_or list place 0 → p ≡ reach list place 1 → Reading list at p (i + 1) (set places i w)
+  pub reading_turn : i < length places → (w p : ℕ) → w ≡ get_or list place 0 → p ≡ reach list place 1
+      → Reading list at p (i + 1) (set places i w)
   unfolding run
   reading_turn h w p ew ep =
-      let n : 16 - i ≡ suc (16 - (i + 1)) = omega arith in
+      let n : 16 - i ≡ suc (16 - (i + 1)) = let l = u.long in omega arith in
       record {
         whole = let e = u.whole in rw (add-one i, ew, ep) (rw (n, add-one i) at e);
-        inside = omega arith;
         long = length-set places i w ∙ u.long;
       }
 
-  pub reading_end : 16 ≤ i → places ≡ run list at 16
+  pub reading_end : length places ≤ i → places ≡ run list at 16
   unfolding run
   reading_end h =
-      let z : 16 - i ≡ 0 = omega arith in
+      let z : 16 - i ≡ 0 = let l = u.long in omega arith in
       rw z at u.whole
 
 pub ruleset reading_laws = (reading_begun, reading_turn, reading_end)

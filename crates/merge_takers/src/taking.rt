@@ -1,5 +1,7 @@
 // Which edges a merged edge has, from what each automaton takes: none by 0, and edge j among its edges under the
 // action by 1 + j.
+#![tactic(auto, using(crate::proofs::TakingLaws::taken_laws))]
+
 ghost use Rattle.std.specs.Prelude.{◌≡◌};
 ghost use Rattle.merge_takers.specs.Taking.{is_under, still, edge_under, taken_at, takers};
 
@@ -16,7 +18,7 @@ pub fn is_under(t: &[u32], action: usize, at: usize) -> bool
 fn still(here: bool, skip: usize) -> usize
     ensures { result ≡ still here skip }
 {
-    if here & (skip != 0) { skip - 1 } else { skip }
+    if here { skip.saturating_sub(1) } else { skip }
 }
 
 // Where edge j under the action stands, among `count` edges of which the first stands at `first`; the end, if there is
@@ -24,21 +26,20 @@ fn still(here: bool, skip: usize) -> usize
 fn find(t: &[u32], action: usize, j: usize, count: usize, first: usize) -> usize
     ensures { result ≡ edge_under t.now action j count first }
 {
-    let mut left = count;
     let mut place = first;
-    let mut skip = j;
-    while left != 0 {
+    let mut skip: usize = j;
+    for _ in 0..count {
         let here = is_under(t, action, place);
         if here & (skip == 0) {
             return place;
         }
         skip = still(here, skip);
         place = table_places::after_predicate(t, table_places::update_at(t, place));
-        left -= 1;
     }
     t.len()
 }
 
+// Stays 0 for no taker: the lent list holds words, and `taken_at` of specs/Taking and `update_at` of merge_edges say 0.
 // The edge that an automaton takes, whose count of edges stands at `edges`.
 fn taken(t: &[u32], action: usize, pick: usize, edges: usize) -> usize
     ensures { result ≡ taken_at t.now action pick edges }
@@ -55,14 +56,9 @@ pub fn takers_of(t: &[u32], x: Layout, action: usize, picks: &[u32; 16]) -> [usi
     ensures { result ≡ takers t.now x action picks.now }
 {
     let count = table_places::automata_of(x);
-    let edges = x.edges;
     let mut places = [0usize; 16];
-    let mut i = 0;
-    while i < count {
-        let pick = picks[i];
-        let place = edges[i];
-        places[i] = taken(t, action, arithmetic::index(pick), place);
-        i += 1;
+    for i in 0..count {
+        places[i] = taken(t, action, arithmetic::index(picks[i]), x.edges[i]);
     }
     places
 }

@@ -3,7 +3,8 @@ use mathlib.Core.Path.{◌≡◌, refl, sym, ap, ap₂, ◌∙◌, subst}
 use mathlib.Core.List.{List, [], ◌∷◌, ◌++◌}
 use Prim.Native.Nat.{ℕ, zero, suc, ◌+◌, ◌-◌, ◌≤◌, ◌<◌}
 use native.Mathlib.Omega.{arith}
-use lib.ListN.{get_or}
+use lib.ListN.{length, get_or, take}
+use Rattle.std.proofs.lemmas.List.{get_or-take, length-take, length-take-le}
 use Rattle.model.specs.Bounds.{bias}
 use Rattle.model.specs.Table.{owner_word, owner_from}
 use Rattle.model.specs.Linear.{merged_owner}
@@ -17,16 +18,9 @@ use Rattle.merge_words.specs.Head.{format_in, last_location_at, merged_owner_wor
 use Rattle.merge_append.proofs.AppendLaws.{then, Underway, begun, on_by, ended}
 
 -- `last_location`
-module _ (t : List ℕ) (at n : ℕ) (e : n ≡ location_count t at) where
-  pub last_none : n ≡ 0 → 0 ≡ last_location_at t at
-  unfolding last_location_at
-  last_none z = let g : location_count t at ≡ 0 = sym e ∙ z in rw g
-
-  pub last_is : n - 1 ≡ last_location_at t at
-  unfolding last_location_at
-  last_is = rw e
-
-pub ruleset last_laws = (last_none, last_is)
+pub last_is : (t : List ℕ) (at n r : ℕ) → n ≡ location_count t at → r ≡ n - 1 → r ≡ last_location_at t at
+unfolding last_location_at
+last_is t at n r e f = f ∙ rw e
 
 -- `merged_owner`
 module _ (w : ℕ) where
@@ -118,15 +112,21 @@ module _ (t places : List ℕ) where
   pointers_begun = parts_begun (pointers_from t places) pointer_part in_pointers
 
   module _ (old now : List ℕ) (at i count next : ℕ) (u : Underway (pointers_from t places 0 count) at old (pointers_from t places i (count - i)) next now) where
-    pub pointers_turn : i < count → (f o : ℕ) → f ≡ format_in t → o ≡ pointer_owner_word f → (p l h r : ℕ) (new : List ℕ) → p ≡ get_or places i 0 → l ≡ last_location_at t p → h ≡ upward l
+    pub pointers_turn : i < length (take count places) → (f o : ℕ) → f ≡ format_in t → o ≡ pointer_owner_word f → (l h r : ℕ) (new : List ℕ)
+        → l ≡ last_location_at t (get_or (take count places) i 0) → h ≡ upward l
         → Appended (bias ∷ h ∷ o ∷ []) next now new r → Underway (pointers_from t places 0 count) at old (pointers_from t places (i + 1) (count - (i + 1))) r new
-    pointers_turn y f o ef eo p l h r new ep el eh a =
-        parts_turn (pointers_from t places) pointer_part in_pointers old now at i count next u y r new (rw (← ef, ← eo, ← ep, ← el, ← eh) a)
+    pointers_turn y f o ef eo l h r new el eh a =
+        let z : i < count = omega (arith, length-take count places) in
+        let p : get_or (take count places) i 0 ≡ get_or places i 0 = get_or-take count places i 0 z in
+        let k : l ≡ last_location_at t (get_or places i 0) = el ∙ ap (last_location_at t) p in
+        parts_turn (pointers_from t places) pointer_part in_pointers old now at i count next u z r new (rw (← ef, ← eo, ← k, ← eh) a)
 
-    pub pointers_end : count ≤ i → (x : Layout) → places ≡ x.sets → count ≡ automata_of x → Appended (pointers_from t x.sets 0 (automata_of x)) at old now next
-    pointers_end h x es ec =
+    pub pointers_end : length (take count places) ≤ i → count ≤ length places → (x : Layout) → places ≡ x.sets → count ≡ automata_of x
+        → Appended (pointers_from t x.sets 0 (automata_of x)) at old now next
+    pointers_end h few x es ec =
+        let all : count ≤ i = omega (arith, length-take-le count places few) in
         subst (λ (l : List ℕ). Appended l at old now next) (ap₂ (λ (ps : List ℕ) (k : ℕ). pointers_from t ps 0 k) es ec)
-        (parts_end (pointers_from t places) pointer_part in_pointers old now at i count next u h)
+        (parts_end (pointers_from t places) pointer_part in_pointers old now at i count next u all)
 
 pub ruleset pointers_laws = (pointers_begun, pointers_turn, pointers_end)
 

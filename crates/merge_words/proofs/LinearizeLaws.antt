@@ -5,7 +5,10 @@ use mathlib.Core.List.{List}
 use Prim.Native.Nat.{ℕ, ◌≤◌, ◌<◌}
 use lib.ListN.{replicate}
 use lib.Dec.{ltb}
-use borrow.Author.Tests.{lt-ltb, le-ltb, eq-eqb, ne_eqb}
+use borrow.Author.Tests.{lt-ltb, le-ltb}
+use Rattle.std.specs.Prelude.{Some, None, Result, Ok, Err, ⊤}
+use Rattle.model.specs.declared.Row.{Row}
+use Rattle.model.specs.Row.{row}
 use Rattle.model.specs.Bounds.{table_words}
 use Rattle.table_places.specs.declared.layout.Layout.{Layout}
 use Rattle.table_places.specs.Layout.{layout_of}
@@ -27,9 +30,9 @@ use Rattle.merge_words.specs.Survey.{survey_whole}
 use Rattle.merge_words.specs.Linearize.{gathered_in, takers_for, refused_by, merged_to, is_crowded, fault_by, sheet_table, linear_for, linear_by}
 
 -- `refused`
-pub refused_is : (row : ℕ) → record { row = row; edges = 0; table = replicate table_words 0 } ≡ refused_by row
+pub refused_is : (r : Row) → record { row = Some r; edges = 0; table = replicate table_words 0 } ≡ refused_by r.0
 unfolding refused_by
-refused_is row = refl
+refused_is r = refl
 
 -- `crowded`
 pub crowded_is : (x : Layout) (p : ℕ) → p ≡ pointer_of x.variables x.automata → ltb 48 p ≡ is_crowded x
@@ -38,12 +41,12 @@ crowded_is x p e = ap (ltb 48) e
 
 -- `fault`
 module _ (t takers : List ℕ) (g : Gathered) where
-  pub fault_32 : 512 < g.edges → 32 ≡ fault_by t g takers
+  pub fault_32 : 512 < g.edges → Err (row 32) ≡ fault_by t g takers
   unfolding fault_by
   fault_32 h = rw (lt-ltb 512 g.edges h, fault_by)
 
   module _ (some : g.edges ≤ 512) (s : Survey) (es : s ≡ survey_whole t g takers) where
-    pub fault_33 : s.deep ≡ true → 33 ≡ fault_by t g takers
+    pub fault_33 : s.deep ≡ true → Err (row 33) ≡ fault_by t g takers
     unfolding fault_by
     fault_33 h =
         let d : (survey_whole t g takers).deep ≡ true = ap (λ (y : Survey). y.deep) (sym es) ∙ h in
@@ -56,11 +59,11 @@ module _ (t takers : List ℕ) (g : Gathered) where
       nodes_too : (survey_whole t g takers).nodes ≡ s.nodes
       nodes_too = ap (λ (y : Survey). y.nodes) (sym es)
 
-      pub fault_34 : 4096 < s.nodes → 34 ≡ fault_by t g takers
+      pub fault_34 : 4096 < s.nodes → Err (row 34) ≡ fault_by t g takers
       unfolding fault_by
       fault_34 h = rw (le-ltb 512 g.edges some, fault_by, flat_too, fault_by, nodes_too, lt-ltb 4096 s.nodes h, fault_by)
 
-      pub fault_none : s.nodes ≤ 4096 → 0 ≡ fault_by t g takers
+      pub fault_none : s.nodes ≤ 4096 → Ok tt ≡ fault_by t g takers
       unfolding fault_by
       fault_none h = rw (le-ltb 512 g.edges some, fault_by, flat_too, fault_by, nodes_too, le-ltb 4096 s.nodes h, fault_by)
 
@@ -68,19 +71,19 @@ pub ruleset fault_laws = (fault_32, fault_33, fault_34, fault_none)
 
 -- `merged`
 pub merged_is : (t takers : List ℕ) (g : Gathered) (r : ℕ) (new : List ℕ) → Appended (merged_sheet t g takers) 0 (replicate table_words 0) new r
-    → record { row = 0; edges = g.edges; table = new } ≡ merged_to g.edges (sheet_table t g takers)
+    → record { row = None; edges = g.edges; table = new } ≡ merged_to g.edges (sheet_table t g takers)
 unfolding merged_to sheet_table
 merged_is t takers g r new p = ap (merged_to g.edges) p.memory
 
 -- `admitted`
-module _ (t takers : List ℕ) (g : Gathered) (row : ℕ) (e : row ≡ fault_by t g takers) (r : Linearization) where
-  pub admitted_in : row ≡ 0 → r ≡ merged_to g.edges (sheet_table t g takers) → r ≡ linear_for t g takers
+module _ (t takers : List ℕ) (g : Gathered) (f : Result ⊤ Row) (e : f ≡ fault_by t g takers) (r : Linearization) where
+  pub admitted_in : f ≡ Ok tt → r ≡ merged_to g.edges (sheet_table t g takers) → r ≡ linear_for t g takers
   unfolding linear_for
-  admitted_in z h = h ∙ rw (eq-eqb (fault_by t g takers) 0 (sym e ∙ z), linear_for)
+  admitted_in z h = h ∙ rw (sym e ∙ z, linear_for)
 
-  pub admitted_out : (row ≡ 0 → ⊥) → r ≡ refused_by row → r ≡ linear_for t g takers
+  pub admitted_out : (k : Row) → f ≡ Err k → r ≡ refused_by k.0 → r ≡ linear_for t g takers
   unfolding linear_for
-  admitted_out z h = h ∙ ap refused_by e ∙ rw (ne_eqb (fault_by t g takers) 0 (λ q. z (e ∙ q)), linear_for)
+  admitted_out k z h = h ∙ rw (sym e ∙ z, linear_for)
 
 pub ruleset admitted_laws = (admitted_in, admitted_out)
 

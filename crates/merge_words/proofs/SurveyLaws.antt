@@ -2,8 +2,8 @@
 use mathlib.Core.Path.{◌≡◌, refl, ap, ap₂, ◌∙◌}
 use mathlib.Core.Bool.{Bool, ◌||◌}
 use mathlib.Core.List.{List}
-use Prim.Native.Nat.{ℕ, zero, suc, ◌+◌, ◌-◌}
-use native.Mathlib.Numerals.{sub-one}
+use Prim.Native.Nat.{ℕ, suc, ◌+◌, ◌-◌, ◌≤◌, ◌<◌}
+use native.Mathlib.Omega.{arith}
 use Rattle.table_places.specs.Outline.{reach}
 use Rattle.merge_append.specs.Runs.{run}
 use Rattle.merge_append.specs.NodeWords.{capped}
@@ -25,21 +25,22 @@ with_edge_is t list at s places d n r ep ed en er =
     ap₂ surveyed (ap (λ b. s.deep || b) (ed ∙ ap (updates_deep t) ep)) (er ∙ ap (λ y. capped (s.nodes + y)) (en ∙ ap (takers_nodes t 1) ep))
 
 -- `with_edges`
-module _ (t list : List ℕ) (at left : ℕ) (s whole : Survey) (u : survey_from t list at left s ≡ whole) where
-  pub with_edges_turn : (left ≡ 0 → ⊥) → (r : Survey) (next : ℕ) → r ≡ with_edge t (run list at 16) s → next ≡ reach list at 16
-      → survey_from t list next (left - 1) r ≡ whole
-  unfolding survey_from
-  with_edges_turn z r next er en = rw (er, en) (go left z u)
-    where
-      go : (n : ℕ) → (n ≡ 0 → ⊥) → survey_from t list at n s ≡ whole → survey_from t list (reach list at 16) (n - 1) (with_edge t (run list at 16) s) ≡ whole
-      go zero y j = absurd (y refl)
-      go (suc n) y j = rw (sub-one (suc n)) j
+pub with_edges_begun : (t list : List ℕ) (count : ℕ) (s : Survey) → survey_from t list 0 (count - 0) s ≡ survey_from t list 0 count s
+with_edges_begun t list count s = let z : count - 0 ≡ count = omega arith in rw z
 
-  pub with_edges_end : left ≡ 0 → s ≡ whole
+module _ (t list : List ℕ) (at i count : ℕ) (s whole : Survey) (u : survey_from t list at (count - i) s ≡ whole) where
+  pub with_edges_turn : i < count → (r : Survey) (next : ℕ) → r ≡ with_edge t (run list at 16) s → next ≡ reach list at 16
+      → survey_from t list next (count - (i + 1)) r ≡ whole
   unfolding survey_from
-  with_edges_end z = rw z at u
+  with_edges_turn h r next er en =
+      let n : count - i ≡ suc (count - (i + 1)) = omega arith in
+      rw (er, en) (rw n at u)
 
-pub ruleset with_edges_laws = (with_edges_turn, with_edges_end)
+  pub with_edges_end : count ≤ i → s ≡ whole
+  unfolding survey_from
+  with_edges_end h = let n : count - i ≡ 0 = omega arith in rw n at u
+
+pub ruleset with_edges_laws = (with_edges_begun, with_edges_turn, with_edges_end)
 
 -- `predicate`
 pub predicate_is : (t : List ℕ) (f : Functions) (s : Starts) (d b : Bool) (n k : ℕ) → d ≡ values_deeper t 22 f.places 0 f.total → n ≡ value_nodes t f.places 0 f.total 1

@@ -3,7 +3,9 @@ use mathlib.Core.Path.{◌≡◌, refl, ap, ◌∙◌}
 use mathlib.Core.Bool.{Bool, true, false}
 use mathlib.Core.List.{List, [], ◌∷◌}
 use Prim.Native.Nat.{ℕ, zero, suc, ◌+◌, ◌-◌, ◌*◌, ◌%◌, ◌≤◌, ◌<◌}
-use native.Mathlib.Numerals.{sub-one}
+use native.Mathlib.Omega.{arith}
+use Rattle.std.proofs.Common.{add-zero}
+use mir.Val.{bool_byte}
 use borrow.Author.Tests.{eq-eqb, ne_eqb, le-leb, lt-leb}
 use Rattle.table_tree.specs.Members.{in_set_at}
 use Rattle.table_places.specs.declared.layout.Layout.{Layout}
@@ -33,29 +35,22 @@ module _ (t own : List ℕ) (x : Layout) (action : ℕ) where
 pub ruleset shared_laws = (shared_silent, shared_past, shared_inside)
 
 -- `shifted`
-pub shifted_one : (w : ℕ) (b : Bool) → b ≡ true → w % 2147483648 * 2 + 1 ≡ shifted w b
+pub shifted_is : (w : ℕ) (b : Bool) (n : ℕ) → n ≡ bool_byte b → w % 2147483648 * 2 + n ≡ shifted w b
 unfolding shifted
-shifted_one w b e = rw e
-
-pub shifted_zero : (w : ℕ) (b : Bool) → b ≡ false → w % 2147483648 * 2 ≡ shifted w b
-unfolding shifted
-shifted_zero w b e = rw e
-
-pub ruleset shifted_laws = (shifted_one, shifted_zero)
+shifted_is w true n e = rw e
+shifted_is w false n e = rw (e, add-zero)
 
 -- `bits`
 module _ (t own : List ℕ) (x : Layout) (from left word whole : ℕ) (i : bits_from (is_shared t x own) from left word ≡ whole) where
-  pub bits_turn : (left ≡ 0 → ⊥) → (b : Bool) (w : ℕ) → b ≡ is_shared t x own (from + (left - 1)) → w ≡ shifted word b → bits_from (is_shared t x own) from (left - 1) w ≡ whole
+  pub bits_turn : 0 < left → (b : Bool) (w : ℕ) → b ≡ is_shared t x own (from + (left - 1)) → w ≡ shifted word b → bits_from (is_shared t x own) from (left - 1) w ≡ whole
   unfolding bits_from
-  bits_turn y b w eb ew = rw (ew, eb) (go left y i)
-    where
-      go : (n : ℕ) → (n ≡ 0 → ⊥) → bits_from (is_shared t x own) from n word ≡ whole → bits_from (is_shared t x own) from (n - 1) (shifted word (is_shared t x own (from + (n - 1)))) ≡ whole
-      go zero z j = absurd (z refl)
-      go (suc n) z j = rw (sub-one (suc n)) j
+  bits_turn h b w eb ew =
+      let n : left ≡ suc (left - 1) = omega arith in
+      rw (ew, eb) (rw n at i)
 
-  pub bits_end : left ≡ 0 → word ≡ whole
+  pub bits_end : left ≤ 0 → word ≡ whole
   unfolding bits_from
-  bits_end z = rw z at i
+  bits_end h = let z : left ≡ 0 = omega arith in rw z at i
 
 pub ruleset bits_laws = (bits_turn, bits_end)
 

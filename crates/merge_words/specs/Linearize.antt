@@ -1,6 +1,9 @@
 -- The linearization as the code finds it over the words of a table. On the table of a model it is Definition 4's: the
 -- law linear_by_is of crate `merge_table`.
-use Rattle.std.specs.Prelude.{Bool, true, false, List, map, ℕ, replicate, eqb, ltb}
+use Rattle.std.specs.Prelude.{Bool, true, false, List, map, ℕ, replicate, ltb}
+use Rattle.std.specs.Prelude.{Option, Some, None, Result, Ok, Err, ⊤}
+use Rattle.model.specs.declared.Row.{Row}
+use Rattle.model.specs.Row.{row}
 use Rattle.model.specs.Bounds.{max_variables, max_edges, max_nodes, table_words}
 use Rattle.table_append.specs.Append.{put}
 use Rattle.table_places.specs.declared.layout.Layout.{Layout}
@@ -37,25 +40,25 @@ takers_for t x = gathered t x (own_sets t x.sets) (replicate table_words 0)
 
 -- a refusal has no edges and an empty table
 unfoldable pub refused_by : (row : ℕ) → Linearization
-refused_by row = record { row = row; edges = 0; table = replicate table_words 0 }
+refused_by n = record { row = Some (row n); edges = 0; table = replicate table_words 0 }
 
 unfoldable pub merged_to : (edges : ℕ) (table : List ℕ) → Linearization
-merged_to edges table = record { row = 0; edges = edges; table = table }
+merged_to edges table = record { row = None; edges = edges; table = table }
 
 -- row 31
 unfoldable pub is_crowded : (x : Layout) → Bool
 is_crowded x = ltb max_variables (pointer_of x.variables x.automata)
 
 module _ (t : List ℕ) (g : Gathered) (takers : List ℕ) where
-  -- the first of rows 32 to 34 that refuses, or 0
-  unfoldable pub fault_by : ℕ
+  -- the first of rows 32 to 34 that refuses
+  unfoldable pub fault_by : Result ⊤ Row
   fault_by =
       elim (ltb max_edges g.edges) [
-        | true ↦ 32
+        | true ↦ Err (row 32)
         | false ↦
             elim (survey_whole t g takers).deep [
-              | true ↦ 33
-              | false ↦ elim (ltb max_nodes (survey_whole t g takers).nodes) [ true ↦ 34 | false ↦ 0 ]
+              | true ↦ Err (row 33)
+              | false ↦ elim (ltb max_nodes (survey_whole t g takers).nodes) [ true ↦ Err (row 34) | false ↦ Ok tt ]
             ]
       ]
 
@@ -64,7 +67,7 @@ module _ (t : List ℕ) (g : Gathered) (takers : List ℕ) where
   sheet_table = put 0 (map narrow (merged_sheet t g takers)) (replicate table_words 0)
 
   unfoldable pub linear_for : Linearization
-  linear_for = elim (eqb fault_by 0) [ true ↦ merged_to g.edges sheet_table | false ↦ refused_by fault_by ]
+  linear_for = elim fault_by [ Ok d ↦ merged_to g.edges sheet_table | Err r ↦ refused_by r.0 ]
 
 -- row 31 is asked once the wild-cards are known
 unfoldable pub linear_by : (t : List ℕ) → Linearization

@@ -12,11 +12,7 @@ use table_places::Layout;
 fn last_location(t: &[u32], at: usize) -> usize
     ensures { result ≡ last_location_at t.now at }
 {
-    let locations = table_places::location_count(t, at);
-    if locations == 0 {
-        return 0;
-    }
-    locations - 1
+    table_places::location_count(t, at).saturating_sub(1)
 }
 
 // The word of a variable's owner in the merged sheet, which has automaton 0 alone: nobody stays 0, and every owner
@@ -63,11 +59,9 @@ fn variable(t: &[u32], place: usize, out: &mut [u32; Model::WORDS], at: usize) -
 fn variables(t: &[u32], count: usize, out: &mut [u32; Model::WORDS], at: usize) -> usize
     ensures { Appended (variables_from t.now 0 count) at out.old out.new result }
 {
-    let mut k = 0;
     let mut next = at;
-    while k < count {
+    for k in 0..count {
         next = variable(t, table_places::range_at(t, k), out, next);
-        k += 1;
     }
     next
 }
@@ -79,14 +73,10 @@ fn pointers(t: &[u32], x: Layout, out: &mut [u32; Model::WORDS], at: usize) -> u
 {
     let count = table_places::automata_of(x);
     let owner = pointer_owner(table_places::word(t, 0));
-    let places = x.sets;
-    let mut i = 0;
     let mut next = at;
-    while i < count {
-        let place = places[i];
-        let high = merge_append::upward(last_location(t, place));
+    for place in &x.sets[..count] {
+        let high = merge_append::upward(last_location(t, *place));
         next = three(Model::BIAS as usize, high, owner, out, next);
-        i += 1;
     }
     next
 }

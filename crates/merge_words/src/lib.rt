@@ -14,22 +14,22 @@ ghost use Rattle.std.specs.Prelude.{◌≡◌};
 ghost use Rattle.merge_words.specs.Linearize.{refused_by, merged_to, sheet_table, linear_for, linear_by};
 
 pub use gathering::Gathered;
-use model::Model;
+use model::{Model, Row};
 pub use sync::Sets;
 
-// Row 0, the merged sheet's table and its count of edges; or the row that refuses, no edges and an empty table.
+// No row, the merged sheet's table and its count of edges; or the row that refuses, no edges and an empty table.
 #[derive(Drop)]
 pub struct Linearization {
-    pub row: u32,
+    pub row: Option<Row>,
     pub edges: usize,
     pub table: [u32; Model::WORDS],
 }
 
-pub fn refused(row: u32) -> Linearization
-    ensures { result ≡ refused_by row }
+pub fn refused(row: Row) -> Linearization
+    ensures { result ≡ refused_by row.0 }
 {
     Linearization {
-        row,
+        row: Some(row),
         edges: 0,
         table: [0u32; Model::WORDS],
     }
@@ -42,7 +42,7 @@ fn merged(t: &[u32], g: Gathered, takers: &[u32; Model::WORDS]) -> Linearization
     let mut table = [0u32; Model::WORDS];
     let _end = sheet::sheet(t, g, takers, &mut table, 0);
     Linearization {
-        row: 0,
+        row: None,
         edges: g.edges,
         table,
     }
@@ -52,11 +52,9 @@ fn merged(t: &[u32], g: Gathered, takers: &[u32; Model::WORDS]) -> Linearization
 fn admitted(t: &[u32], g: Gathered, takers: &[u32; Model::WORDS]) -> Linearization
     ensures { result ≡ linear_for t.now g takers.now }
 {
-    let row = rows::fault(t, g, takers);
-    if row == 0 {
-        merged(t, g, takers)
-    } else {
-        refused(row)
+    match rows::fault(t, g, takers) {
+        Ok(()) => merged(t, g, takers),
+        Err(row) => refused(row),
     }
 }
 
@@ -67,7 +65,7 @@ pub fn linearize(t: &[u32]) -> Linearization
     // p leads to xs (#): a wild-card for each automaton, and where it stands
     let wildcards = table_places::layout_of(t);
     if rows::crowded(wildcards) {
-        return refused(31);
+        return refused(Row(31));
     }
     // to fs (ipred): the initial predicates, and the composition's own start conditions
     let inits = merge_predicates::functions_of(t, wildcards, false);

@@ -4,7 +4,7 @@ ghost use Rattle.merge_words.specs.Linearize.{is_crowded, fault_by};
 
 use crate::gathering::Gathered;
 use crate::survey::{self};
-use model::Model;
+use model::{Model, Row};
 use table_places::Layout;
 
 // Row 31: has the merged sheet too many variables?
@@ -14,19 +14,19 @@ pub fn crowded(x: Layout) -> bool
     Model::VARIABLES < merge_append::pointer(x.variables, x.automata)
 }
 
-// The first of rows 32 to 34 that refuses, or 0.
-pub fn fault(t: &[u32], g: Gathered, takers: &[u32; Model::WORDS]) -> u32
+// The first of rows 32 to 34 that refuses.
+pub fn fault(t: &[u32], g: Gathered, takers: &[u32; Model::WORDS]) -> Result<(), Row>
     ensures { result ≡ fault_by t.now g takers.now }
 {
     if Model::EDGES < g.edges {
-        return 32;
+        return Err(Row(32));
     }
     let seen = survey::whole(t, g, takers);
     if seen.deep {
-        return 33;
+        return Err(Row(33));
     }
     if Model::NODES < seen.nodes {
-        return 34;
+        return Err(Row(34));
     }
-    0
+    Ok(())
 }

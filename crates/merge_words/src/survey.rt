@@ -30,13 +30,11 @@ fn with_edge(t: &[u32], takers: &[u32; Model::WORDS], at: usize, s: Survey) -> S
 fn with_edges(t: &[u32], takers: &[u32; Model::WORDS], count: usize, s: Survey) -> Survey
     ensures { result ≡ survey_from t.now takers.now 0 count s }
 {
-    let mut left = count;
     let mut at = 0;
     let mut sofar = s;
-    while left != 0 {
+    for _ in 0..count {
         sofar = with_edge(t, takers, at, sofar);
         at = table_places::step(takers, at, 16);
-        left -= 1;
     }
     sofar
 }

@@ -32,11 +32,7 @@ fn shared(t: &[u32], x: Layout, own: &[u64], action: u32) -> bool
 fn shifted(word: u32, b: bool) -> u32
     ensures { result ≡ shifted word b }
 {
-    if b {
-        word % 2147483648 * 2 + 1
-    } else {
-        word % 2147483648 * 2
-    }
+    word % 2147483648 * 2 + u32::from(b)
 }
 
 // The bits of the 32 actions from one on.
@@ -44,11 +40,9 @@ fn bits(t: &[u32], x: Layout, own: &[u64], from: u32) -> u32
     requires { from ≤ 32 }
     ensures { result ≡ bits_from (is_shared t.now x own.now) from 32 0 }
 {
-    let mut left: u32 = 32;
-    let mut word: u32 = 0;
-    while left != 0 {
-        left -= 1;
-        word = shifted(word, shared(t, x, own, from + left));
+    let mut word = 0;
+    for i in (0..32).rev() {
+        word = shifted(word, shared(t, x, own, from + i));
     }
     word
 }

@@ -3,13 +3,12 @@ use mathlib.Core.Path.{◌≡◌, refl, sym, ap, ◌∙◌, subst}
 use mathlib.Core.Bool.{Bool, true, false}
 use mathlib.Core.List.{List, [], ◌++◌, append-nil}
 use mathlib.Core.Option.{Option, none, some}
-use Prim.Native.Nat.{ℕ, suc}
+use Prim.Native.Nat.{ℕ}
 use native.Mathlib.Omega.{arith}
 use lib.ListN.{length}
 use Rattle.model.specs.Model.{Model}
-use Rattle.model.specs.Limits.{broken}
-use Rattle.model.specs.Table.{table_of, model_of, row18, Opened, unopened, opened, open_table}
-use Rattle.model.specs.Linear.{linear, merged_count, row31, row32, row33, row34, merge_fault}
+use Rattle.model.specs.Table.{table_of, Opened, unopened, opened, open_table}
+use Rattle.model.specs.Linear.{linear, merged_count, merge_fault}
 use Rattle.model.proofs.LinearLimits.{linear_lawful}
 use Rattle.table_places.proofs.OutlineLaws.{table_sheet}
 use Rattle.table_places.proofs.Opened.{sheet_of}
@@ -18,70 +17,52 @@ use Rattle.format.specs.Spelling.{text_of}
 use Rattle.format.specs.Writer as F
 use Rattle.format.specs.Writer.{row35, buffer_after}
 use Rattle.format.specs.Merger.{MergeAnswer as Answer, unmerged, merged, merge_model, merge_answer, merge_after}
-use Rattle.write_words.specs.declared.WriteAnswer.{WriteAnswer}
-use Rattle.write_words.specs.declared.WriteAnswer.TheVariants as W
+use Rattle.std.specs.Prelude.{Some, None, Result, Ok, Err}
+use Rattle.std.proofs.lemmas.Option.{none-some, same_Some}
+use Rattle.model.specs.declared.Row.{Row}
+use Rattle.model.specs.Row.{row}
 use Rattle.write_words.specs.Answer.{words_answer, copy_answer, given, Answered}
 use Rattle.writer.proofs.SheetText.{words_text}
 use Rattle.merge_words.specs.declared.Linearization.{Linearization}
 use Rattle.merge_words.specs.Linearize.{refused_by, merged_to}
 use Rattle.merge_table.specs.Linearization.{linear_model, linearization_of, linearization}
-use Rattle.merger.specs.declared.MergeAnswer.{MergeAnswer}
-use Rattle.merger.specs.declared.MergeAnswer.TheVariants as A
+use Rattle.merger.specs.declared.Merged.{Merged}
 use Rattle.merger.specs.Answers.{merge_of, reported_of}
-
--- no refusal has row 0
-open_row : (t : List ℕ) (row : ℕ) → open_table t ≡ unopened row → row ≡ 0 → ⊥
-unfolding open_table
-open_row t row e z = go (row18 (length t)) refl (model_of t) refl
-  where
-    go : (b : Bool) → row18 (length t) ≡ b → (o : Option Model) → model_of t ≡ o → ⊥
-    go true f o g = let s : unopened 18 ≡ unopened row = rw (f, open_table) at e in let n : 18 ≡ row = cc in omega arith
-    go false f none g = let s : unopened 19 ≡ unopened row = rw (f, open_table, g, open_table) at e in let n : 19 ≡ row = cc in omega arith
-    go false f (some m) g = let s : opened m ≡ unopened row = rw (f, open_table, g, open_table) at e in let n : ◌≡◌ {A = ℕ} 0 1 = cc in omega arith
-
-broken_row : (n : ℕ) (b : Bool) (rest : Option ℕ) (row : ℕ) → broken (suc n) b rest ≡ some row → (rest ≡ some row → row ≡ 0 → ⊥) → row ≡ 0 → ⊥
-unfolding broken
-broken_row n true rest row e h z = let s : suc n ≡ row = cc in omega arith
-broken_row n false rest row e h z = h e z
-
-fault_row : (m : Model) (row : ℕ) → merge_fault m ≡ some row → row ≡ 0 → ⊥
-unfolding merge_fault
-fault_row m row e =
-    broken_row 30 (row31 m) _ row e (λ e1. broken_row 31 (row32 m) _ row e1 (λ e2. broken_row 32 (row33 m) _ row e2 (λ e3. broken_row 33 (row34 m) none row e3 (λ e4. absurd (no_some e4)))))
-  where
-    no_some : none ≡ some row → ⊥
-    no_some e4 = let n : ◌≡◌ {A = ℕ} 0 1 = cc in omega arith
 
 -- where a row refuses
 module _ (t : List ℕ) (l : Linearization) (e : l ≡ linearization t) where
-  answers_row : (l.row ≡ 0 → ⊥) → (buffer : ℕ) → merge_answer t buffer ≡ unmerged l.row
+  row_of : (x : Linearization) → linearization t ≡ x → x.row ≡ l.row
+  row_of x z = sym (ap (λ (y : Linearization). y.row) (e ∙ z))
+
+  answers_row : (k : Row) → l.row ≡ Some k → (buffer : ℕ) → merge_answer t buffer ≡ unmerged k.0
   unfolding merge_answer linearization linearization_of linear_model refused_by merged_to merge_model
-  answers_row h buffer = go (open_table t) refl
+  answers_row k h buffer = go (open_table t) refl
     where
-      in_model : (m : Model) → open_table t ≡ opened m → (o : Option ℕ) → merge_fault m ≡ o → merge_model m buffer ≡ unmerged l.row
-      in_model m p (some row) q =
-          let z : linearization t ≡ refused_by row = rw (p, linearization_of, q, linear_model) in
-          let s : l.row ≡ row = ap (λ (x : Linearization). x.row) (e ∙ z) in
-          rw (q, merge_model, s)
+      said : (n : ℕ) → linearization t ≡ refused_by n → n ≡ k.0
+      said n z = ap (λ (y : Row). y.0) (same_Some (row n) k (row_of (refused_by n) z ∙ h))
+
+      in_model : (m : Model) → open_table t ≡ opened m → (o : Option ℕ) → merge_fault m ≡ o → merge_model m buffer ≡ unmerged k.0
+      in_model m p (some n) q =
+          let z : linearization t ≡ refused_by n = rw (p, linearization_of, q, linear_model) in
+          rw (q, merge_model) (ap unmerged (said n z))
       in_model m p none q =
           let z : linearization t ≡ merged_to (merged_count m) (table_of (linear m)) = rw (p, linearization_of, q, linear_model) in
-          absurd (h (ap (λ (x : Linearization). x.row) (e ∙ z)))
+          absurd (none-some k (row_of (merged_to (merged_count m) (table_of (linear m))) z ∙ h))
 
-      go : (o : Opened) → open_table t ≡ o → merge_answer t buffer ≡ unmerged l.row
-      go (unopened row) p =
-          let z : linearization t ≡ refused_by row = rw (p, linearization_of) in
-          let s : l.row ≡ row = ap (λ (x : Linearization). x.row) (e ∙ z) in
-          rw (p, merge_answer, s)
+      go : (o : Opened) → open_table t ≡ o → merge_answer t buffer ≡ unmerged k.0
+      go (unopened n) p =
+          let z : linearization t ≡ refused_by n = rw (p, linearization_of) in
+          rw (p, merge_answer) (ap unmerged (said n z))
       go (opened m) p = rw (p, merge_answer) (in_model m p (merge_fault m) refl)
 
-  module _ (h : l.row ≡ 0 → ⊥) (old : Bytes) where
-    pub merge_refused : A.Refused l.row ≡ merge_of (merge_answer t (length old))
+  module _ (k : Row) (h : l.row ≡ Some k) (old : Bytes) where
+    pub merge_refused : Err k ≡ merge_of (merge_answer t (length old))
     unfolding merge_of
-    merge_refused = sym (ap merge_of (answers_row h (length old)))
+    merge_refused = sym (ap merge_of (answers_row k h (length old)))
 
     pub merge_untouched : old ≡ merge_after (merge_answer t (length old)) old
     unfolding merge_after
-    merge_untouched = sym (ap (λ (a : Answer). merge_after a old) (answers_row h (length old)))
+    merge_untouched = sym (ap (λ (a : Answer). merge_after a old) (answers_row k h (length old)))
 
   -- where none does, it is the merged model of the table's
   record Found : Type 0 where
@@ -91,29 +72,29 @@ module _ (t : List ℕ) (l : Linearization) (e : l ≡ linearization t) where
     edges : l.edges ≡ merged_count model
     table : l.table ≡ table_of (linear model)
 
-  found_merged : l.row ≡ 0 → Found
+  found_merged : l.row ≡ None → Found
   unfolding linearization linearization_of linear_model refused_by merged_to
   found_merged h = go (open_table t) refl
     where
-      row_of : (x : Linearization) → linearization t ≡ x → x.row ≡ 0
-      row_of x z = sym (ap (λ (y : Linearization). y.row) (e ∙ z)) ∙ h
+      unsaid : (n : ℕ) → linearization t ≡ refused_by n → ⊥
+      unsaid n z = none-some (row n) (sym (row_of (refused_by n) z ∙ h))
 
       in_model : (m : Model) → open_table t ≡ opened m → (o : Option ℕ) → merge_fault m ≡ o → Found
-      in_model m p (some row) q =
-          let z : linearization t ≡ refused_by row = rw (p, linearization_of, q, linear_model) in
-          absurd (fault_row m row q (row_of (refused_by row) z))
+      in_model m p (some n) q =
+          let z : linearization t ≡ refused_by n = rw (p, linearization_of, q, linear_model) in
+          absurd (unsaid n z)
       in_model m p none q =
           let z : linearization t ≡ merged_to (merged_count m) (table_of (linear m)) = rw (p, linearization_of, q, linear_model) in
           record { model = m; opens = p; unrefused = q; edges = ap (λ (x : Linearization). x.edges) (e ∙ z); table = ap (λ (x : Linearization). x.table) (e ∙ z) }
 
       go : (o : Opened) → open_table t ≡ o → Found
-      go (unopened row) p =
-          let z : linearization t ≡ refused_by row = rw (p, linearization_of) in
-          absurd (open_row t row p (row_of (refused_by row) z))
+      go (unopened n) p =
+          let z : linearization t ≡ refused_by n = rw (p, linearization_of) in
+          absurd (unsaid n z)
       go (opened m) p = in_model m p (merge_fault m) refl
 
 -- what the writer says of a text, with its count of edges, is what the merger says of it
-module _ (m : Model) (t : List ℕ) (p : open_table t ≡ opened m) (q : merge_fault m ≡ none) (old new : Bytes) (w : WriteAnswer) (a : Answered (copy_answer (text_of (linear m)) (length old)) old new w) where
+module _ (m : Model) (t : List ℕ) (p : open_table t ≡ opened m) (q : merge_fault m ≡ none) (old new : Bytes) (w : Result ℕ Row) (a : Answered (copy_answer (text_of (linear m)) (length old)) old new w) where
   in_words : merge_answer t (length old) ≡ merge_model m (length old)
   unfolding merge_answer
   in_words = rw (p, merge_answer)
@@ -124,13 +105,13 @@ module _ (m : Model) (t : List ℕ) (p : open_table t ≡ opened m) (q : merge_f
   said true f =
       let c : copy_answer (text_of (linear m)) (length old) ≡ F.unwritten 35 = rw (f, copy_answer) in
       let g : merge_model m (length old) ≡ unmerged 35 = rw (q, merge_model, f) in (
-        ap (λ (x : WriteAnswer). reported_of x (merged_count m)) (a.answer ∙ ap given c) ∙ sym (ap merge_of g),
+        ap (λ (x : Result ℕ Row). reported_of x (merged_count m)) (a.answer ∙ ap given c) ∙ sym (ap merge_of g),
         a.memory ∙ ap (λ (x : F.WriteAnswer). buffer_after x old) c ∙ sym (ap (λ (x : Answer). merge_after x old) g),
       )
   said false f =
       let c : copy_answer (text_of (linear m)) (length old) ≡ F.written (text_of (linear m)) = rw (f, copy_answer) in
       let g : merge_model m (length old) ≡ merged (text_of (linear m)) (merged_count m) = rw (q, merge_model, f) in (
-        ap (λ (x : WriteAnswer). reported_of x (merged_count m)) (a.answer ∙ ap given c) ∙ sym (ap merge_of g),
+        ap (λ (x : Result ℕ Row). reported_of x (merged_count m)) (a.answer ∙ ap given c) ∙ sym (ap merge_of g),
         a.memory ∙ ap (λ (x : F.WriteAnswer). buffer_after x old) c ∙ sym (ap (λ (x : Answer). merge_after x old) g),
       )
 
@@ -140,7 +121,7 @@ module _ (m : Model) (t : List ℕ) (p : open_table t ≡ opened m) (q : merge_f
       (s.0 ∙ sym (ap merge_of in_words), s.1 ∙ sym (ap (λ (x : Answer). merge_after x old) in_words))
 
 -- the words of the merged model's table spell its text
-module _ (t : List ℕ) (l : Linearization) (e : l ≡ linearization t) (h : l.row ≡ 0) (ws : List ℕ) (ew : ws ≡ l.table) (old new : Bytes) (w : WriteAnswer)
+module _ (t : List ℕ) (l : Linearization) (e : l ≡ linearization t) (h : l.row ≡ None) (ws : List ℕ) (ew : ws ≡ l.table) (old new : Bytes) (w : Result ℕ Row)
     (a : Answered (words_answer 65536 ws (length old)) old new w) where
   both : (reported_of w l.edges ≡ merge_of (merge_answer t (length old))) × (new ≡ merge_after (merge_answer t (length old)) old)
   both =
@@ -154,21 +135,15 @@ module _ (t : List ℕ) (l : Linearization) (e : l ≡ linearization t) (h : l.r
       let r = said_of m t f.opens f.unrefused old new w b in
       (ap (reported_of w) f.edges ∙ r.0, r.1)
 
-  pub merge_answered : (r : MergeAnswer) → r ≡ reported_of w l.edges → r ≡ merge_of (merge_answer t (length old))
-  merge_answered r g = g ∙ both.0
+  pub merge_row : (k : Row) → w ≡ Err k → Err k ≡ merge_of (merge_answer t (length old))
+  unfolding reported_of
+  merge_row k g = sym (ap (λ (x : Result ℕ Row). reported_of x l.edges) g) ∙ both.0
+
+  pub merge_text : (n : ℕ) → w ≡ Ok n → Ok (record { length = n; edges = l.edges }) ≡ merge_of (merge_answer t (length old))
+  unfolding reported_of
+  merge_text n g = sym (ap (λ (x : Result ℕ Row). reported_of x l.edges) g) ∙ both.0
 
   pub merge_written : new ≡ merge_after (merge_answer t (length old)) old
   merge_written = both.1
 
-pub ruleset merge_laws = (merge_refused, merge_untouched, merge_answered, merge_written)
-
--- `reported`
-pub reported_text : (w : WriteAnswer) (n edges : ℕ) → w ≡ W.Written n → A.Merged n edges ≡ reported_of w edges
-unfolding reported_of
-reported_text w n edges e = sym (ap (λ (x : WriteAnswer). reported_of x edges) e)
-
-pub reported_row : (w : WriteAnswer) (row edges : ℕ) → w ≡ W.Refused row → A.Refused row ≡ reported_of w edges
-unfolding reported_of
-reported_row w row edges e = sym (ap (λ (x : WriteAnswer). reported_of x edges) e)
-
-pub ruleset reported_laws = (reported_text, reported_row)
+pub ruleset merge_laws = (merge_refused, merge_untouched, merge_row, merge_text, merge_written)

@@ -11,54 +11,51 @@ use Rattle.format.specs.Bytes.{Bytes}
 use Rattle.format.specs.Reader as Reader
 use Rattle.format.specs.Reader.{read_answer, table_after}
 use Rattle.format.specs.Merger.{merge_answer, merge_after}
-use Rattle.reader.specs.declared.ReadAnswer.{ReadAnswer}
-use Rattle.reader.specs.declared.ReadAnswer.TheVariants as R
-use Rattle.reader.specs.Read.{read_of}
-use Rattle.merger.specs.declared.MergeAnswer.{MergeAnswer}
-use Rattle.merger.specs.declared.MergeAnswer.TheVariants as A
-use Rattle.merger.specs.declared.Outcome.{Outcome}
-use Rattle.merger.specs.declared.Outcome.TheVariants.{Merged, Refused}
+use Rattle.reader.specs.declared.Refusal.{Refusal}
+use Rattle.reader.specs.Read.{ReadAnswer, refusal, read_of}
+use Rattle.std.proofs.Common.{Result, Ok, Err}
+use Rattle.model.specs.declared.Row.{Row}
+use Rattle.model.specs.Row.{row}
+use Rattle.merger.specs.declared.Merged.{Merged}
 use Rattle.merger.specs.Answers.{merge_of}
 use Rattle.merger.specs.Outcome.{passed_on, outcome, outcome_after}
 
--- `passed_on`
-pub passed_text : (a : MergeAnswer) (n edges : ℕ) → a ≡ A.Merged n edges → Merged n edges ≡ passed_on a
-unfolding passed_on
-passed_text a n edges e = sym (ap passed_on e)
-
-pub passed_row : (a : MergeAnswer) (row : ℕ) → a ≡ A.Refused row → Refused row 0 ≡ passed_on a
-unfolding passed_on
-passed_row a row e = sym (ap passed_on e)
-
-pub ruleset passed_laws = (passed_text, passed_row)
-
 -- `merge_text`
 -- the reader's answers, told apart
-read_row : (text : Bytes) (n row line : ℕ) → read_of (read_answer text n) ≡ R.Refused row line → read_answer text n ≡ Reader.refused row line
+read_row : (text : Bytes) (n : ℕ) (r : Refusal) → read_of (read_answer text n) ≡ Err r → read_answer text n ≡ Reader.refused r.row.0 r.line
 unfolding read_of
-read_row text n row line e = go (read_answer text n) refl
+read_row text n r e = go (read_answer text n) refl
   where
-    go : (a : Reader.ReadAnswer) → read_answer text n ≡ a → read_answer text n ≡ Reader.refused row line
-    go (Reader.refused x y) f = let s : R.Refused x y ≡ R.Refused row line = sym (ap read_of f) ∙ e in let i : x ≡ row = cc in let j : y ≡ line = cc in f ∙ rw (i, j)
-    go (Reader.accepted m) f = let s : R.Accepted ≡ R.Refused row line = sym (ap read_of f) ∙ e in let z : ◌≡◌ {A = ℕ} 0 1 = cc in absurd (omega arith)
+    go : (a : Reader.ReadAnswer) → read_answer text n ≡ a → read_answer text n ≡ Reader.refused r.row.0 r.line
+    go (Reader.refused x y) f =
+        let s : Err (refusal x y) ≡ Err r = sym (ap read_of f) ∙ e in
+        let i : refusal x y ≡ r = cc in
+        f ∙ ap (λ (z : Refusal). Reader.refused z.row.0 z.line) i
+    go (Reader.accepted m) f =
+        let s : Ok tt ≡ Err r = sym (ap read_of f) ∙ e in
+        let z : ◌≡◌ {A = ℕ} 0 1 = cc in
+        absurd (omega arith)
 
-read_good : (text : Bytes) (n : ℕ) → read_of (read_answer text n) ≡ R.Accepted → (m : Model) × (read_answer text n ≡ Reader.accepted m)
+read_good : (text : Bytes) (n : ℕ) → read_of (read_answer text n) ≡ Ok tt → (m : Model) × (read_answer text n ≡ Reader.accepted m)
 unfolding read_of
 read_good text n e = go (read_answer text n) refl
   where
     go : (a : Reader.ReadAnswer) → read_answer text n ≡ a → (m : Model) × (read_answer text n ≡ Reader.accepted m)
-    go (Reader.refused x y) f = let s : R.Refused x y ≡ R.Accepted = sym (ap read_of f) ∙ e in let z : ◌≡◌ {A = ℕ} 0 1 = cc in absurd (omega arith)
+    go (Reader.refused x y) f =
+        let s : Err (refusal x y) ≡ Ok tt = sym (ap read_of f) ∙ e in
+        let z : ◌≡◌ {A = ℕ} 0 1 = cc in
+        absurd (omega arith)
     go (Reader.accepted m) f = (m, f)
 
 module _ (text : Bytes) (a : ReadAnswer) (e : a ≡ read_of (read_answer text (length {A = ℕ} (replicate table_words 0)))) where
   same_room : read_of (read_answer text (length {A = ℕ} (replicate table_words 0))) ≡ read_of (read_answer text table_words)
   same_room = ap (λ n. read_of (read_answer text n)) (length-replicate {A = ℕ} table_words 0)
 
-  module _ (old : Bytes) (row line : ℕ) (f : a ≡ R.Refused row line) where
-    reads_row : read_answer text table_words ≡ Reader.refused row line
-    reads_row = read_row text table_words row line (sym (e ∙ same_room) ∙ f)
+  module _ (old : Bytes) (r : Refusal) (f : a ≡ Err r) where
+    reads_row : read_answer text table_words ≡ Reader.refused r.row.0 r.line
+    reads_row = read_row text table_words r (sym (e ∙ same_room) ∙ f)
 
-    pub merge_text_refused : Refused row line ≡ outcome text (length old)
+    pub merge_text_refused : Err r ≡ outcome text (length old)
     unfolding outcome
     merge_text_refused = rw (reads_row, outcome)
 
@@ -66,7 +63,7 @@ module _ (text : Bytes) (a : ReadAnswer) (e : a ≡ read_of (read_answer text (l
     unfolding outcome_after
     merge_text_untouched = rw (reads_row, outcome_after)
 
-  module _ (f : a ≡ R.Accepted) (table : List ℕ) (g : table ≡ table_after text (replicate table_words 0)) (old : Bytes) where
+  module _ (f : a ≡ Ok tt) (table : List ℕ) (g : table ≡ table_after text (replicate table_words 0)) (old : Bytes) where
     read_model : (m : Model) × (read_answer text table_words ≡ Reader.accepted m)
     read_model = read_good text table_words (sym (e ∙ same_room) ∙ f)
 
@@ -79,13 +76,21 @@ module _ (text : Bytes) (a : ReadAnswer) (e : a ≡ read_of (read_answer text (l
         let all : drop table_words zeros ≡ [] = drop_of_length-le zeros few in
         g ∙ rw (h, table_after) (ap (λ (l : List ℕ). table_of read_model.0 ++ l) all ∙ append-nil (table_of read_model.0))
 
-    pub merge_text_merged : (b : MergeAnswer) (r : Outcome) → b ≡ merge_of (merge_answer table (length old)) → r ≡ passed_on b → r ≡ outcome text (length old)
-    unfolding outcome
-    merge_text_merged b r eb er =
-        er ∙ ap passed_on (eb ∙ ap (λ (t : List ℕ). merge_of (merge_answer t (length old))) read_table) ∙ rw (read_model.1, outcome)
+    module _ (b : Result Merged Row) (eb : b ≡ merge_of (merge_answer table (length old))) where
+      answer_is : passed_on b ≡ outcome text (length old)
+      unfolding outcome
+      answer_is = ap passed_on (eb ∙ ap (λ (t : List ℕ). merge_of (merge_answer t (length old))) read_table) ∙ rw (read_model.1, outcome)
+
+      pub merge_text_merged : (m : Merged) → b ≡ Ok m → Ok m ≡ outcome text (length old)
+      unfolding passed_on
+      merge_text_merged m h = ap passed_on (sym h) ∙ answer_is
+
+      pub merge_text_unmerged : (k : Row) → b ≡ Err k → Err (record { row = k; line = 0 }) ≡ outcome text (length old)
+      unfolding passed_on
+      merge_text_unmerged k h = ap passed_on (sym h) ∙ answer_is
 
     pub merge_text_written : (new : Bytes) → new ≡ merge_after (merge_answer table (length old)) old → new ≡ outcome_after text old
     unfolding outcome_after
     merge_text_written new en = en ∙ ap (λ (t : List ℕ). merge_after (merge_answer t (length old)) old) read_table ∙ rw (read_model.1, outcome_after)
 
-pub ruleset merge_text_laws = (merge_text_refused, merge_text_untouched, merge_text_merged, merge_text_written)
+pub ruleset merge_text_laws = (merge_text_refused, merge_text_untouched, merge_text_merged, merge_text_unmerged, merge_text_written)

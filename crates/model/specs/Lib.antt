@@ -14,4 +14,5 @@ pub mod Moves
 pub mod Judge
 pub mod Linear
 pub mod Repeats
+pub mod Row
 pub mod Runs

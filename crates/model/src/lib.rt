@@ -1,6 +1,8 @@
-// The vocabulary of the sheets: the limits that stand with their types, and what a check says. The definitions are in
-// specs/.
+// The vocabulary of the sheets: the limits that stand with their types, and the rows that refuse. The definitions are
+// in specs/.
 #![tactic(auto)]
+
+use std::fmt;
 
 // What a sheet says, within these limits (specs/Bounds.antt).
 #[derive(Drop)]
@@ -69,11 +71,14 @@ impl Model {
     pub const WORDS: usize = 16384;
 }
 
-// What rows that are asked in their order say: no row refuses, or the first that does.
-#[derive(Clone, Copy)]
-pub enum Checked {
-    Good,
-    Refused(u32),
+// A row that refuses, by its number in document 01.
+#[derive(Clone, Copy, Debug, PartialEq, Eq, PartialOrd, Ord)]
+pub struct Row(pub u32);
+
+impl fmt::Display for Row {
+    fn fmt<W: fmt::Write>(&self, f: &mut fmt::Formatter<W>) -> fmt::Result {
+        write!(f, "row {}", self.0)
+    }
 }
 
 // The composition.

@@ -9,7 +9,8 @@ use model::Model;
 
 // A node with its argument: the operands of `all` and `any`, a number with the bias, the variable of `vK` and `nK`.
 // Stray: no node.
-#[derive(Clone, Copy)]
+// Stays an enum with a node that is none: it stands for `stray` of the definitions, a word like the others.
+#[derive(Clone, Copy, Debug, PartialEq, Eq)]
 pub enum Node {
     All(u32),
     Any(u32),
@@ -28,6 +29,7 @@ pub enum Node {
 }
 
 // The node that a word holds. A node without an argument is found whatever its argument is.
+#[tactic(auto, using(crate::proofs::NodeLaws::holds_laws))]
 pub fn node_of(word: u32) -> Node
     ensures { result ≡ node_of word }
 {
@@ -68,6 +70,7 @@ fn numbered(n: u32) -> u32
 }
 
 // The word that holds a node.
+#[tactic(auto, using(crate::proofs::NodeLaws::word_laws))]
 pub fn word_of(node: Node) -> u32
     ensures { result ≡ word_for node }
 {

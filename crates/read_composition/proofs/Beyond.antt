@@ -12,8 +12,8 @@ use Rattle.format.specs.Number.{digit}
 use Rattle.format.specs.Tokens.{outside}
 use Rattle.format.proofs.BytesLaws.{same_is}
 use Rattle.format.proofs.StartLaws.{outside_anywhere, outside_later}
-use Rattle.text_numbers.specs.declared.answer.Natural.{Natural}
-use Rattle.text_numbers.specs.declared.answer.Natural.TheVariants as N
+use Rattle.std.specs.Prelude as Std
+use Rattle.std.specs.Prelude.{Some, None}
 use Rattle.text_numbers.specs.Number.{natural_in}
 use Rattle.text_bytes.proofs.Parting.{parts_from}
 use Rattle.read_extent.specs.Extent.{after_start}
@@ -65,9 +65,9 @@ unfolding leaf_kind is_ini
 leaf_no_ini [] = refl
 leaf_no_ini (b ∷ t) = go (eqb b 'a) (natural_in t 15)
   where
-    go : (v : Bool) (n : Natural) → is_ini (elim v as (λ q. Kind) [ true ↦ leaf_of n | false ↦ Stray ]) ≡ false
-    go true (N.In k) = unfold leaf_of in refl
-    go true N.Out = unfold leaf_of in refl
+    go : (v : Bool) (n : Std.Option ℕ) → is_ini (elim v as (λ q. Kind) [ true ↦ leaf_of n | false ↦ Stray ]) ≡ false
+    go true (Some k) = unfold leaf_of in refl
+    go true None = unfold leaf_of in refl
     go false n = refl
 
 word_no_ini : (t : Bytes) → same t (bytes "ini") ≡ false → is_ini (word_kind t) ≡ false

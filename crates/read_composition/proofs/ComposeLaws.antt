@@ -3,6 +3,7 @@ use Prim.Native.Nat.{ℕ, ◌+◌, ◌-◌, ◌*◌, ◌≤◌, ◌<◌}
 use mathlib.Core.Path.{◌≡◌, refl, sym, ◌∙◌, ap}
 use mathlib.Core.Bool.{Bool, true, false, ◌&&◌, ◌||◌}
 use mathlib.Core.List.{List, [], ◌∷◌}
+use Rattle.std.proofs.Common.{◌⊎◌, inl, inr}
 use native.Mathlib.Omega.{arith}
 use borrow.Author.Tests.{le-leb, lt-leb, leb-true, eq-eqb, ne_eqb, eqb-false}
 use lib.ListN.{length, set, take, drop}
@@ -20,8 +21,8 @@ use Rattle.read_composition.specs.declared.compose.Composition.{Composition}
 use Rattle.read_composition.specs.declared.compose.Walk.{Walk}
 use Rattle.model.proofs.Tests.{or_none_left, or_none_right}
 use Rattle.format.proofs.ReadLaws.{number_of_lem}
-use Rattle.text_numbers.specs.declared.answer.Natural.{Natural}
-use Rattle.text_numbers.specs.declared.answer.Natural.TheVariants as N
+use Rattle.std.specs.Prelude as Std
+use Rattle.std.specs.Prelude.{Some, None}
 use Rattle.text_bytes.specs.Find.{first_from}
 use Rattle.text_numbers.specs.Number.{natural_in}
 use Rattle.text_bytes.proofs.FindLaws.{find_after}
@@ -61,13 +62,15 @@ module _ (k : Kind) (nodes next : ℕ) (out : List ℕ) where
     unfolding kind_words placed
     put_par e = sym (put_by ∙ rw e)
 
-    pub next_syn : k ≡ Syn → next ≡ next_after k nodes next
+    pub next_none : (k ≡ Syn) ⊎ (k ≡ Stray) → next ≡ next_after k nodes next
     unfolding kind_words
-    next_syn e = sym (next_by ∙ rw e (omega arith))
+    next_none (inl e) = sym (next_by ∙ rw e (omega arith))
+    next_none (inr e) = sym (next_by ∙ rw e (omega arith))
 
-    pub put_syn : k ≡ Syn → out ≡ put_after k nodes next out
+    pub put_none : (k ≡ Syn) ⊎ (k ≡ Stray) → out ≡ put_after k nodes next out
     unfolding kind_words placed
-    put_syn e = sym (put_by ∙ rw e)
+    put_none (inl e) = sym (put_by ∙ rw e)
+    put_none (inr e) = sym (put_by ∙ rw e)
 
     pub next_set : (a b : ℕ) → k ≡ Set a b → next + 3 ≡ next_after k nodes next
     unfolding kind_words
@@ -97,42 +100,39 @@ module _ (k : Kind) (nodes next : ℕ) (out : List ℕ) where
     unfolding kind_words placed
     put_leaf a e = sym (put_by ∙ rw e)
 
-    pub next_stray : k ≡ Stray → next ≡ next_after k nodes next
-    unfolding kind_words
-    next_stray e = sym (next_by ∙ rw e (omega arith))
-
-    pub put_stray : k ≡ Stray → out ≡ put_after k nodes next out
-    unfolding kind_words placed
-    put_stray e = sym (put_by ∙ rw e)
-
 pub leaf_fits : (k : Kind) (a : ℕ) → k ≡ Leaf a → IsSmall k → Fits w32 (2 + a)
 unfolding IsSmall
 leaf_fits k a e h =
     let l : a ≤ 15 = rw e at h in
     record { fits = omega arith }
 
-pub ruleset put_laws = (next_full, put_full, next_par, put_par, next_syn, put_syn, next_set, put_set, next_ini, put_ini, next_leaf, put_leaf, next_stray, put_stray, leaf_fits)
+pub ruleset put_laws = (next_full, put_full, next_par, put_par, next_none, put_none, next_set, put_set, next_ini, put_ini, next_leaf, put_leaf, leaf_fits)
 
 -- `step`
 module _ (k : Kind) (next : ℕ) (w : Walk) where
+  pub step_none : (k ≡ Syn) ⊎ (k ≡ Stray) → w ≡ stepped k next w
+  unfolding stepped
+  step_none (inl e) = rw e
+  step_none (inr e) = rw e
+
   pub step_par : k ≡ Par
       → record { owed = w.owed + 1; leaves = w.leaves; ordered = w.ordered; nodes = w.nodes + 1; next = next } ≡ stepped k next w
   unfolding stepped
   step_par e = rw e
 
-  pub step_syn : k ≡ Syn → w ≡ stepped k next w
-  unfolding stepped
-  step_syn e = rw e
-
-  pub step_set : (a b : ℕ) → k ≡ Set a b
+  pub step_other : (k ≡ Syn → ⊥) → (k ≡ Stray → ⊥) → (k ≡ Par → ⊥) → ((a : ℕ) → k ≡ Leaf a → ⊥)
       → record { owed = w.owed; leaves = w.leaves; ordered = w.ordered; nodes = w.nodes + 1; next = next } ≡ stepped k next w
   unfolding stepped
-  step_set a b e = rw e
-
-  pub step_ini : k ≡ Ini
-      → record { owed = w.owed; leaves = w.leaves; ordered = w.ordered; nodes = w.nodes + 1; next = next } ≡ stepped k next w
-  unfolding stepped
-  step_ini e = rw e
+  step_other a b c d = go k a b c d
+    where
+      go : (x : Kind) → (x ≡ Syn → ⊥) → (x ≡ Stray → ⊥) → (x ≡ Par → ⊥) → ((a : ℕ) → x ≡ Leaf a → ⊥)
+          → record { owed = w.owed; leaves = w.leaves; ordered = w.ordered; nodes = w.nodes + 1; next = next } ≡ stepped x next w
+      go Par a b c d = absurd (c refl)
+      go Syn a b c d = absurd (a refl)
+      go (Set x y) a b c d = refl
+      go Ini a b c d = refl
+      go (Leaf x) a b c d = absurd (d x refl)
+      go Stray a b c d = absurd (b refl)
 
   pub step_leaf : (a i : ℕ) → k ≡ Leaf a → i ≡ a
       → record { owed = w.owed - 1; leaves = w.leaves + 1; ordered = w.ordered && eqb i w.leaves; nodes = w.nodes + 1; next = next }
@@ -140,32 +140,28 @@ module _ (k : Kind) (next : ℕ) (w : Walk) where
   unfolding stepped
   step_leaf a i e z = rw (e, z)
 
-  pub step_stray : k ≡ Stray → w ≡ stepped k next w
-  unfolding stepped
-  step_stray e = rw e
-
-pub ruleset step_laws = (step_par, step_syn, step_set, step_ini, step_leaf, step_stray)
+pub ruleset step_laws = (step_none, step_par, step_other, step_leaf)
 
 -- `ended`
 module _ (N : ℕ) (w : Walk) where
-  pub end_formed : w.owed ≡ 0 → record { formed = true; ordered = w.ordered && eqb w.leaves N; nodes = w.nodes; next = w.next } ≡ ending N w
+  pub end_formed : w.owed ≡ 0 → Some (record { ordered = w.ordered && eqb w.leaves N; nodes = w.nodes; next = w.next }) ≡ ending N w
   unfolding ending
   end_formed h = rw (eq-eqb w.owed 0 h, ending)
 
-  pub end_owed : (r : Composition) → (w.owed ≡ 0 → ⊥) → r ≡ ill_formed → r ≡ ending N w
+  pub end_owed : (r : Std.Option Composition) → (w.owed ≡ 0 → ⊥) → r ≡ ill_formed → r ≡ ending N w
   unfolding ending
   end_owed r h e = rw (ne_eqb w.owed 0 h, ending) e
 
 pub ruleset end_laws = (end_formed, end_owed)
 
 -- a leaf's word fits, whatever the token is
-small_natural : (t : Bytes) (n : Natural) → natural_in t 15 ≡ n → IsSmall (leaf_of n)
+small_natural : (t : Bytes) (n : Std.Option ℕ) → natural_in t 15 ≡ n → IsSmall (leaf_of n)
 unfolding IsSmall leaf_of
-small_natural t (N.In k) e =
+small_natural t (Some k) e =
     let said = natural_said t 15 k e in
     let l : natural_of t ≤ 15 = leb-true (natural_of t) 15 (number_of_lem 15 t said.0).1 in
     rw said.1 at l
-small_natural t N.Out e = tt
+small_natural t None e = tt
 
 small_leaf : (t : Bytes) → IsSmall (leaf_kind t)
 unfolding IsSmall leaf_kind
@@ -264,7 +260,7 @@ module _ (s : Bytes) (N : ℕ) (first : List ℕ) where
       unfolding kinds_of walk outside
       ends = inv ∙ ap (λ ts. walk N w out (kinds_of due (outside 0 [] ts))) (from_past space s at h)
 
-      pub read_answer : (r : Composition) → r ≡ ending N w → r ≡ composition_of N s first
+      pub read_answer : (r : Std.Option Composition) → r ≡ ending N w → r ≡ composition_of N s first
       read_answer r e = e ∙ sym (ap (λ (o : Outcome). o.answer) ends)
 
       pub read_memory : out ≡ memory_of N s first
@@ -286,7 +282,7 @@ module _ (s : Bytes) (N : ℕ) (first : List ℕ) where
         stops : outcome N s first ≡ record { answer = ill_formed; memory = out }
         stops = here ∙ next_stop N w out k _ (ap (λ x. eqb w.owed 0 || x) (sym z) ∙ g)
 
-        pub stop_answer : (c : Composition) → c ≡ ill_formed → c ≡ composition_of N s first
+        pub stop_answer : (c : Std.Option Composition) → c ≡ ill_formed → c ≡ composition_of N s first
         stop_answer c y = y ∙ sym (ap (λ (o : Outcome). o.answer) stops)
 
         pub stop_memory : out ≡ memory_of N s first

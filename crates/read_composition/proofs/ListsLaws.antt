@@ -1,19 +1,17 @@
 -- Each way out of the code of src/lists.rt.
-use Prim.Native.Nat.{ℕ, ◌+◌, ◌-◌, ◌≤◌, ◌<◌}
-use mathlib.Core.Path.{◌≡◌, sym, ◌∙◌, ap}
+use Prim.Native.Nat.{ℕ, ◌+◌}
+use mathlib.Core.Path.{◌≡◌, refl, sym, ◌∙◌, ap}
 use mathlib.Core.Bool.{Bool, true, false, ◌&&◌}
-use mathlib.Core.List.{List, ◌∷◌}
+use mathlib.Core.List.{List, [], ◌∷◌}
 use borrow.Author.Tests.{not-true, not-false}
-use lib.ListN.{length, take, drop}
+use lib.ListN.{drop}
 use Rattle.model.specs.Basic.{same}
 use Rattle.format.specs.Bytes.{Bytes, bytes, parts, comma, space}
 use Rattle.format.specs.Tokens.{tokens}
-use Rattle.text_bytes.specs.Find.{first_from}
 use Rattle.read_composition.specs.declared.list.Listed.{Listed}
 use Rattle.read_composition.specs.List.{list_of}
 use Rattle.read_composition.specs.Token.{starts_number}
 use Rattle.read_composition.specs.Lists.{list_kept, lists_kept}
-use Rattle.text_bytes.proofs.Parting.{parts_from, from_past, from_start, from_step}
 
 -- `list_kept`
 module _ (A : ℕ) (due : Bool) (t : Bytes) (p : Bool) (e : p ≡ starts_number t) where
@@ -37,25 +35,27 @@ next_yes : (A : ℕ) (due : Bool) (t : Bytes) (ts : List Bytes) → list_kept A 
 unfolding lists_kept
 next_yes A due t ts h = rw (h, lists_kept)
 
+-- after k tokens: was the last of them `syn`?
+abbrev pub Goes : Bytes → (A : ℕ) (due : Bool) (k : ℕ) → Type 0
+Goes s A due k = lists_kept A false (tokens s) ≡ lists_kept A due (drop k (parts space s))
+
 module _ (s : Bytes) (A : ℕ) where
-  pub lists_start : lists_kept A false (tokens s) ≡ lists_kept A false (parts_from space s 0)
+  pub lists_start : Goes s A false 0
   unfolding tokens
-  lists_start = ap (lists_kept A false) (sym (from_start space s))
+  lists_start = refl
 
-  module _ (at : ℕ) (due : Bool) (inv : lists_kept A false (tokens s) ≡ lists_kept A due (parts_from space s at)) where
-    pub lists_end : length s < at → true ≡ lists_kept A false (tokens s)
+  module _ (due : Bool) (k : ℕ) (inv : Goes s A due k) where
+    pub lists_end : drop k (parts space s) ≡ [] → true ≡ lists_kept A false (tokens s)
     unfolding lists_kept
-    lists_end h = sym (inv ∙ ap (lists_kept A due) (from_past space s at h))
+    lists_end h = sym (inv ∙ rw h)
 
-    module _ (r : ℕ) (p : Bool) (h : at ≤ length s) (e : r ≡ first_from s at 32) (l : r ≤ length s)
-        (q : p ≡ list_kept A due (take (r - at) (drop at s))) where
+    module _ (t : Bytes) (h : drop k (parts space s) ≡ t ∷ drop (k + 1) (parts space s)) (p : Bool) (q : p ≡ list_kept A due t) where
       pub lists_no : p ≡ false → false ≡ lists_kept A false (tokens s)
-      lists_no z = sym (inv ∙ ap (lists_kept A due) (from_step space s at r h e) ∙ next_no A due _ _ (sym q ∙ z))
+      lists_no z = sym (inv ∙ ap (lists_kept A due) h ∙ next_no A due t _ (sym q ∙ z))
 
-      pub lists_go : (d : Bool) → p ≡ true → d ≡ same (take (r - at) (drop at s)) (bytes "syn")
-          → lists_kept A false (tokens s) ≡ lists_kept A d (parts_from space s (r + 1))
-      lists_go d z w =
-          inv ∙ ap (lists_kept A due) (from_step space s at r h e) ∙ next_yes A due _ _ (sym q ∙ z) ∙
-          ap (λ x. lists_kept A x (parts_from space s (r + 1))) (sym w)
+      pub lists_go : p ≡ true → (d : Bool) → d ≡ same t (bytes "syn") → (l : ℕ) → l ≡ k + 1 → Goes s A d l
+      lists_go z d w l e =
+          inv ∙ ap (lists_kept A due) h ∙ next_yes A due t _ (sym q ∙ z) ∙
+          ap (λ x. lists_kept A x (drop (k + 1) (parts space s))) (sym w) ∙ ap (λ j. lists_kept A d (drop j (parts space s))) (sym e)
 
 pub ruleset lists_laws = (lists_start, lists_end, lists_no, lists_go, not-true, not-false)

@@ -32,7 +32,8 @@ use Rattle.read_composition.specs.declared.token.Kind.{Kind}
 use Rattle.read_composition.specs.declared.token.Kind.TheVariants.{Syn, Stray}
 use Rattle.read_composition.specs.declared.compose.Walk.{Walk}
 use Rattle.read_composition.specs.Token.{word_kind, set_kind, kind_of, is_syn, is_stray, kinds_of}
-use Rattle.read_composition.specs.Read.{kind_words, placed, put_after, stepped, at_first, ill_formed, ending, Outcome, walk, outcome, composition_of, memory_of}
+use Rattle.std.specs.Option.{is_some}
+use Rattle.read_composition.specs.Read.{kind_words, placed, put_after, stepped, at_first, ill_formed, of_tree, ending, Outcome, walk, outcome, composition_of, memory_of}
 use Rattle.read_composition.proofs.TokenNodes.{node_kind, word_node, set_node}
 use Rattle.read_composition.proofs.Owed.{owes, owes_tree, leaves_in, leaves_of, order_of}
 use Rattle.read_composition.proofs.Beyond.{ini_kind, ini_due}
@@ -256,9 +257,9 @@ module _ (N A : ℕ) (s : Bytes) (out : List ℕ) (row3 : sounds [] (tokens s) �
   by_nodes = alike N A (length (tokens s)) (tokens s) (omega arith) [] plain_nil row3 row5 row6 at_first out
 
   -- row 13
-  pub read_formed : (composition_of N s out).formed ≡ not (lacks (read_tree (read_composed [] (tokens s))))
+  pub read_formed : is_some (composition_of N s out) ≡ not (lacks (read_tree (read_composed [] (tokens s))))
   read_formed =
-      ap (λ (e : Outcome). e.answer.formed) by_nodes ∙ formed_walk N (read_composed [] (tokens s)) 1 0 true 0 0 out ∙ owes_tree (read_composed [] (tokens s))
+      ap (λ (e : Outcome). is_some e.answer) by_nodes ∙ formed_walk N (read_composed [] (tokens s)) 1 0 true 0 0 out ∙ owes_tree (read_composed [] (tokens s))
 
   module _ (c : Tree) (e : read_tree (read_composed [] (tokens s)) ≡ some c) where
     -- the count of nodes, which row 16 asks of the tokens, is the tree's
@@ -274,19 +275,19 @@ module _ (N A : ℕ) (s : Bytes) (out : List ℕ) (row3 : sounds [] (tokens s) �
         let x : outcome N s out ≡ walk N at_first out (map node_kind (nodes c)) = by_nodes ∙ ap (λ l. walk N at_first out (map node_kind l)) w in
         subst (λ x. Told N (nodes c) 0 true 0 0 out x) (sym x) (told N (nodes c) 1 0 true 0 0 out o)
 
-    pub read_is_formed : (composition_of N s out).formed ≡ true
+    pub read_is_formed : is_some (composition_of N s out) ≡ true
     unfolding lacks
     read_is_formed = read_formed ∙ ap (λ x. not (lacks x)) e
 
     -- row 14
-    pub read_ordered : (composition_of N s out).ordered ≡ not (is_disordered N c)
+    pub read_ordered : (of_tree (composition_of N s out)).ordered ≡ not (is_disordered N c)
     unfolding is_disordered
     read_ordered =
         telling.ordered ∙ order_of N (leaves_in (nodes c)) ∙ ap (λ l. same l (count_up 0 N)) (leaves_of c) ∙
         sym (not-not (same (leaves c) (count_up 0 N)))
 
     -- row 16
-    pub read_count : (composition_of N s out).nodes ≡ tree_size c
+    pub read_count : (of_tree (composition_of N s out)).nodes ≡ tree_size c
     unfolding tree_size
     read_count = telling.count ∙ zero-add (length (nodes c))
 
@@ -298,11 +299,11 @@ module _ (N A : ℕ) (s : Bytes) (out : List ℕ) (row3 : sounds [] (tokens s) �
           let l = ltb-false 64 (length (nodes c)) row16 in
           telling.words (omega arith) (omega arith)
 
-      pub read_next : (composition_of N s out).next ≡ length (flat_map node_words (nodes c))
+      pub read_next : (of_tree (composition_of N s out)).next ≡ length (flat_map node_words (nodes c))
       read_next = standing.next ∙ zero-add (length (flat_map node_words (nodes c)))
 
-      pub read_words_lem : take (composition_of N s out).next (memory_of N s out) ≡ flat_map node_words (nodes c)
+      pub read_words_lem : take (of_tree (composition_of N s out)).next (memory_of N s out) ≡ flat_map node_words (nodes c)
       read_words_lem = ap (λ n. take n (memory_of N s out)) standing.next ∙ standing.front
 
-      pub read_rest : drop (composition_of N s out).next (memory_of N s out) ≡ drop (composition_of N s out).next out
+      pub read_rest : drop (of_tree (composition_of N s out)).next (memory_of N s out) ≡ drop (of_tree (composition_of N s out)).next out
       read_rest = ap (λ n. drop n (memory_of N s out)) standing.next ∙ standing.rest ∙ ap (λ n. drop n out) (sym standing.next)

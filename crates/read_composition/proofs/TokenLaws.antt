@@ -1,7 +1,7 @@
 -- Each way out of the code of src/token.rt.
-use Prim.Native.Nat.{ℕ, ◌-◌}
+use Prim.Native.Nat.{ℕ, ◌≤◌}
 use mathlib.Core.Path.{◌≡◌, refl, sym, ◌∙◌, ap}
-use mathlib.Core.Bool.{Bool, true, false, ◌||◌}
+use mathlib.Core.Bool.{Bool, true, false, ◌||◌, ◌&&◌}
 use mathlib.Core.List.{[], ◌∷◌}
 use native.Mathlib.Omega.{arith}
 use borrow.Author.Tests.{eq-eqb, ne_eqb, not-true, not-false}
@@ -11,9 +11,9 @@ use Rattle.model.specs.Basic.{same}
 use Rattle.format.specs.Bytes.{Bytes, bytes, parts, comma, minus}
 use Rattle.format.specs.Number.{digit}
 use Rattle.text_numbers.specs.Number.{natural_in}
-use Rattle.text_numbers.specs.declared.answer.Natural.{Natural}
-use Rattle.text_numbers.specs.declared.answer.Natural.TheVariants as N
-use Rattle.text_bytes.proofs.Places.{take_rest}
+use Rattle.std.specs.Prelude as Std
+use Rattle.std.specs.Prelude.{Some, None}
+use Rattle.std.specs.Cmp.Lexicographic.{pointwise}
 use Rattle.read_composition.specs.declared.list.Listed.{Listed}
 use Rattle.read_composition.specs.declared.token.Kind.{Kind}
 use Rattle.read_composition.specs.declared.token.Kind.TheVariants.{Par, Syn, Set, Ini, Leaf, Stray}
@@ -26,42 +26,49 @@ unfolding starts_number
 starts_none [] h = refl
 starts_none (b ∷ t) h = absurd (omega arith)
 
-pub starts_first : (t : Bytes) (r : Bool) → (length t ≡ 0 → ⊥) → r ≡ (digit (get_or t 0 0) || eqb (get_or t 0 0) minus) → r ≡ starts_number t
+pub starts_first : (t : Bytes) (r : Bool) → 1 ≤ length t → r ≡ (digit (get_or t 0 0) || eqb (get_or t 0 0) minus) → r ≡ starts_number t
 unfolding starts_number
-starts_first [] r h e = absurd (h refl)
+starts_first [] r h e = absurd (omega arith)
 starts_first (b ∷ t) r h e = e
 
 pub ruleset starts_laws = (starts_none, starts_first)
 
 -- `leaf`
-pub leaf_none : (t : Bytes) → length t ≡ 0 → Stray ≡ leaf_kind t
-unfolding leaf_kind
-leaf_none [] h = refl
-leaf_none (b ∷ t) h = absurd (omega arith)
+module _ (t rest : Bytes) where
+  pub leaf_other : pointwise eqb (take 1 t) (97 ∷ []) ≡ false → Stray ≡ leaf_kind t
+  unfolding leaf_kind
+  leaf_other h = go t h
+    where
+      go : (u : Bytes) → pointwise eqb (take 1 u) (97 ∷ []) ≡ false → Stray ≡ leaf_kind u
+      go [] k = refl
+      go (b ∷ u) k = by_first (eqb b 97) refl k
+        where
+          by_first : (v : Bool) → eqb b 97 ≡ v → (v && true) ≡ false → Stray ≡ elim (eqb b 97) as (λ x. Kind) [ true ↦ leaf_of (natural_in u 15) | false ↦ Stray ]
+          by_first true e z = absurd (let q : ◌≡◌ {A = ℕ} 0 1 = cc in omega arith)
+          by_first false e z = rw e
 
-pub leaf_other : (t : Bytes) → (length t ≡ 0 → ⊥) → (get_or t 0 0 ≡ 97 → ⊥) → Stray ≡ leaf_kind t
-unfolding leaf_kind
-leaf_other [] l h = absurd (l refl)
-leaf_other (b ∷ t) l h = rw (ne_eqb b 97 h, leaf_kind)
+  module _ (h : pointwise eqb (take 1 t) (97 ∷ []) ≡ true) (i : rest ≡ drop 1 t) (n : Std.Option ℕ) (e : n ≡ natural_in rest 15) where
+    by_rest : leaf_of n ≡ leaf_kind t
+    unfolding leaf_kind
+    by_rest = ap leaf_of (e ∙ ap (λ u. natural_in u 15) i) ∙ go t h
+      where
+        go : (u : Bytes) → pointwise eqb (take 1 u) (97 ∷ []) ≡ true → leaf_of (natural_in (drop 1 u) 15) ≡ leaf_kind u
+        go [] k = absurd (let q : ◌≡◌ {A = ℕ} 0 1 = cc in omega arith)
+        go (b ∷ u) k = by_first (eqb b 97) refl k
+          where
+            by_first : (v : Bool) → eqb b 97 ≡ v → (v && true) ≡ true → leaf_of (natural_in u 15) ≡ elim (eqb b 97) as (λ x. Kind) [ true ↦ leaf_of (natural_in u 15) | false ↦ Stray ]
+            by_first true j z = rw j
+            by_first false j z = absurd (let q : ◌≡◌ {A = ℕ} 0 1 = cc in omega arith)
 
-leaf_by : (t : Bytes) → (length t ≡ 0 → ⊥) → get_or t 0 0 ≡ 97 → leaf_of (natural_in (drop 1 t) 15) ≡ leaf_kind t
-unfolding leaf_kind
-leaf_by [] l h = absurd (l refl)
-leaf_by (b ∷ t) l h = rw (eq-eqb b 97 h, leaf_kind)
+    pub leaf_in : (k : ℕ) → n ≡ Some k → Leaf k ≡ leaf_kind t
+    unfolding leaf_of
+    leaf_in k z = ap leaf_of (sym z) ∙ by_rest
 
-module _ (t : Bytes) (n : Natural) (l : length t ≡ 0 → ⊥) (h : get_or t 0 0 ≡ 97) (e : n ≡ natural_in (take (length t - 1) (drop 1 t)) 15) where
-  by_rest : leaf_of n ≡ leaf_kind t
-  by_rest = ap leaf_of (e ∙ ap (λ u. natural_in u 15) (take_rest t 1)) ∙ leaf_by t l h
+    pub leaf_out : n ≡ None → Stray ≡ leaf_kind t
+    unfolding leaf_of
+    leaf_out z = ap leaf_of (sym z) ∙ by_rest
 
-  pub leaf_in : (k : ℕ) → n ≡ N.In k → Leaf k ≡ leaf_kind t
-  unfolding leaf_of
-  leaf_in k z = ap leaf_of (sym z) ∙ by_rest
-
-  pub leaf_out : n ≡ N.Out → Stray ≡ leaf_kind t
-  unfolding leaf_of
-  leaf_out z = ap leaf_of (sym z) ∙ by_rest
-
-pub ruleset leaf_laws = (leaf_none, leaf_other, leaf_in, leaf_out)
+pub ruleset leaf_laws = (leaf_other, leaf_in, leaf_out)
 
 -- `word`
 module _ (t : Bytes) (p : Bool) (e : p ≡ same t (bytes "syn")) where
@@ -109,76 +116,52 @@ kind_word t due r h e = rw h e
 pub ruleset kind_laws = (kind_due, kind_word)
 
 module _ (k : Kind) where
-  pub syn_par : k ≡ Par → false ≡ is_syn k
-  unfolding is_syn
-  syn_par e = rw e
-
   pub syn_syn : k ≡ Syn → true ≡ is_syn k
   unfolding is_syn
   syn_syn e = rw e
 
-  pub syn_set : (a b : ℕ) → k ≡ Set a b → false ≡ is_syn k
+  pub syn_other : (k ≡ Syn → ⊥) → false ≡ is_syn k
   unfolding is_syn
-  syn_set a b e = rw e
-
-  pub syn_ini : k ≡ Ini → false ≡ is_syn k
-  unfolding is_syn
-  syn_ini e = rw e
-
-  pub syn_leaf : (a : ℕ) → k ≡ Leaf a → false ≡ is_syn k
-  unfolding is_syn
-  syn_leaf a e = rw e
-
-  pub syn_stray : k ≡ Stray → false ≡ is_syn k
-  unfolding is_syn
-  syn_stray e = rw e
-
-  pub ini_par : k ≡ Par → false ≡ is_ini k
-  unfolding is_ini
-  ini_par e = rw e
-
-  pub ini_syn : k ≡ Syn → false ≡ is_ini k
-  unfolding is_ini
-  ini_syn e = rw e
-
-  pub ini_set : (a b : ℕ) → k ≡ Set a b → false ≡ is_ini k
-  unfolding is_ini
-  ini_set a b e = rw e
+  syn_other n = go k n
+    where
+      go : (x : Kind) → (x ≡ Syn → ⊥) → false ≡ is_syn x
+      go Syn h = absurd (h refl)
+      go Par h = refl
+      go (Set a b) h = refl
+      go Ini h = refl
+      go (Leaf a) h = refl
+      go Stray h = refl
 
   pub ini_ini : k ≡ Ini → true ≡ is_ini k
   unfolding is_ini
   ini_ini e = rw e
 
-  pub ini_leaf : (a : ℕ) → k ≡ Leaf a → false ≡ is_ini k
+  pub ini_other : (k ≡ Ini → ⊥) → false ≡ is_ini k
   unfolding is_ini
-  ini_leaf a e = rw e
-
-  pub ini_stray : k ≡ Stray → false ≡ is_ini k
-  unfolding is_ini
-  ini_stray e = rw e
-
-  pub stray_par : k ≡ Par → false ≡ is_stray k
-  unfolding is_stray
-  stray_par e = rw e
-
-  pub stray_syn : k ≡ Syn → false ≡ is_stray k
-  unfolding is_stray
-  stray_syn e = rw e
-
-  pub stray_set : (a b : ℕ) → k ≡ Set a b → false ≡ is_stray k
-  unfolding is_stray
-  stray_set a b e = rw e
-
-  pub stray_ini : k ≡ Ini → false ≡ is_stray k
-  unfolding is_stray
-  stray_ini e = rw e
-
-  pub stray_leaf : (a : ℕ) → k ≡ Leaf a → false ≡ is_stray k
-  unfolding is_stray
-  stray_leaf a e = rw e
+  ini_other n = go k n
+    where
+      go : (x : Kind) → (x ≡ Ini → ⊥) → false ≡ is_ini x
+      go Ini h = absurd (h refl)
+      go Par h = refl
+      go Syn h = refl
+      go (Set a b) h = refl
+      go (Leaf a) h = refl
+      go Stray h = refl
 
   pub stray_stray : k ≡ Stray → true ≡ is_stray k
   unfolding is_stray
   stray_stray e = rw e
 
-pub ruleset is_laws = (syn_par, syn_syn, syn_set, syn_ini, syn_leaf, syn_stray, ini_par, ini_syn, ini_set, ini_ini, ini_leaf, ini_stray, stray_par, stray_syn, stray_set, stray_ini, stray_leaf, stray_stray)
+  pub stray_other : (k ≡ Stray → ⊥) → false ≡ is_stray k
+  unfolding is_stray
+  stray_other n = go k n
+    where
+      go : (x : Kind) → (x ≡ Stray → ⊥) → false ≡ is_stray x
+      go Stray h = absurd (h refl)
+      go Par h = refl
+      go Syn h = refl
+      go (Set a b) h = refl
+      go Ini h = refl
+      go (Leaf a) h = refl
+
+pub ruleset is_laws = (syn_syn, syn_other, ini_ini, ini_other, stray_stray, stray_other)

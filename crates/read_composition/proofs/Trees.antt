@@ -18,7 +18,8 @@ use Rattle.read_composition.specs.declared.token.Kind.{Kind}
 use Rattle.read_composition.specs.declared.token.Kind.TheVariants.{Par, Leaf, Stray}
 use Rattle.read_composition.specs.declared.compose.Walk.{Walk}
 use Rattle.read_composition.specs.Token.{is_stray}
-use Rattle.read_composition.specs.Read.{kind_words, placed, next_after, put_after, stepped, ending, Outcome, walk}
+use Rattle.std.specs.Option.{is_some}
+use Rattle.read_composition.specs.Read.{kind_words, placed, next_after, put_after, stepped, of_tree, ending, Outcome, walk}
 use Rattle.read_composition.proofs.TokenNodes.{node_kind}
 use Rattle.read_composition.proofs.Owed.{owes, leaves_in, in_order}
 use Rattle.read_composition.proofs.ComposeLaws.{next_by, put_by, words_few, next_stop, next_go}
@@ -46,7 +47,7 @@ placed_length (a ∷ ws) at out = placed_length ws (at + 1) (set out at a) ∙ s
 
 -- the words ws stand in the memory from `at` on, and the rest is as it was
 pub record Stand (e : Outcome) (at : ℕ) (out ws : List ℕ) : Type 0 where
-  pub next : e.answer.next ≡ at + length ws
+  pub next : (of_tree e.answer).next ≡ at + length ws
   pub front : take (at + length ws) e.memory ≡ take at out ++ ws
   pub rest : drop (at + length ws) e.memory ≡ drop (at + length ws) out
 
@@ -94,19 +95,19 @@ over_ini p = (refl, λ x w. refl)
 
 -- row 13
 formed_over : (N : ℕ) (n : Node) (ns : List Node) (o l : ℕ) (b : Bool) (m x : ℕ) (out : List ℕ) → Over n
-    → ((y : ℕ) (mem : List ℕ) → (walk N (state (suc o) l b (m + 1) y) mem (map node_kind ns)).answer.formed ≡ owes (suc o) ns)
-    → (walk N (state (suc o) l b m x) out (map node_kind (n ∷ ns))).answer.formed ≡ owes (suc o) ns
-formed_over N n ns o l b m x out h ih = ap (λ (e : Outcome). e.answer.formed) (on_over N n ns o l b m x out h) ∙ ih _ _
+    → ((y : ℕ) (mem : List ℕ) → is_some ((walk N (state (suc o) l b (m + 1) y) mem (map node_kind ns)).answer) ≡ owes (suc o) ns)
+    → is_some ((walk N (state (suc o) l b m x) out (map node_kind (n ∷ ns))).answer) ≡ owes (suc o) ns
+formed_over N n ns o l b m x out h ih = ap (λ (e : Outcome). is_some e.answer) (on_over N n ns o l b m x out h) ∙ ih _ _
 
 pub formed_walk : (N : ℕ) (ns : List Node) (o l : ℕ) (b : Bool) (m x : ℕ) (out : List ℕ)
-    → (walk N (state o l b m x) out (map node_kind ns)).answer.formed ≡ owes o ns
+    → is_some ((walk N (state o l b m x) out (map node_kind ns)).answer) ≡ owes o ns
 unfolding owes node_kind is_stray stepped
 formed_walk N [] zero l b m x out = unfold walk ending in refl
 formed_walk N [] (suc o) l b m x out = unfold walk ending in rw (ne_eqb (suc o) 0 (λ e. omega arith), ending)
 formed_walk N (n ∷ ns) zero l b m x out =
-    ap (λ (e : Outcome). e.answer.formed) (next_stop N (state 0 l b m x) out (node_kind n) (map node_kind ns) refl)
+    ap (λ (e : Outcome). is_some e.answer) (next_stop N (state 0 l b m x) out (node_kind n) (map node_kind ns) refl)
 formed_walk N (par_node ∷ ns) (suc o) l b m x out =
-    ap (λ (e : Outcome). e.answer.formed) (on N o l b m x out Par (map node_kind ns) refl) ∙
+    ap (λ (e : Outcome). is_some e.answer) (on N o l b m x out Par (map node_kind ns) refl) ∙
     formed_walk N ns (suc o + 1) l b (m + 1) (next_after Par m x) (put_after Par m x out) ∙ ap (λ i. owes i ns) (add-one (suc o))
 formed_walk N (syn_node list ∷ ns) (suc o) l b m x out =
     formed_over N (syn_node list) ns o l b m x out (over_syn list) (λ y mem. formed_walk N ns (suc o) l b (m + 1) y mem)
@@ -114,15 +115,15 @@ formed_walk N (ini_node p ∷ ns) (suc o) l b m x out =
     formed_over N (ini_node p) ns o l b m x out (over_ini p) (λ y mem. formed_walk N ns (suc o) l b (m + 1) y mem)
 formed_walk N (leaf_node a ∷ ns) (suc o) l b m x out =
     let less : suc o - 1 ≡ o = omega arith in
-    ap (λ (e : Outcome). e.answer.formed) (on N o l b m x out (Leaf a) (map node_kind ns) refl) ∙
+    ap (λ (e : Outcome). is_some e.answer) (on N o l b m x out (Leaf a) (map node_kind ns) refl) ∙
     formed_walk N ns (suc o - 1) (l + 1) (b && eqb a l) (m + 1) (next_after (Leaf a) m x) (put_after (Leaf a) m x out) ∙ ap (λ i. owes i ns) less
 formed_walk N (stray_node ∷ ns) (suc o) l b m x out =
-    ap (λ (e : Outcome). e.answer.formed) (next_stop N (state (suc o) l b m x) out Stray (map node_kind ns) (rw (ne_eqb (suc o) 0 (λ e. omega arith))))
+    ap (λ (e : Outcome). is_some e.answer) (next_stop N (state (suc o) l b m x) out Stray (map node_kind ns) (rw (ne_eqb (suc o) 0 (λ e. omega arith))))
 
 -- what else is told of nodes that make up the trees owed: rows 14 and 16, and the words
 pub record Told (N : ℕ) (ns : List Node) (l : ℕ) (b : Bool) (m x : ℕ) (out : List ℕ) (e : Outcome) : Type 0 where
-  pub ordered : e.answer.ordered ≡ (b && in_order N l (leaves_in ns))
-  pub count : e.answer.nodes ≡ m + length ns
+  pub ordered : (of_tree e.answer).ordered ≡ (b && in_order N l (leaves_in ns))
+  pub count : (of_tree e.answer).nodes ≡ m + length ns
   pub words : m + length ns ≤ max_tree_nodes → x + 3 * length ns ≤ length out → Stand e x out (flat_map node_words ns)
 
 kind_words_lem : (n : Node) → kind_words (node_kind n) ≡ node_words n

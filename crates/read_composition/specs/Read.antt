@@ -1,6 +1,8 @@
 -- The nodes of a composition, left to right. Where rows 3, 5 and 6 are not broken the answer is that of rows 13, 14 and
 -- 16, and the words are those of the tree: the laws read_formed, read_ordered, read_count and read_words_lem of
 -- proofs/Meaning.
+use Rattle.std.specs.Prelude as Std
+use Rattle.std.specs.Prelude.{Some, None}
 use Rattle.std.specs.Prelude.{ℕ, ◌+◌, ◌-◌, ◌≤◌, ◌≡◌, true, false, ◌&&◌, ◌||◌, List, [], ◌∷◌, length, set, eqb, leb}
 use Rattle.model.specs.Bounds.{last_automaton, max_tree_nodes}
 use Rattle.format.specs.Bytes.{Bytes}
@@ -68,20 +70,25 @@ place_beyond s next k = elim (is_ini k) [ true ↦ after_start s next | false �
 abbrev pub at_first : Walk
 at_first = record { owed = 1; leaves = 0; ordered = true; nodes = 0; next = 0 }
 
-abbrev pub ill_formed : Composition
-ill_formed = record { formed = false; ordered = false; nodes = 0; next = 0 }
+abbrev pub ill_formed : Std.Option Composition
+ill_formed = None
+
+-- what is said of the tree, where there is one; without one, nothing is in order, and there are no nodes and no words
+abbrev pub of_tree : Std.Option Composition → Composition
+of_tree None = record { ordered = false; nodes = 0; next = 0 }
+of_tree (Some c) = c
 
 -- the answer after the last token, with N automata
-unfoldable pub ending : (N : ℕ) → Walk → Composition
+unfoldable pub ending : (N : ℕ) → Walk → Std.Option Composition
 ending N w =
     elim (eqb w.owed 0) [
-      | true ↦ record { formed = true; ordered = w.ordered && eqb w.leaves N; nodes = w.nodes; next = w.next }
+      | true ↦ Some (record { ordered = w.ordered && eqb w.leaves N; nodes = w.nodes; next = w.next })
       | false ↦ ill_formed
     ]
 
 -- the answer and the memory
 pub record Outcome : Type 0 where
-  pub answer : Composition
+  pub answer : Std.Option Composition
   pub memory : List ℕ
 
 -- A node where no subtree is owed, and a token that is none, end it.
@@ -97,13 +104,13 @@ walk N w out (k ∷ ks) =
 unfoldable pub outcome : (N : ℕ) → Bytes → (out : List ℕ) → Outcome
 outcome N s out = walk N at_first out (kinds_of false (outside 0 [] (tokens s)))
 
-abbrev pub composition_of : (N : ℕ) → Bytes → (out : List ℕ) → Composition
+abbrev pub composition_of : (N : ℕ) → Bytes → (out : List ℕ) → Std.Option Composition
 composition_of N s out = (outcome N s out).answer
 
 abbrev pub memory_of : (N : ℕ) → Bytes → (out : List ℕ) → List ℕ
 memory_of N s out = (outcome N s out).memory
 
 -- what `read` answers and leaves
-pub record HasRead (N : ℕ) (s : Bytes) (old new : List ℕ) (r : Composition) : Type 0 where
+pub record HasRead (N : ℕ) (s : Bytes) (old new : List ℕ) (r : Std.Option Composition) : Type 0 where
   pub answer : r ≡ composition_of N s old
   pub memory : new ≡ memory_of N s old

@@ -1,12 +1,10 @@
 -- What a token of a composition is, as the code tells it. Where row 3 is not broken it is the node that the token
 -- spells: the laws word_node and set_node.
-use Rattle.std.specs.Prelude.{Bool, true, false, ◌||◌, List, [], ◌∷◌, eqb}
+use Rattle.std.specs.Prelude.{Option, Some, None, ℕ, Bool, true, false, ◌||◌, List, [], ◌∷◌, eqb}
 use Rattle.model.specs.Basic.{same}
 use Rattle.model.specs.Bounds.{last_automaton, max_actions}
 use Rattle.format.specs.Bytes.{Bytes, bytes, parts, comma, minus, 'a}
 use Rattle.format.specs.Number.{digit}
-use Rattle.text_numbers.specs.declared.answer.Natural.{Natural}
-use Rattle.text_numbers.specs.declared.answer.Natural.TheVariants as N
 use Rattle.text_numbers.specs.Number.{natural_in}
 use Rattle.read_composition.specs.declared.token.Kind.{Kind}
 use Rattle.read_composition.specs.declared.token.Kind.TheVariants.{Par, Syn, Set, Ini, Leaf, Stray}
@@ -16,9 +14,9 @@ unfoldable pub starts_number : Bytes → Bool
 starts_number [] = false
 starts_number (b ∷ t) = digit b || eqb b minus
 
-unfoldable pub leaf_of : Natural → Kind
-leaf_of (N.In k) = Leaf k
-leaf_of N.Out = Stray
+unfoldable pub leaf_of : Option ℕ → Kind
+leaf_of (Some k) = Leaf k
+leaf_of None = Stray
 
 unfoldable pub leaf_kind : Bytes → Kind
 leaf_kind [] = Stray

@@ -9,7 +9,8 @@ use model::Model;
 use read_list::Asked;
 
 // The set is that of a sound and rising list; otherwise it says nothing.
-#[derive(Clone, Copy)]
+// Stays a struct with `sound`: `list_kept` and `set_kind` of specs/ read the other fields of an unsound list too.
+#[derive(Clone, Copy, Debug, PartialEq, Eq)]
 pub struct Listed {
     pub sound: bool,
     pub rising: bool,
@@ -18,17 +19,17 @@ pub struct Listed {
 }
 
 // All numbers from 0 to 63.
-const ALL: u64 = 18446744073709551615;
+const ALL: u64 = u64::MAX;
 
 // What is asked of a list of actions, of which this is the highest.
+#[tactic(auto, using(crate::proofs::ListLaws::asked_laws))]
 fn asked(actions: u32) -> Asked
     ensures { result ≡ asked_of actions }
 {
-    let highest = arithmetic::index(actions);
     Asked {
         most: Model::ACTIONS,
         least: 1,
-        below: highest + 1,
+        below: arithmetic::index(actions) + 1,
         all: ALL,
     }
 }
@@ -46,6 +47,7 @@ fn high_word(set: u64) -> u32
 }
 
 // The set as two words. Row 5 is also about actions above the highest.
+#[tactic(auto, using(crate::proofs::ListLaws::words_laws))]
 fn in_words(list: read_list::Listed) -> Listed
     ensures { result ≡ words_of list }
 {
@@ -61,19 +63,17 @@ fn in_words(list: read_list::Listed) -> Listed
 }
 
 // A list that is not empty.
+#[tactic(auto, using(crate::proofs::ListLaws::list_laws))]
 pub(crate) fn list_of(part: &[u8], actions: u32) -> Listed
     ensures { result ≡ list_of actions (parts comma part.now) }
 {
-    let q = asked(actions);
-    let list = read_list::filled(part, q);
-    in_words(list)
+    in_words(read_list::filled(part, asked(actions)))
 }
 
 // The list of `sync=`, perhaps empty.
+#[tactic(auto, using(crate::proofs::ListLaws::list_laws))]
 pub fn sync_list(part: &[u8], actions: u32) -> Listed
     ensures { result ≡ list_of actions (list_items part.now) }
 {
-    let q = asked(actions);
-    let list = read_list::read(part, q);
-    in_words(list)
+    in_words(read_list::read(part, asked(actions)))
 }

@@ -7,12 +7,12 @@ use crate::list::list_of;
 use crate::token::{says_syn, starts_number};
 
 // `due`: the token before was `syn`.
+#[tactic(auto, using(crate::proofs::ListsLaws::kept_laws))]
 fn list_kept(token: &[u8], actions: u32, due: bool) -> bool
     ensures { result ≡ list_kept actions due token.now }
 {
     if due & starts_number(token) {
-        let l = list_of(token, actions);
-        return l.rising;
+        return list_of(token, actions).rising;
     }
     true
 }
@@ -21,15 +21,12 @@ fn list_kept(token: &[u8], actions: u32, due: bool) -> bool
 pub fn lists_sound(part: &[u8], actions: u32) -> bool
     ensures { result ≡ lists_kept actions false (tokens part.now) }
 {
-    let mut at = 0;
     let mut due = false;
-    while at <= part.len() {
-        let end = text_bytes::find(part, at, b' ');
-        if !list_kept(&part[at..end], actions, due) {
+    for token in part.split(|b| *b == b' ') {
+        if !list_kept(token, actions, due) {
             return false;
         }
-        due = says_syn(&part[at..end]);
-        at = end + 1;
+        due = says_syn(token);
     }
     true
 }

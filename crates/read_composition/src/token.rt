@@ -6,10 +6,10 @@ ghost use Rattle.read_composition.specs.Token.{starts_number, leaf_kind, word_ki
 ghost use Rattle.read_composition.specs.Token.{is_syn, is_ini, is_stray};
 
 use crate::list::list_of;
-use text_numbers::Natural;
 
 // `Syn` is the word, and `Set` the list after it, as its set. `Ini` is the word without its P.
-#[derive(Clone, Copy)]
+// Stays an enum with `Stray`: `walk` of specs/ goes over a list of kinds, and `stray_node` of the model is one of them.
+#[derive(Clone, Copy, Debug, PartialEq, Eq)]
 pub enum Kind {
     Par,
     Syn,
@@ -20,29 +20,27 @@ pub enum Kind {
 }
 
 // Does the token start with a digit or a minus?
+#[tactic(auto, using(crate::proofs::TokenLaws::starts_laws))]
 pub fn starts_number(token: &[u8]) -> bool
     ensures { result ≡ starts_number token.now }
 {
-    if token.len() == 0 {
-        return false;
+    match token {
+        [] => false,
+        [b, ..] => text_bytes::starts_number(*b),
     }
-    text_bytes::starts_number(token[0])
 }
 
 // `aK`, of the automata 0 to 15.
+#[tactic(auto, using(crate::proofs::TokenLaws::leaf_laws))]
 fn leaf(token: &[u8]) -> Kind
     ensures { result ≡ leaf_kind token.now }
 {
-    if token.len() == 0 {
+    let Some(rest) = token.strip_prefix(b"a") else {
         return Kind::Stray;
-    }
-    if token[0] != b'a' {
-        return Kind::Stray;
-    }
-    let n = text_numbers::natural(&token[1..], 15);
-    match n {
-        Natural::In(k) => Kind::Leaf(k),
-        Natural::Out => Kind::Stray,
+    };
+    match text_numbers::natural(rest, 15) {
+        Some(k) => Kind::Leaf(k),
+        None => Kind::Stray,
     }
 }
 
@@ -53,6 +51,7 @@ pub fn says_syn(token: &[u8]) -> bool
     text_bytes::same(token, b"syn")
 }
 
+#[tactic(auto, using(crate::proofs::TokenLaws::word_laws))]
 fn word(token: &[u8]) -> Kind
     ensures { result ≡ word_kind token.now }
 {
@@ -68,6 +67,7 @@ fn word(token: &[u8]) -> Kind
     leaf(token)
 }
 
+#[tactic(auto, using(crate::proofs::TokenLaws::set_laws))]
 fn set(token: &[u8]) -> Kind
     ensures { result ≡ set_kind token.now }
 {
@@ -79,47 +79,30 @@ fn set(token: &[u8]) -> Kind
 }
 
 // `due`: the token before was a `syn`, whose list this is to be.
+#[tactic(auto, using(crate::proofs::TokenLaws::kind_laws))]
 pub fn kind_of(token: &[u8], due: bool) -> Kind
     ensures { result ≡ kind_of due token.now }
 {
     if due { set(token) } else { word(token) }
 }
 
+#[tactic(auto, using(crate::proofs::TokenLaws::is_laws))]
 pub fn is_syn(k: Kind) -> bool
     ensures { result ≡ is_syn k }
 {
-    match k {
-        Kind::Par => false,
-        Kind::Syn => true,
-        Kind::Set(_, _) => false,
-        Kind::Ini => false,
-        Kind::Leaf(_) => false,
-        Kind::Stray => false,
-    }
+    matches!(k, Kind::Syn)
 }
 
+#[tactic(auto, using(crate::proofs::TokenLaws::is_laws))]
 pub fn is_ini(k: Kind) -> bool
     ensures { result ≡ is_ini k }
 {
-    match k {
-        Kind::Par => false,
-        Kind::Syn => false,
-        Kind::Set(_, _) => false,
-        Kind::Ini => true,
-        Kind::Leaf(_) => false,
-        Kind::Stray => false,
-    }
+    matches!(k, Kind::Ini)
 }
 
+#[tactic(auto, using(crate::proofs::TokenLaws::is_laws))]
 pub fn is_stray(k: Kind) -> bool
     ensures { result ≡ is_stray k }
 {
-    match k {
-        Kind::Par => false,
-        Kind::Syn => false,
-        Kind::Set(_, _) => false,
-        Kind::Ini => false,
-        Kind::Leaf(_) => false,
-        Kind::Stray => true,
-    }
+    matches!(k, Kind::Stray)
 }

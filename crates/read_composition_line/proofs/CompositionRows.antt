@@ -37,7 +37,7 @@ use Rattle.format.proofs.TreeText.{read_composed}
 use Rattle.format.proofs.TreeFaults.{starts_back}
 use Rattle.read_composition.specs.declared.compose.Composition.{Composition}
 use Rattle.read_composition.specs.Lists.{lists_kept}
-use Rattle.read_composition.specs.Read.{composition_of, memory_of}
+use Rattle.read_composition.specs.Read.{of_tree, composition_of, memory_of}
 use Rattle.read_composition.proofs.AfterSyn.{list_case, syn_sound, lists_sound_lem}
 use Rattle.read_composition.proofs.Meaning.{read_formed, read_size, read_is_formed, read_ordered, read_count, read_words_lem}
 use Rattle.read_starts.specs.declared.judging.Judged.{Judged}
@@ -45,7 +45,11 @@ use Rattle.read_starts.specs.Judged.{judged_all, row_of}
 use Rattle.read_starts.specs.Words.{starts_words}
 use Rattle.read_starts.specs.Rows.{starts_read, start_preds, starts_rows}
 use Rattle.read_starts.proofs.StartRows.{judged_rows, judged_nodes, judged_count, judged_words, judged_same, words_same}
-use Rattle.read_form.specs.declared.LineRead.TheVariants.{Sound, Fault}
+use Rattle.std.specs.Prelude as P
+use Rattle.std.specs.Prelude.{Result, Ok, Err}
+use Rattle.std.specs.Option.{is_some}
+use Rattle.model.specs.Row as Row
+use Rattle.read_form.specs.Outcome.{said}
 use Rattle.read_form.specs.Form.{line_of, misformed, fields_of}
 use Rattle.read_form.specs.Outcome.{then_row, answered, written}
 use Rattle.read_form.proofs.FormLaws.{row2_by}
@@ -108,7 +112,7 @@ blank_long = length-replicate {A = ℕ} 192 0
 
 module _ (N A : ℕ) (s : Bytes) (three : sounds [] (tokens s) ≡ true) (five : lists_sound A [] (tokens s) ≡ true)
     (six : exists lacks (starts_read s) ≡ false) where
-  abbrev its : Composition
+  abbrev its : P.Option Composition
   its = composition_of N s blank
 
   tree_rows : tree_fault N s ≡ rows_of_tree N s
@@ -117,15 +121,15 @@ module _ (N A : ℕ) (s : Bytes) (three : sounds [] (tokens s) ≡ true) (five :
     where
       go : (o : Option Tree) → tree_spelled s ≡ o → rows_by its ≡ rows_of_tree N s
       go none e =
-          let f : its.formed ≡ false = read_formed N A s blank three five six ∙ ap (λ (o : Option Tree). not (lacks o)) e in
+          let f : is_some its ≡ false = read_formed N A s blank three five six ∙ ap (λ (o : Option Tree). not (lacks o)) e in
           is_broken 13 _ _ (ap not f) ∙ sym (is_broken 13 _ _ (ap lacks e))
       go (some t) e =
           let f = read_is_formed N A s blank three five six t e in
-          let o : not its.ordered ≡ is_disordered N t = ap not (read_ordered N A s blank three five six t e) ∙ not-not (is_disordered N t) in
-          let n : its.nodes ≡ length (read_composed [] (tokens s)) =
+          let o : not (of_tree its).ordered ≡ is_disordered N t = ap not (read_ordered N A s blank three five six t e) ∙ not-not (is_disordered N t) in
+          let n : (of_tree its).nodes ≡ length (read_composed [] (tokens s)) =
           read_count N A s blank three five six t e ∙ sym (read_size N A s blank three five six t e) in
           not_broken 13 _ _ (ap not f) ∙
-          ap (λ (b : Bool). broken 14 b (broken 16 (is_too_large its.nodes) none))
+          ap (λ (b : Bool). broken 14 b (broken 16 (is_too_large (of_tree its).nodes) none))
           (o ∙ ap (λ (x : Option Tree). is_disordered N (tree_or x)) (sym e)) ∙
           ap (λ (k : ℕ). broken 14 (is_disordered N (tree_or (tree_spelled s))) (broken 16 (is_too_large k) none)) n ∙
           sym (not_broken 13 _ _ (ap lacks e))
@@ -135,14 +139,14 @@ module _ (N A : ℕ) (s : Bytes) (three : sounds [] (tokens s) ≡ true) (five :
   unfolding tree_words tree_in lacks or_else
   tree_words_lem h = go (tree_spelled s) refl
     where
-      go : (o : Option Tree) → tree_spelled s ≡ o → its.nodes ∷ take its.next (memory_of N s blank) ≡ words_of (tree_or (tree_spelled s))
+      go : (o : Option Tree) → tree_spelled s ≡ o → (of_tree its).nodes ∷ take (of_tree its).next (memory_of N s blank) ≡ words_of (tree_or (tree_spelled s))
       go none e = absurd (true≢false (sym (ap lacks e) ∙ (unbroken 13 _ _ h).0))
       go (some t) e =
           let b13 = unbroken 13 _ _ h in
           let b14 = unbroken 14 _ _ b13.1 in
           let b16 = unbroken 16 _ none b14.1 in
           let small : is_too_large (tree_size t) ≡ false = ap is_too_large (sym (read_size N A s blank three five six t e)) ∙ b16.0 in
-          ap (λ (k : ℕ). k ∷ take its.next (memory_of N s blank)) (read_count N A s blank three five six t e) ∙
+          ap (λ (k : ℕ). k ∷ take (of_tree its).next (memory_of N s blank)) (read_count N A s blank three five six t e) ∙
           ap (λ (l : List ℕ). tree_size t ∷ l) (read_words_lem N A s blank three five six t e small blank_long) ∙
           ap (λ (x : Option Tree). words_of (tree_or x)) (sym e)
 
@@ -315,19 +319,18 @@ module _ (r : Reading) (c : Counts) (t : List ℕ) (k : Counted r c) (d : Declar
 
   -- what the paper asks of the reader of one line, for `compose=`
   module _ (at : ℕ) where
-    pub compose_faulty : (row : ℕ) → fault r compose (line_of s ended) ≡ some row → compose_read s ended c t room high at ≡ Fault row
+    pub compose_faulty : (row : ℕ) → fault r compose (line_of s ended) ≡ some row → compose_read s ended c t room high at ≡ Err (Row.row row)
     unfolding compose_read part_told
     compose_faulty row h = answered_fault _ row _ (compose_fault_lem ∙ h)
 
     pub compose_sound : fault r compose (line_of s ended) ≡ none
         → (compose_read s ended c t room high at
-        ≡ Sound (number_of (entry compose (line_of s ended))) (nodes_of (entry compose (line_of s ended)))
-        (next_place at (length (line_words (entry compose (line_of s ended))))))
+        ≡ Ok (said (number_of (entry compose (line_of s ended))) (nodes_of (entry compose (line_of s ended))) (next_place at (length (line_words (entry compose (line_of s ended)))))))
         × (compose_after s ended c t room high at ≡ put at (line_words (entry compose (line_of s ended))) t)
     unfolding compose_read compose_after part_told part_after entry number_of nodes_of line_words the_tree tree_of nodes_in the_starts starts_of tree_tokens value_of spelling
     compose_sound h =
         let e : compose_fault s ended c t room high ≡ none = compose_fault_lem ∙ h in (
-          answered_sound _ _ e ∙ ap₂ (λ (n : ℕ) (l : List ℕ). Sound 0 n (next_place at (length l))) (its_nodes h) (its_words h),
+          answered_sound _ _ e ∙ ap₂ (λ (n : ℕ) (l : List ℕ). Ok (said 0 n (next_place at (length l)))) (its_nodes h) (its_words h),
           written_sound _ _ t e ∙ ap (λ (l : List ℕ). put at l t) (its_words h),
         )
 
@@ -358,8 +361,8 @@ module _ (s : Bytes) (ended : Bool) (c : Counts) (t : List ℕ) (at room most : 
   pub compose_room : compose_read s ended c t room room at ≡ compose_read s ended c t most most at
   unfolding compose_read part_told
   compose_room =
-      ap₂ (λ (o : Option ℕ) (x : Judged). answered o (Sound 0 x.nodes (next_place at (length (composed_words c t (part_of s) room room))))) compose_same starts_same ∙
-      ap (λ (l : List ℕ). answered (compose_fault s ended c t most most) (Sound 0 (starts_judged c t (part_of s) most most).nodes (next_place at (length l)))) all_same
+      ap₂ (λ (o : Option ℕ) (x : Judged). answered o (said 0 x.nodes (next_place at (length (composed_words c t (part_of s) room room))))) compose_same starts_same ∙
+      ap (λ (l : List ℕ). answered (compose_fault s ended c t most most) (said 0 (starts_judged c t (part_of s) most most).nodes (next_place at (length l)))) all_same
 
   pub compose_room_after : compose_after s ended c t room room at ≡ compose_after s ended c t most most at
   unfolding compose_after part_after

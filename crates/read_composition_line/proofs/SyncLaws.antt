@@ -25,7 +25,9 @@ use Rattle.read_composition.specs.declared.list.Listed.{Listed}
 use Rattle.read_composition.specs.List.{list_of}
 use Rattle.read_composition.proofs.Numbers.{list_sound, list_rising, list_set}
 use Rattle.read_list.proofs.Meaning.{items_ranged}
-use Rattle.read_form.specs.declared.LineRead.TheVariants.{Sound, Fault}
+use Rattle.std.specs.Prelude.{Result, Ok, Err}
+use Rattle.model.specs.Row as Row
+use Rattle.read_form.specs.Outcome.{said}
 use Rattle.table_append.specs.Append.{next_place, put}
 use Rattle.read_form.specs.Form.{line_of, value_after, misformed, fields_of}
 use Rattle.model.proofs.Decode.{unbroken, is_broken, not_broken}
@@ -37,9 +39,9 @@ use Rattle.read_form.proofs.Outcomes.{same_row, answered_fault, answered_sound, 
 -- `sync`
 module _ (s : Bytes) (ended : Bool) (c : Counts) (words : List ℕ) (at : ℕ) where
   module _ (row : ℕ) (e : sync_fault s ended c ≡ some row) where
-    read_fault : Fault row ≡ sync_read s ended c at
+    read_fault : Err (Row.row row) ≡ sync_read s ended c at
     unfolding sync_read
-    read_fault = sym (answered_fault (sync_fault s ended c) row (Sound 0 0 (next_place at 2)) e)
+    read_fault = sym (answered_fault (sync_fault s ended c) row (said 0 0 (next_place at 2)) e)
 
     after_fault : words ≡ sync_after s ended c words at
     unfolding sync_after
@@ -51,7 +53,7 @@ module _ (s : Bytes) (ended : Bool) (c : Counts) (words : List ℕ) (at : ℕ) w
       unfolding sync_fault
       form_fault = is_broken 2 _ _ (sym hm ∙ f)
 
-      pub form_read : Fault 2 ≡ sync_read s ended c at
+      pub form_read : Err (Row.row 2) ≡ sync_read s ended c at
       form_read = read_fault 2 form_fault
 
       pub form_after : words ≡ sync_after s ended c words at
@@ -73,7 +75,7 @@ module _ (s : Bytes) (ended : Bool) (c : Counts) (words : List ℕ) (at : ℕ) w
         sound_fault : sync_fault s ended c ≡ some 3
         sound_fault = rows ∙ is_broken 3 _ _ (ap not g)
 
-        pub sound_read : Fault 3 ≡ sync_read s ended c at
+        pub sound_read : Err (Row.row 3) ≡ sync_read s ended c at
         sound_read = read_fault 3 sound_fault
 
         pub sound_after : words ≡ sync_after s ended c words at
@@ -84,7 +86,7 @@ module _ (s : Bytes) (ended : Bool) (c : Counts) (words : List ℕ) (at : ℕ) w
           rising_fault : sync_fault s ended c ≡ some 5
           rising_fault = rows ∙ not_broken 3 _ _ (ap not g) ∙ is_broken 5 _ _ (ap not h)
 
-          pub rising_read : Fault 5 ≡ sync_read s ended c at
+          pub rising_read : Err (Row.row 5) ≡ sync_read s ended c at
           rising_read = read_fault 5 rising_fault
 
           pub rising_after : words ≡ sync_after s ended c words at
@@ -94,11 +96,11 @@ module _ (s : Bytes) (ended : Bool) (c : Counts) (words : List ℕ) (at : ℕ) w
           none_broken : sync_fault s ended c ≡ none
           none_broken = rows ∙ not_broken 3 _ _ (ap not g) ∙ not_broken 5 _ none (ap not h)
 
-          pub set_read : (q : ℕ) → q ≡ next_place p 1 → Sound 0 0 q ≡ sync_read s ended c at
+          pub set_read : (q : ℕ) → q ≡ next_place p 1 → Ok (said 0 0 q) ≡ sync_read s ended c at
           unfolding sync_read
           set_read q hq =
-              ap (λ (n : ℕ). Sound 0 0 n) (hq ∙ ap (λ (n : ℕ). next_place n 1) hp ∙ next_then at 1 1) ∙
-              sym (answered_sound (sync_fault s ended c) (Sound 0 0 (next_place at 2)) none_broken)
+              ap (λ (n : ℕ). Ok (said 0 0 n)) (hq ∙ ap (λ (n : ℕ). next_place n 1) hp ∙ next_then at 1 1) ∙
+              sym (answered_sound (sync_fault s ended c) (said 0 0 (next_place at 2)) none_broken)
 
           pub set_after : (x y : List ℕ) → x ≡ put at (l.low ∷ []) words → y ≡ put p (l.high ∷ []) x → y ≡ sync_after s ended c words at
           unfolding sync_after
@@ -162,18 +164,17 @@ module _ (r : Reading) (c : Counts) (counted : Counted r c) (s : Bytes) (ended :
 
 -- what the paper asks of the reader of one line, for `sync=`
 module _ (r : Reading) (c : Counts) (words : List ℕ) (at : ℕ) (s : Bytes) (ended : Bool) (counted : Counted r c) where
-  pub sync_faulty : (row : ℕ) → fault r sync (line_of s ended) ≡ some row → sync_read s ended c at ≡ Fault row
+  pub sync_faulty : (row : ℕ) → fault r sync (line_of s ended) ≡ some row → sync_read s ended c at ≡ Err (Row.row row)
   unfolding sync_read
-  sync_faulty row h = answered_fault (sync_fault s ended c) row (Sound 0 0 (next_place at 2)) (sync_fault_lem r c counted s ended ∙ h)
+  sync_faulty row h = answered_fault (sync_fault s ended c) row (said 0 0 (next_place at 2)) (sync_fault_lem r c counted s ended ∙ h)
 
   pub sync_sound : fault r sync (line_of s ended) ≡ none
       → (sync_read s ended c at
-      ≡ Sound (number_of (entry sync (line_of s ended))) (nodes_of (entry sync (line_of s ended)))
-      (next_place at (length (line_words (entry sync (line_of s ended))))))
+      ≡ Ok (said (number_of (entry sync (line_of s ended))) (nodes_of (entry sync (line_of s ended))) (next_place at (length (line_words (entry sync (line_of s ended)))))))
       × (sync_after s ended c words at ≡ put at (line_words (entry sync (line_of s ended))) words)
   unfolding sync_read sync_after entry number_of nodes_of line_words set_words sync_list field fields is place value_of spelling
   sync_sound h =
       let e : sync_fault s ended c ≡ none = sync_fault_lem r c counted s ended ∙ h in (
-        answered_sound (sync_fault s ended c) (Sound 0 0 (next_place at 2)) e,
+        answered_sound (sync_fault s ended c) (said 0 0 (next_place at 2)) e,
         written_sound (sync_fault s ended c) _ words e ∙ ap (λ (l : List ℕ). put at l words) (words_by r c counted s ended h),
       )

@@ -1,6 +1,8 @@
 -- The line `compose=C` as the code reads it. It breaks the rows of `fault` and says what `entry` says: the laws
 -- compose_faulty and compose_sound.
-use Rattle.std.specs.Prelude.{ℕ, Bool, false, not, List, [], ◌∷◌, ◌++◌, length, take, replicate}
+use Rattle.std.specs.Prelude.{ℕ, Bool, false, not, List, [], ◌∷◌, ◌++◌, length, take, replicate, Result}
+use Rattle.std.specs.Prelude as Std
+use Rattle.std.specs.Option.{is_some}
 use Rattle.std.proofs.Math.Option.{Option, none}
 use Rattle.model.specs.Limits.{broken, is_too_large}
 use Rattle.line_order.specs.declared.Counts.{Counts}
@@ -9,12 +11,12 @@ use Rattle.format.specs.Bytes.{Bytes, bytes}
 use Rattle.format.specs.Tokens.{tokens, sounds}
 use Rattle.read_composition.specs.declared.compose.Composition.{Composition}
 use Rattle.read_composition.specs.Lists.{lists_kept}
-use Rattle.read_composition.specs.Read.{composition_of, memory_of}
+use Rattle.read_composition.specs.Read.{of_tree, composition_of, memory_of}
 use Rattle.read_form.specs.declared.LineRead.{LineRead}
-use Rattle.read_form.specs.declared.LineRead.TheVariants.{Sound}
+use Rattle.model.specs.declared.Row.{Row}
 use Rattle.table_append.specs.Append.{next_place, put}
 use Rattle.read_form.specs.Form.{value_after, misformed}
-use Rattle.read_form.specs.Outcome.{then_row, answered, written}
+use Rattle.read_form.specs.Outcome.{said, then_row, answered, written}
 use Rattle.table_line.specs.Line.{ranges_in}
 use Rattle.read_starts.specs.declared.judging.Judged.{Judged}
 use Rattle.read_starts.specs.Judged.{judged_all, row_of}
@@ -25,22 +27,22 @@ abbrev pub blank : List ℕ
 blank = replicate 192 0
 
 -- The tree of N automata that `part` spells, where rows 3 and 5 are not broken.
-unfoldable pub tree_in : (N : ℕ) (part : Bytes) → Composition
+unfoldable pub tree_in : (N : ℕ) (part : Bytes) → Std.Option Composition
 tree_in N part = composition_of N part blank
 
 unfoldable pub tree_fault : (N : ℕ) (part : Bytes) → Option ℕ
 tree_fault N part =
-    broken 13 (not (tree_in N part).formed)
-    (broken 14 (not (tree_in N part).ordered)
-    (broken 16 (is_too_large (tree_in N part).nodes)
+    broken 13 (not (is_some (tree_in N part)))
+    (broken 14 (not (of_tree (tree_in N part)).ordered)
+    (broken 16 (is_too_large (of_tree (tree_in N part)).nodes)
     none))
 
 -- how many nodes, and the words of the nodes
 unfoldable pub tree_words : (N : ℕ) (part : Bytes) → List ℕ
-tree_words N part = (tree_in N part).nodes ∷ take (tree_in N part).next (memory_of N part blank)
+tree_words N part = (of_tree (tree_in N part)).nodes ∷ take (of_tree (tree_in N part)).next (memory_of N part blank)
 
-unfoldable pub tree_read : (N : ℕ) (part : Bytes) (at : ℕ) → LineRead
-tree_read N part at = answered (tree_fault N part) (Sound 0 0 (next_place at (length (tree_words N part))))
+unfoldable pub tree_read : (N : ℕ) (part : Bytes) (at : ℕ) → Result LineRead Row
+tree_read N part at = answered (tree_fault N part) (said 0 0 (next_place at (length (tree_words N part))))
 
 unfoldable pub tree_after : (N : ℕ) (part : Bytes) (words : List ℕ) (at : ℕ) → List ℕ
 tree_after N part words at = written (tree_fault N part) (put at (tree_words N part) words) words
@@ -60,16 +62,16 @@ module _ (c : Counts) (words : List ℕ) (part : Bytes) (room high : ℕ) where
 
 -- the answer to rows and words, and the buffer after it
 module _ (o : Option ℕ) (c : Counts) (words : List ℕ) (part : Bytes) (room high at : ℕ) where
-  unfoldable pub part_told : LineRead
+  unfoldable pub part_told : Result LineRead Row
   part_told =
-      answered o (Sound 0 (starts_judged c words part room high).nodes
+      answered o (said 0 (starts_judged c words part room high).nodes
       (next_place at (length (composed_words c words part room high))))
 
   unfoldable pub part_after : List ℕ
   part_after = written o (put at (composed_words c words part room high) words) words
 
 module _ (c : Counts) (words : List ℕ) (part : Bytes) (room high at : ℕ) where
-  unfoldable pub composed_read : LineRead
+  unfoldable pub composed_read : Result LineRead Row
   composed_read = part_told (composed_fault c words part room high) c words part room high at
 
   unfoldable pub composed_after : List ℕ
@@ -87,7 +89,7 @@ module _ (s : Bytes) (ended : Bool) (c : Counts) (words : List ℕ) (room high :
       (broken 5 (not (lists_kept (capped c.actions) false (tokens (part_of s))))
       (composed_fault c words (part_of s) room high)))
 
-  unfoldable pub compose_read : (at : ℕ) → LineRead
+  unfoldable pub compose_read : (at : ℕ) → Result LineRead Row
   compose_read at = part_told compose_fault c words (part_of s) room high at
 
   unfoldable pub compose_after : (at : ℕ) → List ℕ

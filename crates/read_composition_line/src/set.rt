@@ -3,7 +3,7 @@ ghost use Rattle.std.specs.Prelude.{◌≡◌};
 ghost use Rattle.read_composition_line.specs.Sync.{sync_read, sync_after};
 
 use line_order::Counts;
-use model::Model;
+use model::{Model, Row};
 use read_form::LineRead;
 use table_append::append_one;
 
@@ -14,22 +14,26 @@ pub fn sync(
     counts: Counts,
     words: &mut [u32; Model::WORDS],
     at: usize,
-) -> LineRead
+) -> Result<LineRead, Row>
     ensures { (result ≡ sync_read line.now ended counts at)
         × (words.new ≡ sync_after line.now ended counts words.old at) }
 {
     if read_form::misformed(line, ended, b"sync=", 0) {
-        return LineRead::Fault(2);
+        return Err(Row(2));
     }
     let a = counts.actions;
     let list = read_composition::sync_list(read_form::value(line, b"sync="), line_order::capped(a));
     if !list.sound {
-        return LineRead::Fault(3);
+        return Err(Row(3));
     }
     if !list.rising {
-        return LineRead::Fault(5);
+        return Err(Row(5));
     }
     let second = append_one(words, at, list.low);
     let next = append_one(words, second, list.high);
-    LineRead::Sound(0, 0, next)
+    Ok(LineRead {
+        number: 0,
+        nodes: 0,
+        next,
+    })
 }

@@ -8,7 +8,7 @@ ghost use Rattle.read_composition_line.specs.Composition.{tree_read, tree_after,
 ghost use Rattle.read_composition_line.specs.Composition.{composed_read, composed_after, compose_read, compose_after};
 
 use line_order::Counts;
-use model::{Model, Tree};
+use model::{Model, Row, Tree};
 use read_form::LineRead;
 use read_starts::Judged;
 use read_tokens::numbers_sound;
@@ -23,25 +23,30 @@ fn append_nodes(words: &mut [u32; Model::WORDS], at: usize, memory: &[u32; 192],
 }
 
 // Rows 13, 14 and 16; then the count of the nodes, and their words.
-fn tree(part: &[u8], automata: usize, words: &mut [u32; Model::WORDS], at: usize) -> LineRead
+fn tree(
+    part: &[u8],
+    automata: usize,
+    words: &mut [u32; Model::WORDS],
+    at: usize,
+) -> Result<LineRead, Row>
     ensures { (result ≡ tree_read automata part.now at)
         × (words.new ≡ tree_after automata part.now words.old at) }
 {
     let mut memory = [0u32; 192];
-    let c = read_composition::read(part, automata, &mut memory);
-    if !c.formed {
-        return LineRead::Fault(13);
-    }
+    let c = read_composition::read(part, automata, &mut memory).ok_or(Row(13))?;
     if !c.ordered {
-        return LineRead::Fault(14);
+        return Err(Row(14));
     }
-    let n = c.nodes;
-    if Tree::NODES < n {
-        return LineRead::Fault(16);
+    if Tree::NODES < c.nodes {
+        return Err(Row(16));
     }
-    let first = append_one(words, at, n as u32);
+    let first = append_one(words, at, c.nodes as u32);
     let next = append_nodes(words, first, &memory, c.next);
-    LineRead::Sound(0, 0, next)
+    Ok(LineRead {
+        number: 0,
+        nodes: 0,
+        next,
+    })
 }
 
 // How many P there are, and their words.
@@ -89,7 +94,7 @@ fn composed(
     at: usize,
     nodes: &mut [u32],
     sorts: &mut [bool],
-) -> LineRead
+) -> Result<LineRead, Row>
     ensures value { result ≡ composed_read counts words.old part.now (length nodes.old)
         (length sorts.old) at }
     ensures words_after { words.new ≡ composed_after counts words.old part.now
@@ -98,17 +103,16 @@ fn composed(
         × Scratch sorts.old sorts.new }
 {
     let j = starts(part, counts, words, nodes, sorts);
-    if j.row != 0 {
-        return LineRead::Fault(j.row);
+    if let Some(row) = j.row {
+        return Err(row);
     }
-    let n = counts.automata;
-    let read = tree(part, n, words, at);
-    match read {
-        LineRead::Sound(_, _, next) => {
-            LineRead::Sound(0, j.nodes, append_starts(part, j.count, words, next, nodes))
-        }
-        LineRead::Fault(row) => LineRead::Fault(row),
-    }
+    let trees = tree(part, counts.automata, words, at)?;
+    let next = append_starts(part, j.count, words, trees.next, nodes);
+    Ok(LineRead {
+        number: 0,
+        nodes: j.nodes,
+        next,
+    })
 }
 
 // Rows 2, 3 and 5, and then those of the P's and of the tree.
@@ -120,7 +124,7 @@ pub fn composition(
     at: usize,
     nodes: &mut [u32],
     sorts: &mut [bool],
-) -> LineRead
+) -> Result<LineRead, Row>
     ensures value { result ≡ compose_read line.now ended counts words.old
         (length nodes.old) (length sorts.old) at }
     ensures words_after { words.new ≡ compose_after line.now ended counts words.old
@@ -129,15 +133,15 @@ pub fn composition(
         × Scratch sorts.old sorts.new }
 {
     if read_form::misformed(line, ended, b"compose=", 0) {
-        return LineRead::Fault(2);
+        return Err(Row(2));
     }
     let part = read_form::value(line, b"compose=");
     if !numbers_sound(part) {
-        return LineRead::Fault(3);
+        return Err(Row(3));
     }
     let a = counts.actions;
     if !read_composition::lists_sound(part, line_order::capped(a)) {
-        return LineRead::Fault(5);
+        return Err(Row(5));
     }
     composed(part, counts, words, at, nodes, sorts)
 }

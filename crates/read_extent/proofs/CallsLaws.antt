@@ -12,8 +12,7 @@ use Rattle.format.specs.Bytes.{Bytes, bytes}
 use Rattle.format.specs.Number.{within, natural_of}
 use Rattle.format.specs.Tokens.{find, calls}
 use Rattle.format.proofs.ReadLaws.{number_of_lem}
-use Rattle.text_numbers.specs.declared.answer.Natural.{Natural}
-use Rattle.text_numbers.specs.declared.answer.Natural.TheVariants as N
+use Rattle.std.specs.Prelude.{Option, Some, None}
 use Rattle.text_numbers.specs.Number.{natural_in}
 use Rattle.text_numbers.proofs.NumberLaws.{natural_said, natural_denied}
 use Rattle.read_extent.specs.Extent.{is_count, count_calls, calls_in}
@@ -40,14 +39,14 @@ calls_none t n e = e
 pub ruleset calls_laws = (calls_here, calls_on, calls_none)
 
 -- `count_calls`
-module _ (t : Bytes) (n : Natural) (e : n ≡ natural_in t 512) where
-  pub count_in : (k i : ℕ) → n ≡ N.In k → i ≡ k → i ≡ count_calls t
+module _ (t : Bytes) (n : Option ℕ) (e : n ≡ natural_in t 512) where
+  pub count_in : (k i : ℕ) → n ≡ Some k → i ≡ k → i ≡ count_calls t
   unfolding count_calls
   count_in k i h g =
       let s = natural_said t 512 k (sym e ∙ h) in
       rw (s.0, count_calls) (g ∙ sym s.1)
 
-  pub count_out : n ≡ N.Out → 0 ≡ count_calls t
+  pub count_out : n ≡ None → 0 ≡ count_calls t
   unfolding count_calls
   count_out h = rw (natural_denied t 512 (sym e ∙ h), count_calls)
 

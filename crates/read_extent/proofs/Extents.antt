@@ -20,8 +20,7 @@ use Rattle.format.proofs.TreeText.{starts_ini, starts_other}
 use Rattle.text_bytes.specs.Find.{first_from}
 use Rattle.text_bytes.proofs.Places.{rest_past}
 use Rattle.text_bytes.proofs.Parting.{parts_from, from_within, from_past, from_step}
-use Rattle.read_extent.specs.declared.places.Start.{Start}
-use Rattle.read_extent.specs.declared.places.Start.TheVariants.{At, Nothing}
+use Rattle.std.specs.Prelude.{Option, Some, None}
 use Rattle.read_extent.specs.Extent.{is_count, count_calls, calls_in, taken, span, after_start, start_among, next_start}
 use Rattle.read_extent.proofs.PlacesLaws.{found, one_on, after_start_lem, next_start_lem}
 
@@ -125,7 +124,7 @@ pub record Next (s : Bytes) (from at : ℕ) (b : Bytes) : Type 0 where
   pub later : from < at
   pub within : at ≤ length s + 1
 
-next_among : (ts : List Bytes) (s : Bytes) (from at : ℕ) (b : Bytes) → from ≤ length s + 1 → parts_from space s from ≡ ts → start_among from ts ≡ At at → Next s from at b
+next_among : (ts : List Bytes) (s : Bytes) (from at : ℕ) (b : Bytes) → from ≤ length s + 1 → parts_from space s from ≡ ts → start_among from ts ≡ Some at → Next s from at b
 unfolding start_among span
 next_among [] s from at b h e g = let z : ◌≡◌ {A = ℕ} 0 1 = cc in absurd (omega arith)
 next_among (t ∷ ts) s from at b h e g = go (same t (bytes "ini")) refl g (λ i. next_among ts s (from + length t + 1) at t i)
@@ -139,8 +138,8 @@ next_among (t ∷ ts) s from at b h e g = go (same t (bytes "ini")) refl g (λ i
     there : parts_from space s (from + length t + 1) ≡ ts
     there = ap (parts_from space s) place ∙ after_t.tokens_there
 
-    go : (v : Bool) → same t (bytes "ini") ≡ v → elim v as (λ x. Start) [ true ↦ At (from + length t + 1) | false ↦ start_among (from + length t + 1) ts ] ≡ At at
-        → (from + length t + 1 ≤ length s + 1 → parts_from space s (from + length t + 1) ≡ ts → start_among (from + length t + 1) ts ≡ At at → Next s (from + length t + 1) at t) → Next s from at b
+    go : (v : Bool) → same t (bytes "ini") ≡ v → elim v as (λ x. Option ℕ) [ true ↦ Some (from + length t + 1) | false ↦ start_among (from + length t + 1) ts ] ≡ Some at
+        → (from + length t + 1 ≤ length s + 1 → parts_from space s (from + length t + 1) ≡ ts → start_among (from + length t + 1) ts ≡ Some at → Next s (from + length t + 1) at t) → Next s from at b
     go true q k ih =
         let p : from + length t + 1 ≡ at = cc in
         let i = after_t.inside in
@@ -163,17 +162,17 @@ next_among (t ∷ ts) s from at b h e g = go (same t (bytes "ini")) refl g (λ i
           within = n.within;
         }
 
-pub next_is : (s : Bytes) (from at : ℕ) (b : Bytes) → from ≤ length s + 1 → next_start s from ≡ At at → Next s from at b
+pub next_is : (s : Bytes) (from at : ℕ) (b : Bytes) → from ≤ length s + 1 → next_start s from ≡ Some at → Next s from at b
 next_is s from at b h e = next_among (parts_from space s from) s from at b h refl (sym (next_start_lem s from) ∙ e)
 
-none_among : (ts : List Bytes) (at : ℕ) (b : Bytes) → start_among at ts ≡ Nothing → starts_in 0 b ts ≡ []
+none_among : (ts : List Bytes) (at : ℕ) (b : Bytes) → start_among at ts ≡ None → starts_in 0 b ts ≡ []
 unfolding start_among starts_in
 none_among [] at b g = refl
 none_among (t ∷ ts) at b g = go (same t (bytes "ini")) refl g (none_among ts (at + length t + 1) t)
   where
-    go : (v : Bool) → same t (bytes "ini") ≡ v → elim v as (λ x. Start) [ true ↦ At (at + length t + 1) | false ↦ start_among (at + length t + 1) ts ] ≡ Nothing → (start_among (at + length t + 1) ts ≡ Nothing → starts_in 0 t ts ≡ []) → starts_in 0 b (t ∷ ts) ≡ []
+    go : (v : Bool) → same t (bytes "ini") ≡ v → elim v as (λ x. Option ℕ) [ true ↦ Some (at + length t + 1) | false ↦ start_among (at + length t + 1) ts ] ≡ None → (start_among (at + length t + 1) ts ≡ None → starts_in 0 t ts ≡ []) → starts_in 0 b (t ∷ ts) ≡ []
     go true q k ih = let z : ◌≡◌ {A = ℕ} 0 1 = cc in absurd (omega arith)
     go false q k ih = starts_other b t ts q ∙ ih k
 
-pub none_is : (s : Bytes) (from : ℕ) (b : Bytes) → next_start s from ≡ Nothing → starts_in 0 b (parts_from space s from) ≡ []
+pub none_is : (s : Bytes) (from : ℕ) (b : Bytes) → next_start s from ≡ None → starts_in 0 b (parts_from space s from) ≡ []
 none_is s from b e = none_among (parts_from space s from) from b (sym (next_start_lem s from) ∙ e)

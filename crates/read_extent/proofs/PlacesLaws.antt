@@ -8,13 +8,13 @@ use borrow.Author.Tests.{leb-true, leb-false}
 use lib.Dec.{leb}
 use lib.ListN.{length, take, drop, length-take, length-drop}
 use Rattle.model.specs.Basic.{same}
-use Rattle.format.specs.Bytes.{Bytes, bytes, space}
+use Rattle.format.specs.Bytes.{Bytes, bytes, parts, space}
 use Rattle.format.specs.Tokens.{tokens}
 use Rattle.text_bytes.specs.Find.{first_from}
 use Rattle.text_bytes.proofs.FindLaws.{find_after, first_is, gap_within}
-use Rattle.text_bytes.proofs.Parting.{parts_from, from_past, from_step}
-use Rattle.read_extent.specs.declared.places.Start.{Start}
-use Rattle.read_extent.specs.declared.places.Start.TheVariants.{At, Nothing}
+use Rattle.text_bytes.proofs.Parting.{parts_from, from_past, from_step, from_within}
+use Rattle.text_bytes.proofs.Places.{take_rest}
+use Rattle.std.specs.Prelude.{Option, Some, None}
 use Rattle.read_extent.specs.Extent.{is_count, calls_in, taken, span, tokens_from, after_start, start_among, next_start}
 
 -- the tokens from a place on are the parts there
@@ -81,73 +81,125 @@ ends_at s at h = (rest_of (length s + 1 - at) s at h (omega arith)).ends
 parts_few : (s : Bytes) (at : ℕ) → at ≤ length s + 1 → length (parts_from space s at) + at ≤ length s + 1
 parts_few s at h = (rest_of (length s + 1 - at) s at h (omega arith)).few
 
--- `after`: what is taken from a place on
-abbrev pub Goes : Bytes → (at next wanted : ℕ) (counts : Bool) → Type 0
-Goes s at next wanted counts = after_start s at ≡ next + span (taken wanted counts (parts_from space s next))
+-- what is ahead of a place
+abbrev pub ahead : Bytes → (from : ℕ) → List Bytes
+ahead s from = parts space (take (length s - from) (drop from s))
 
-pub after_start_lem : (s : Bytes) (at : ℕ) → Goes s at at 1 false
+module _ (s : Bytes) (from : ℕ) (h : from ≤ length s) where
+  all_ahead : parts_from space s from ≡ ahead s from
+  all_ahead = from_within space s from h ∙ ap (parts space) (sym (take_rest s from))
+
+-- each token has a byte after it
+span_long : (ts : List Bytes) → length ts ≤ span ts
+unfolding span
+span_long [] = omega arith
+span_long (t ∷ ts) = omega (arith, span_long ts)
+
+-- `after`: what is taken from a place on, and after the first k tokens from there
+pub record Goes (s : Bytes) (at k next wanted : ℕ) (counts : Bool) : Type 0 where
+  pub taken_on : after_start s at ≡ next + span (taken wanted counts (drop k (ahead s at)))
+  pub ends : next + span (drop k (ahead s at)) ≡ length s + 1
+
+pub after_start_lem : (s : Bytes) (at : ℕ) → after_start s at ≡ at + span (taken 1 false (parts_from space s at))
 unfolding after_start
 after_start_lem s at = ap (λ l. at + span (taken 1 false l)) (tokens_from_lem s at)
 
-module _ (s : Bytes) (at next wanted : ℕ) (counts : Bool) (g : Goes s at next wanted counts) where
-  pub after_past : length s < next → next ≡ after_start s at
+pub after_past : (s : Bytes) (at : ℕ) → length s < at → at ≡ after_start s at
+unfolding span taken
+after_past s at h = sym (after_start_lem s at ∙ ap (λ l. at + span (taken 1 false l)) (from_past space s at h) ∙ omega arith)
+
+pub after_first : (s : Bytes) (at : ℕ) → at ≤ length s → Goes s at 0 at 1 false
+after_first s at h = record {
+  taken_on = after_start_lem s at ∙ ap (λ l. at + span (taken 1 false l)) (all_ahead s at h);
+  ends = ap (λ l. at + span l) (sym (all_ahead s at h)) ∙ ends_at s at (omega arith);
+}
+
+module _ (s : Bytes) (at k next wanted : ℕ) (counts : Bool) (g : Goes s at k next wanted counts) where
+  abbrev left : List Bytes
+  left = drop k (ahead s at)
+
+  pub after_end : left ≡ [] → next ≡ after_start s at
   unfolding span taken
-  after_past h = sym (g ∙ ap (λ l. next + span (taken wanted counts l)) (from_past space s next h) ∙ omega arith)
+  after_end h = sym (g.taken_on ∙ ap (λ l. next + span (taken wanted counts l)) h ∙ omega arith)
 
-  module _ (h : next ≤ length s) where
-    pub after_done : wanted ≡ 0 → next ≡ after_start s at
+  pub after_done : wanted ≡ 0 → next ≡ after_start s at
+  unfolding span
+  after_done z = sym (g.taken_on ∙ ap (λ n. next + span (taken n counts left)) z ∙ ap (λ l. next + span l) (taken_none left counts) ∙ omega arith)
+
+  pub after_all : length s < wanted → length s + 1 ≡ after_start s at
+  after_all l = sym (g.taken_on ∙ ap (λ u. next + span u) (taken_all left wanted counts (omega (arith, span_long left, g.ends))) ∙ g.ends)
+
+  module _ (t : Bytes) (h : left ≡ t ∷ drop (k + 1) (ahead s at)) where
+    pub after_room : next + (length t + 1) ≤ length s + 1
     unfolding span
-    after_done z = sym (g ∙ ap (λ n. next + span (taken n counts (parts_from space s next))) z ∙ ap (λ l. next + span l) (taken_none (parts_from space s next) counts) ∙ omega arith)
+    after_room = let e = ap (λ l. next + span l) (sym h) ∙ g.ends in omega arith
 
-    pub after_all : length s < wanted → length s + 1 ≡ after_start s at
-    after_all l = sym (g ∙ ap (λ k. next + span k) (taken_all (parts_from space s next) wanted counts (omega (arith, parts_few s next (omega arith)))) ∙ ends_at s next (omega arith))
+    pub after_go : (more : ℕ) (c : Bool) → (wanted ≡ 0 → ⊥) → more ≡ calls_in counts t → c ≡ is_count t → (l : ℕ) → l ≡ k + 1
+        → Goes s at l (next + (length t + 1)) (wanted - 1 + more) c
+    unfolding span taken
+    after_go more c z a b l m = record {
+      taken_on = go wanted z g.taken_on ∙ ap (λ j. next + (length t + 1) + span (taken (wanted - 1 + more) c (drop j (ahead s at)))) (sym m);
+      ends = ap (λ j. next + (length t + 1) + span (drop j (ahead s at))) m ∙ (let f = ap (λ x. next + span x) (sym h) ∙ g.ends in omega arith);
+    }
+      where
+        rest : List Bytes
+        rest = drop (k + 1) (ahead s at)
 
-    module _ (r : ℕ) (e : r ≡ first_from s next 32) (l : r ≤ length s) where
-      pub after_go : (k : ℕ) (c : Bool) → (wanted ≡ 0 → ⊥) → k ≡ calls_in counts (token s next r h e l) → c ≡ is_count (token s next r h e l) → Goes s at (r + 1) (wanted - 1 + k) c
-      unfolding span taken
-      after_go k c z a b = go wanted z g
-        where
-          t : Bytes
-          t = token s next r h e l
+        go : (w : ℕ) → (w ≡ 0 → ⊥) → after_start s at ≡ next + span (taken w counts left) → after_start s at ≡ next + (length t + 1) + span (taken (w - 1 + more) c rest)
+        go zero u i = absurd (u refl)
+        go (suc n) u i =
+            let y : calls_in counts t + n ≡ suc n - 1 + more = omega arith in
+            i ∙ ap (λ x. next + span (taken (suc n) counts x)) h
+            ∙ ap (λ x. next + (length t + 1 + span (taken x (is_count t) rest))) y
+            ∙ ap (λ x. next + (length t + 1 + span (taken (suc n - 1 + more) x rest))) (sym b)
+            ∙ omega arith
 
-          go : (w : ℕ) → (w ≡ 0 → ⊥) → Goes s at next w counts → Goes s at (r + 1) (w - 1 + k) c
-          go zero u i = absurd (u refl)
-          go (suc n) u i =
-              let m : calls_in counts t + n ≡ suc n - 1 + k = omega arith in
-              let rest = parts_from space s (r + 1) in
-              i ∙ ap (λ x. next + span (taken (suc n) counts x)) (from_step space s next r h e)
-              ∙ ap (λ x. next + (length t + 1 + span (taken x (is_count t) rest))) m
-              ∙ ap (λ x. next + (length t + 1 + span (taken (suc n - 1 + k) x rest))) (sym b)
-              ∙ omega (arith, one_on s next r h e l)
+-- `next`: the first `ini` from a place on, and after the first k tokens from there
+pub record Seeks (s : Bytes) (from k at : ℕ) : Type 0 where
+  pub starts : next_start s from ≡ start_among at (drop k (ahead s from))
+  pub ends : at + span (drop k (ahead s from)) ≡ length s + 1
 
-pub ruleset after_laws = (after_start_lem, after_past, after_done, after_all, after_go)
-
--- `next`: the first `ini` from a place on
-abbrev pub Seeks : Bytes → (from at : ℕ) → Type 0
-Seeks s from at = next_start s from ≡ start_among at (parts_from space s at)
-
-pub next_start_lem : (s : Bytes) (from : ℕ) → Seeks s from from
+pub next_start_lem : (s : Bytes) (from : ℕ) → next_start s from ≡ start_among from (parts_from space s from)
 unfolding next_start
 next_start_lem s from = ap (start_among from) (tokens_from_lem s from)
 
-module _ (s : Bytes) (from at : ℕ) (g : Seeks s from at) where
-  pub next_past : length s < at → Nothing ≡ next_start s from
+pub seek_past : (s : Bytes) (from : ℕ) → length s < from → None ≡ next_start s from
+unfolding start_among
+seek_past s from h = sym (next_start_lem s from ∙ ap (start_among from) (from_past space s from h))
+
+module _ (s : Bytes) (from : ℕ) (h : from ≤ length s) where
+  pub seek_start : Seeks s from 0 from
+  seek_start = record {
+    starts = next_start_lem s from ∙ ap (start_among from) (all_ahead s from h);
+    ends = ap (λ l. from + span l) (sym (all_ahead s from h)) ∙ ends_at s from (omega arith);
+  }
+
+module _ (s : Bytes) (from k at : ℕ) (i : Seeks s from k at) where
+  pub seek_end : drop k (ahead s from) ≡ [] → None ≡ next_start s from
   unfolding start_among
-  next_past h = sym (g ∙ ap (start_among at) (from_past space s at h))
+  seek_end h = sym (i.starts ∙ ap (start_among at) h)
 
-  module _ (r : ℕ) (p : Bool) (h : at ≤ length s) (e : r ≡ first_from s at 32) (l : r ≤ length s) (q : p ≡ same (take (r - at) (drop at s)) (bytes "ini")) where
-    here : next_start s from ≡ elim p as (λ x. Start) [ true ↦ At (r + 1) | false ↦ start_among (r + 1) (parts_from space s (r + 1)) ]
-    unfolding start_among
-    here =
-        let t = token s at r h e l in
-        g ∙ ap (start_among at) (from_step space s at r h e)
-        ∙ ap (λ (b : Bool). elim b as (λ x. Start) [ true ↦ At (at + length t + 1) | false ↦ start_among (at + length t + 1) (parts_from space s (r + 1)) ]) (sym q)
-        ∙ ap (λ n. elim p as (λ x. Start) [ true ↦ At n | false ↦ start_among n (parts_from space s (r + 1)) ]) (one_on s at r h e l)
+  module _ (t : Bytes) (h : drop k (ahead s from) ≡ t ∷ drop (k + 1) (ahead s from)) where
+    pub seek_room : at + (length t + 1) ≤ length s + 1
+    unfolding span
+    seek_room = let e = ap (λ l. at + span l) (sym h) ∙ i.ends in omega arith
 
-    pub next_here : p ≡ true → At (r + 1) ≡ next_start s from
-    next_here z = sym (here ∙ rw z)
+    module _ (p : Bool) (q : p ≡ same t (bytes "ini")) where
+      by_token : (v : Bool) → p ≡ v
+          → next_start s from ≡ elim v as (λ x. Option ℕ) [ true ↦ Some (at + (length t + 1)) | false ↦ start_among (at + (length t + 1)) (drop (k + 1) (ahead s from)) ]
+      unfolding start_among
+      by_token v e =
+          let rest = drop (k + 1) (ahead s from) in
+          i.starts ∙ ap (start_among at) h
+          ∙ ap (λ (b : Bool). elim b as (λ x. Option ℕ) [ true ↦ Some (at + length t + 1) | false ↦ start_among (at + length t + 1) rest ]) (sym q ∙ e)
+          ∙ ap (λ n. elim v as (λ x. Option ℕ) [ true ↦ Some n | false ↦ start_among n rest ]) (omega arith)
 
-    pub next_on : p ≡ false → Seeks s from (r + 1)
-    next_on z = here ∙ rw z
+      pub seek_here : p ≡ true → Some (at + (length t + 1)) ≡ next_start s from
+      seek_here e = sym (by_token true e)
 
-pub ruleset next_laws = (next_start_lem, next_past, next_here, next_on)
+      pub seek_on : p ≡ false → (l : ℕ) → l ≡ k + 1 → Seeks s from l (at + (length t + 1))
+      unfolding span
+      seek_on e l m = record {
+        starts = by_token false e ∙ ap (λ j. start_among (at + (length t + 1)) (drop j (ahead s from))) (sym m);
+        ends = ap (λ j. at + (length t + 1) + span (drop j (ahead s from))) m ∙ (let f = ap (λ x. at + span x) (sym h) ∙ i.ends in omega arith);
+      }

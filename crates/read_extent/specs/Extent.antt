@@ -1,13 +1,12 @@
 -- Where the P after an `ini` begins and ends, as places in the bytes. What is found so are the P's of the format: the
 -- laws next_is, after_is and start_bytes.
+use Rattle.std.specs.Prelude.{Option, Some, None}
 use Rattle.std.specs.Prelude.{ℕ, zero, suc, ◌+◌, Bool, true, false, ◌||◌, List, [], ◌∷◌, length, drop, leb, pos}
 use Rattle.model.specs.Basic.{same}
 use Rattle.model.specs.Bounds.{max_operands}
 use Rattle.format.specs.Bytes.{Bytes, bytes}
 use Rattle.format.specs.Number.{within, natural_of}
 use Rattle.format.specs.Tokens.{tokens, find, calls}
-use Rattle.read_extent.specs.declared.places.Start.{Start}
-use Rattle.read_extent.specs.declared.places.Start.TheVariants.{At, Nothing}
 
 -- after this token comes a K
 unfoldable pub is_count : Bytes → Bool
@@ -40,10 +39,10 @@ unfoldable pub after_start : Bytes → (at : ℕ) → ℕ
 after_start s at = at + span (taken 1 false (tokens_from s at))
 
 -- the place after the first `ini` of some tokens, of which the first stands at a place
-unfoldable pub start_among : (at : ℕ) → List Bytes → Start
-start_among at [] = Nothing
+unfoldable pub start_among : (at : ℕ) → List Bytes → Option ℕ
+start_among at [] = None
 start_among at (t ∷ ts) =
-    elim (same t (bytes "ini")) [ true ↦ At (at + length t + 1) | false ↦ start_among (at + length t + 1) ts ]
+    elim (same t (bytes "ini")) [ true ↦ Some (at + length t + 1) | false ↦ start_among (at + length t + 1) ts ]
 
-unfoldable pub next_start : Bytes → (from : ℕ) → Start
+unfoldable pub next_start : Bytes → (from : ℕ) → Option ℕ
 next_start s from = start_among from (tokens_from s from)

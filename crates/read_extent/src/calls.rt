@@ -4,9 +4,9 @@ ghost use Rattle.format.specs.Tokens.{find, calls};
 ghost use Rattle.read_extent.specs.Extent.{is_count, count_calls, calls_in};
 
 use model::Model;
-use text_numbers::Natural;
 
 // Does the K of an `all` or `any` come next?
+#[tactic(auto, using(crate::proofs::CallsLaws::count_is))]
 pub fn is_count(token: &[u8]) -> bool
     ensures { result ≡ is_count token.now }
 {
@@ -14,6 +14,7 @@ pub fn is_count(token: &[u8]) -> bool
 }
 
 // The words of expressions.
+#[tactic(auto, using(crate::proofs::CallsLaws::calls_laws))]
 fn operator_calls(token: &[u8]) -> usize
     ensures { result ≡ find 0 (drop 6 calls) token.now }
 {
@@ -33,6 +34,7 @@ fn operator_calls(token: &[u8]) -> usize
 }
 
 // The words of predicates with two operands, and those of expressions.
+#[tactic(auto, using(crate::proofs::CallsLaws::calls_laws))]
 fn pair_calls(token: &[u8]) -> usize
     ensures { result ≡ find 0 (drop 3 calls) token.now }
 {
@@ -48,6 +50,7 @@ fn pair_calls(token: &[u8]) -> usize
     operator_calls(token)
 }
 
+#[tactic(auto, using(crate::proofs::CallsLaws::calls_laws))]
 fn word_calls(token: &[u8]) -> usize
     ensures { result ≡ find 0 calls token.now }
 {
@@ -64,17 +67,18 @@ fn word_calls(token: &[u8]) -> usize
 }
 
 // The K after `all` or `any`; what is none calls for nothing.
+#[tactic(auto, using(crate::proofs::CallsLaws::count_laws))]
 fn count_calls(token: &[u8]) -> usize
     ensures { result ≡ count_calls token.now }
 {
-    let n = text_numbers::natural(token, Model::OPERANDS);
-    match n {
-        Natural::In(k) => arithmetic::index(k),
-        Natural::Out => 0,
+    match text_numbers::natural(token, Model::OPERANDS) {
+        Some(k) => arithmetic::index(k),
+        None => 0,
     }
 }
 
 // A token, which is the K of an `all` or `any`, or is not.
+#[tactic(auto, using(crate::proofs::CallsLaws::for_laws))]
 pub fn calls_for(token: &[u8], counts: bool) -> usize
     ensures value { result ≡ calls_in counts token.now }
     ensures upper_bound { result ≤ 512 }

@@ -5,4 +5,4 @@
 mod calls;
 mod places;
 
-pub use places::{Start, after, next};
+pub use places::{after, next};

@@ -16,7 +16,7 @@ use Rattle.text_bytes.proofs.FindLaws.{parts_count}
 use Rattle.read_form.specs.Form.{line_of, value_after, misparted, misformed, fields_of}
 
 -- `misparted`
-pub parted_any : (v : Bytes) (n : ℕ) → n ≡ 0 → false ≡ misparted n v
+pub parted_any : (v : Bytes) (n : ℕ) → n ≡ 0 → not (eqb n 0) ≡ misparted n v
 unfolding misparted
 parted_any v n h = rw h
 
@@ -34,21 +34,14 @@ parted_by v (suc n) c z h =
 pub ruleset misparted_laws = (parted_any, parted_by)
 
 -- `misformed`
-module _ (name : Bytes) (n : ℕ) (s : Bytes) (ended : Bool) (b : Bool) (hb : b ≡ begins name s) where
-  pub form_key : b ≡ false → true ≡ misformed name n s ended
-  unfolding misformed
-  form_key h = rw (sym hb ∙ h)
-
-  module _ (k : b ≡ true) (v : Bytes) (hv : v ≡ value_after name s) (p : Bool) (hp : p ≡ misparted n v) where
-    pub form_fields : p ≡ true → true ≡ misformed name n s ended
-    unfolding misformed
-    form_fields h = rw (sym hb ∙ k, ← hv, sym hp ∙ h)
-
-    pub form_rest : p ≡ false → (q : Bool) → q ≡ every printable s → (not q || not ended) ≡ misformed name n s ended
-    unfolding misformed
-    form_rest h q hq = rw (sym hb ∙ k, ← hv, sym hp ∙ h, hq)
-
-pub ruleset misformed_laws = (form_key, form_fields, form_rest)
+pub form_by : (name : Bytes) (n : ℕ) (s : Bytes) (ended b p q : Bool) (v : Bytes) → b ≡ begins name s → v ≡ value_after name s → p ≡ misparted n v → q ≡ every printable s → (((not b || p) || not q) || not ended) ≡ misformed name n s ended
+unfolding misformed
+form_by name n s ended b p q v hb hv hp hq = rw (hb, hp, hv, hq) (parted (not (begins name s)) (misparted n (value_after name s)) _ _)
+  where
+    parted : (x y z w : Bool) → (((x || y) || z) || w) ≡ (x || (y || (z || w)))
+    parted true y z w = refl
+    parted false true z w = refl
+    parted false false z w = refl
 
 -- it is row 2, for each key
 pub row2_by : (k : Key) (s : Bytes) (ended : Bool) → misformed (spelling k) (fields_of k) s ended ≡ row2 k (line_of s ended)

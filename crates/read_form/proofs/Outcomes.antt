@@ -7,8 +7,11 @@ use mathlib.Core.Option.{Option, none, some}
 use native.Mathlib.Omega.{arith}
 use lib.ListN.{length}
 use Rattle.model.specs.Limits.{broken}
-use Rattle.read_form.specs.declared.LineRead.{LineRead}
-use Rattle.read_form.specs.declared.LineRead.TheVariants.{Fault}
+use Rattle.std.specs.Prelude as P
+use Rattle.std.specs.Prelude.{Some, None, Ok, Err}
+use Rattle.std.specs.Option.{ok_or}
+use Rattle.model.specs.declared.Row as Declared
+use Rattle.model.specs.Row as Row
 use Rattle.read_form.specs.Outcome.{then_row, answered, written}
 
 -- two rows with the same test, where the later ones need be the same only if it does not hold
@@ -37,11 +40,11 @@ first_none (some row) rest e = absurd (let q : ◌≡◌ {A = ℕ} 0 1 = cc in o
 
 -- the answer, and the buffer then
 module _ (o : Option ℕ) where
-  pub answered_fault : (row : ℕ) (x : LineRead) → o ≡ some row → answered o x ≡ Fault row
+  pub answered_fault : {A : Type 0} (row : ℕ) (x : A) → o ≡ some row → answered o x ≡ Err (Row.row row)
   unfolding answered
   answered_fault row x h = ap (λ (y : Option ℕ). answered y x) h
 
-  pub answered_sound : (x : LineRead) → o ≡ none → answered o x ≡ x
+  pub answered_sound : {A : Type 0} (x : A) → o ≡ none → answered o x ≡ Ok x
   unfolding answered
   answered_sound x h = ap (λ (y : Option ℕ). answered y x) h
 
@@ -58,3 +61,21 @@ pub written_long : (o : Option ℕ) (new old : List ℕ) → length new ≡ leng
 unfolding written
 written_long none new old h = h
 written_long (some row) new old h = refl
+
+-- what `ok_or` says of a value that may be lacking
+module _ {A : Type 0} (o : P.Option A) (n : ℕ) where
+  pub lacking : (w : Declared.Row) → Err w ≡ ok_or o (Row.row n) → (o ≡ None) × (w ≡ Row.row n)
+  lacking w e = go o e
+    where
+      go : (p : P.Option A) → Err w ≡ ok_or p (Row.row n) → (p ≡ None) × (w ≡ Row.row n)
+      go None k = (refl, cc)
+      go (Some x) k = absurd (let q : ◌≡◌ {A = ℕ} 0 1 = cc in omega arith)
+
+  pub present : (x : A) → Ok x ≡ ok_or o (Row.row n) → o ≡ Some x
+  present x e = go o e
+    where
+      go : (p : P.Option A) → Ok x ≡ ok_or p (Row.row n) → p ≡ Some x
+      go None k = absurd (let q : ◌≡◌ {A = ℕ} 0 1 = cc in omega arith)
+      go (Some y) k =
+          let q : y ≡ x = cc in
+          ap Some q

@@ -11,6 +11,8 @@ use Rattle.line_order.specs.declared.Key.TheVariants.{Format, Actions, Variables
 use Rattle.line_order.specs.declared.Counts.{Counts}
 use Rattle.format.specs.Bytes.{Bytes}
 use Rattle.format.specs.Spelling.{spelling}
+use Rattle.std.specs.Prelude.{Result}
+use Rattle.model.specs.declared.Row.{Row}
 use Rattle.read_form.specs.declared.LineRead.{LineRead}
 use Rattle.read_line.specs.Line.{line_with, line_with_after, line_read, line_after}
 use Rattle.read_predicate_line.specs.Predicate.{most_words}
@@ -20,7 +22,7 @@ use Rattle.read_composition_line.proofs.CompositionRows.{compose_room, compose_r
 
 -- what is read with one key is read with the key that it equals
 module _ (s : Bytes) (ended : Bool) (k : Key) (c : Counts) (words : List ℕ) (at room high : ℕ) where
-  pub by_key : (j : Key) → k ≡ j → (r : LineRead) → r ≡ line_with s ended j c words at room high → r ≡ line_with s ended k c words at room high
+  pub by_key : (j : Key) → k ≡ j → (r : Result LineRead Row) → r ≡ line_with s ended j c words at room high → r ≡ line_with s ended k c words at room high
   by_key j e r h = h ∙ rw e
 
   pub after_key : (j : Key) → k ≡ j → (new : List ℕ) → new ≡ line_with_after s ended j c words at room high → new ≡ line_with_after s ended k c words at room high
@@ -65,20 +67,20 @@ module _ (s : Bytes) (ended : Bool) (c : Counts) (words : List ℕ) (at : ℕ) w
 
   module _ (k : Key) where
     module _ (h : length s ≤ 256) where
-      pub short_read : (r : LineRead) → r ≡ line_with s ended k c words at 128 128 → r ≡ line_read s ended k c words at
+      pub short_read : (r : Result LineRead Row) → r ≡ line_with s ended k c words at 128 128 → r ≡ line_read s ended k c words at
       short_read r e = e ∙ room_same 128 h (omega arith) k
 
       pub short_after : (t : List ℕ) → t ≡ line_with_after s ended k c words at 128 128 → t ≡ line_after s ended k c words at
       short_after t e = e ∙ room_same_after 128 h (omega arith) k
 
     module _ (h : length s ≤ 4096) where
-      pub middle_read : (r : LineRead) → r ≡ line_with s ended k c words at 2048 2048 → r ≡ line_read s ended k c words at
+      pub middle_read : (r : Result LineRead Row) → r ≡ line_with s ended k c words at 2048 2048 → r ≡ line_read s ended k c words at
       middle_read r e = e ∙ room_same 2048 h (omega arith) k
 
       pub middle_after : (t : List ℕ) → t ≡ line_with_after s ended k c words at 2048 2048 → t ≡ line_after s ended k c words at
       middle_after t e = e ∙ room_same_after 2048 h (omega arith) k
 
-    pub long_read : (r : LineRead) → r ≡ line_with s ended k c words at 32768 32768 → r ≡ line_read s ended k c words at
+    pub long_read : (r : Result LineRead Row) → r ≡ line_with s ended k c words at 32768 32768 → r ≡ line_read s ended k c words at
     unfolding line_read
     long_read r e = e
 

@@ -11,8 +11,9 @@ use Rattle.line_order.specs.declared.Key.TheVariants.{Format, Actions, Variables
 use Rattle.line_order.specs.declared.Counts.{Counts}
 use Rattle.format.specs.Bytes.{Bytes}
 use Rattle.format.specs.Spelling.{spelling}
-use Rattle.read_numbers.specs.declared.number.Count.{Count}
-use Rattle.read_numbers.specs.declared.range.Bounds.{Bounds}
+use Rattle.std.specs.Prelude.{Result, Ok, Err}
+use Rattle.model.specs.declared.Row.{Row}
+use Rattle.read_numbers.specs.Range.{Ends}
 use Rattle.read_form.proofs.Outcomes.{written_long}
 use Rattle.read_number_line.specs.Number.{number_after, bounds_after}
 use Rattle.read_composition_line.specs.Sync.{sync_fault, sync_after}
@@ -23,15 +24,15 @@ use Rattle.read_predicate_line.proofs.PredicateRows.{location_kept}
 use Rattle.read_predicate_line.proofs.EdgeRows.{edge_kept}
 use Rattle.read_composition_line.proofs.CompositionRows.{compose_kept}
 
-number_kept : (c : Count) (at : ℕ) (words : List ℕ) → length (number_after c at words) ≡ length words
+number_kept : (c : Result ℕ Row) (at : ℕ) (words : List ℕ) → length (number_after c at words) ≡ length words
 unfolding number_after
-number_kept (Count.Is n) at words = put_kept (n ∷ []) at words
-number_kept (Count.Unsound row) at words = refl
+number_kept (Ok n) at words = put_kept (n ∷ []) at words
+number_kept (Err w) at words = refl
 
-bounds_kept : (b : Bounds) (at : ℕ) (words : List ℕ) → length (bounds_after b at words) ≡ length words
+bounds_kept : (b : Ends) (at : ℕ) (words : List ℕ) → length (bounds_after b at words) ≡ length words
 unfolding bounds_after
-bounds_kept (Bounds.Are low high) at words = put_kept (biased low ∷ biased high ∷ 0 ∷ []) at words
-bounds_kept (Bounds.Unsound row) at words = refl
+bounds_kept (Ok ends) at words = put_kept (biased ends.0 ∷ biased ends.1 ∷ 0 ∷ []) at words
+bounds_kept (Err w) at words = refl
 
 sync_kept : (s : Bytes) (ended : Bool) (c : Counts) (words : List ℕ) (at : ℕ) → length (sync_after s ended c words at) ≡ length words
 unfolding sync_after

@@ -15,7 +15,9 @@ use Rattle.table_line.specs.Exact.{Declared}
 use Rattle.format.specs.Bytes.{Bytes}
 use Rattle.format.specs.Rows.{fault, entry, the_range}
 use Rattle.model.specs.Predicate.{range}
-use Rattle.read_form.specs.declared.LineRead.TheVariants.{Sound, Fault}
+use Rattle.std.specs.Prelude.{Ok, Err}
+use Rattle.model.specs.Row as Row
+use Rattle.read_form.specs.Outcome.{said}
 use Rattle.table_append.specs.Append.{next_place, put}
 use Rattle.read_form.specs.Form.{line_of}
 use Rattle.read_line.specs.Exact.{number_told, ReadsLines}
@@ -30,7 +32,7 @@ use Rattle.read_predicate_line.proofs.PredicateRows.{init_of, inv_of, location_f
 use Rattle.read_predicate_line.proofs.EdgeRows.{edge_faulty, edge_sound}
 
 module _ (r : Reading) (c : Counts) (words : List ℕ) (at : ℕ) (s : Bytes) (ended : Bool) (n : Counted r c) (d : Declared words r) (short : length s ≤ max_bytes) where
-  faulty : (k : Key) (row : ℕ) → fault r k (line_of s ended) ≡ some row → line_read s ended (code_of k) c words at ≡ Fault row
+  faulty : (k : Key) (row : ℕ) → fault r k (line_of s ended) ≡ some row → line_read s ended (code_of k) c words at ≡ Err (Row.row row)
   unfolding line_read line_with code_of
   faulty format row h = format_read r s ended at words ∙ answered_fault _ row _ h
   faulty actions row h = actions_read r s ended at words ∙ answered_fault _ row _ h
@@ -46,7 +48,7 @@ module _ (r : Reading) (c : Counts) (words : List ℕ) (at : ℕ) (s : Bytes) (e
   faulty compose row h = compose_faulty r c words n d s ended most_words most_words short short at row h
 
   sound : (k : Key) → fault r k (line_of s ended) ≡ none
-      → (line_read s ended (code_of k) c words at ≡ Sound (number_told (entry k (line_of s ended))) (nodes_of (entry k (line_of s ended))) (next_place at (length (line_words (entry k (line_of s ended))))))
+      → (line_read s ended (code_of k) c words at ≡ Ok (said (number_told (entry k (line_of s ended))) (nodes_of (entry k (line_of s ended))) (next_place at (length (line_words (entry k (line_of s ended)))))))
       × (line_after s ended (code_of k) c words at ≡ put at (line_words (entry k (line_of s ended))) words)
   unfolding line_read line_after line_with line_with_after code_of entry number_of number_told nodes_of line_words owner_word the_range range
   sound format h = (format_read r s ended at words ∙ answered_sound _ _ h, format_left r s ended at words ∙ written_sound _ _ words h)

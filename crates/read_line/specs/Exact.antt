@@ -1,6 +1,6 @@
 -- What the reader of one line is to say: exactly the row that `fault` gives, or what the line says, with its words put
 -- into the buffer.
-use Rattle.std.specs.Prelude.{ℕ, ◌≤◌, ◌≡◌, Bool, List, map, length}
+use Rattle.std.specs.Prelude.{ℕ, ◌≤◌, ◌≡◌, Bool, List, map, length, Result, Ok, Err}
 use Rattle.std.proofs.Math.Option.{none, some}
 use Rattle.model.specs.Bounds.{max_bytes}
 use Rattle.model.specs.Predicate.{words}
@@ -18,7 +18,9 @@ use Rattle.table_line.specs.Exact.{Declared}
 use Rattle.format.specs.Bytes.{Bytes}
 use Rattle.format.specs.Rows.{fault, entry}
 use Rattle.read_form.specs.declared.LineRead.{LineRead}
-use Rattle.read_form.specs.declared.LineRead.TheVariants.{Sound, Fault}
+use Rattle.read_form.specs.Outcome.{said}
+use Rattle.model.specs.declared.Row.{Row}
+use Rattle.model.specs.Row as Row
 use Rattle.table_append.specs.Append.{next_place, put}
 use Rattle.read_form.specs.Form.{line_of}
 
@@ -41,14 +43,14 @@ number_told (compose_line c) = 0
 -- `read` answers for a line's bytes, whether an LF ended it, the key that is due, what was counted, the buffer and the
 -- place of its next word; `after` is the buffer then
 pub record ReadsLines
-    (read : Bytes → Bool → Key → Counts → List ℕ → ℕ → LineRead)
+    (read : Bytes → Bool → Key → Counts → List ℕ → ℕ → Result LineRead Row)
     (after : Bytes → Bool → Key → Counts → List ℕ → ℕ → List ℕ) : Type 0 where
   pub faulty : (r : Reading) (c : Counts) (words : List ℕ) (at : ℕ) (k : LineKey) (s : Bytes) (ended : Bool) (row : ℕ)
       → Counted r c → Declared words r → length s ≤ max_bytes → fault r k (line_of s ended) ≡ some row
-      → read s ended (code_of k) c words at ≡ Fault row
+      → read s ended (code_of k) c words at ≡ Err (Row.row row)
   pub sound : (r : Reading) (c : Counts) (words : List ℕ) (at : ℕ) (k : LineKey) (s : Bytes) (ended : Bool)
       → Counted r c → Declared words r → length s ≤ max_bytes → fault r k (line_of s ended) ≡ none
       → (read s ended (code_of k) c words at ≡
-      Sound (number_told (entry k (line_of s ended))) (nodes_of (entry k (line_of s ended)))
-      (next_place at (length (line_words (entry k (line_of s ended))))))
+      Ok (said (number_told (entry k (line_of s ended))) (nodes_of (entry k (line_of s ended)))
+      (next_place at (length (line_words (entry k (line_of s ended)))))))
       × (after s ended (code_of k) c words at ≡ put at (line_words (entry k (line_of s ended))) words)

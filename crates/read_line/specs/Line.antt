@@ -1,6 +1,8 @@
 -- What the reader of one line answers, by the key that is due, and the buffer after it. It is exactly what `fault` and
 -- `entry` say: the law reads_lines.
-use Rattle.std.specs.Prelude.{ℕ, Bool, List}
+use Rattle.std.specs.Prelude.{ℕ, Bool, List, Result, Err}
+use Rattle.model.specs.declared.Row.{Row}
+use Rattle.model.specs.Row.{row}
 use Rattle.model.specs.Bounds.{first_format, last_format, max_actions, max_variables}
 use Rattle.model.specs.Bounds.{max_automata, max_locations, max_edges}
 use Rattle.model.specs.Lines as Lines
@@ -12,7 +14,6 @@ use Rattle.table_line.specs.Line.{ranges_in}
 use Rattle.format.specs.Bytes.{Bytes}
 use Rattle.format.specs.Spelling.{spelling}
 use Rattle.read_form.specs.declared.LineRead.{LineRead}
-use Rattle.read_form.specs.declared.LineRead.TheVariants.{Fault}
 use Rattle.read_numbers.specs.Number.{count_in, few_edges}
 use Rattle.read_numbers.specs.Range.{bounds_in}
 use Rattle.read_number_line.specs.Number.{number_read, number_after, known_owners, bounds_read, bounds_after}
@@ -22,7 +23,8 @@ use Rattle.read_predicate_line.specs.Edge.{edge_read, edge_after}
 use Rattle.read_composition_line.specs.Composition.{compose_read, compose_after}
 
 -- with room for so many nodes and sorts of a predicate
-unfoldable pub line_with : Bytes → (ended : Bool) → Key → Counts → (words : List ℕ) (at room high : ℕ) → LineRead
+unfoldable pub line_with :
+    Bytes → (ended : Bool) → Key → Counts → (words : List ℕ) (at room high : ℕ) → Result LineRead Row
 line_with s ended Format c words at room high =
     number_read (count_in (spelling Lines.format) first_format last_format s ended) at
 line_with s ended Actions c words at room high =
@@ -43,7 +45,7 @@ line_with s ended Edges c words at room high =
     number_read (few_edges c.edges (count_in (spelling Lines.edges) 0 max_edges s ended)) at
 line_with s ended Edge c words at room high = edge_read s ended c words room high at
 line_with s ended Compose c words at room high = compose_read s ended c words room high at
-line_with s ended End c words at room high = Fault 2
+line_with s ended End c words at room high = Err (row 2)
 
 unfoldable pub line_with_after : Bytes → (ended : Bool) → Key → Counts → (words : List ℕ) (at room high : ℕ) → List ℕ
 line_with_after s ended Format c words at room high =
@@ -69,7 +71,7 @@ line_with_after s ended Compose c words at room high = compose_after s ended c w
 line_with_after s ended End c words at room high = words
 
 -- and for as many as a text can have
-unfoldable pub line_read : Bytes → (ended : Bool) → Key → Counts → (words : List ℕ) (at : ℕ) → LineRead
+unfoldable pub line_read : Bytes → (ended : Bool) → Key → Counts → (words : List ℕ) (at : ℕ) → Result LineRead Row
 line_read s ended k c words at = line_with s ended k c words at most_words most_words
 
 unfoldable pub line_after : Bytes → (ended : Bool) → Key → Counts → (words : List ℕ) (at : ℕ) → List ℕ

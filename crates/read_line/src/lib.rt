@@ -6,7 +6,7 @@ ghost use Rattle.std.specs.Prelude.{◌≡◌, length};
 ghost use Rattle.read_line.specs.Line.{line_with, line_with_after, line_read, line_after};
 
 use line_order::{Counts, Key};
-use model::Model;
+use model::{Model, Row};
 pub use read_form::LineRead;
 
 // The line that the key says, with memory for a predicate's nodes and their sorts.
@@ -19,28 +19,50 @@ fn read_with(
     at: usize,
     nodes: &mut [u32],
     sorts: &mut [bool],
-) -> LineRead
+) -> Result<LineRead, Row>
     ensures value { result ≡ line_with line.now ended key counts words.old at
         (length nodes.old) (length sorts.old) }
     ensures words_after { words.new ≡ line_with_after line.now ended key counts words.old at
         (length nodes.old) (length sorts.old) }
 {
     match key {
-        Key::Format => read_number_line::format(line, ended, words, at),
-        Key::Actions => read_number_line::actions(line, ended, words, at),
-        Key::Variables => read_number_line::variables(line, ended, words, at),
+        Key::Format => read_number_line::counted(
+            line,
+            ended,
+            b"format=",
+            Model::FIRST_FORMAT as u32,
+            Model::LAST_FORMAT as u32,
+            words,
+            at,
+        ),
+        Key::Actions => {
+            read_number_line::counted(line, ended, b"actions=", 0, Model::ACTIONS, words, at)
+        }
+        Key::Variables => {
+            let most = Model::VARIABLES as u32;
+            read_number_line::counted(line, ended, b"variables=", 0, most, words, at)
+        }
         Key::Variable => read_number_line::variable(line, ended, words, at),
         Key::Automata => read_number_line::automata(line, ended, counts, words, at),
         Key::Sync => read_composition_line::sync(line, ended, counts, words, at),
-        Key::Locations => read_number_line::locations(line, ended, words, at),
-        Key::Init => read_predicate_line::init(line, ended, counts, words, at, nodes, sorts),
-        Key::Inv => read_predicate_line::inv(line, ended, counts, words, at, nodes, sorts),
+        Key::Locations => {
+            let most = Model::LOCATIONS as u32;
+            read_number_line::counted(line, ended, b"locations=", 1, most, words, at)
+        }
+        Key::Init => {
+            let name = b"init=";
+            read_predicate_line::location(line, ended, name, counts, words, at, nodes, sorts)
+        }
+        Key::Inv => {
+            let name = b"inv=";
+            read_predicate_line::location(line, ended, name, counts, words, at, nodes, sorts)
+        }
         Key::Edges => read_number_line::edges(line, ended, counts, words, at),
         Key::Edge => read_predicate_line::edge(line, ended, counts, words, at, nodes, sorts),
         Key::Compose => read_composition_line::composition(
             line, ended, counts, words, at, nodes, sorts,
         ),
-        Key::End => LineRead::Fault(2),
+        Key::End => Err(Row(2)),
     }
 }
 
@@ -54,7 +76,7 @@ pub fn read(
     counts: Counts,
     words: &mut [u32; Model::WORDS],
     at: usize,
-) -> LineRead
+) -> Result<LineRead, Row>
     ensures { (result ≡ line_read line.now ended key counts words.old at)
         × (words.new ≡ line_after line.now ended key counts words.old at) }
 {

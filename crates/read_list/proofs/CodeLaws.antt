@@ -7,14 +7,11 @@ use native.Mathlib.Omega.{arith}
 use lib.ListN.{length, take, drop}
 use lib.IntN.{pos}
 use lib.Dec.{leb}
+use Rattle.std.specs.Prelude.{Some, None}
 use Rattle.format.specs.Bytes.{Bytes, parts, comma}
 use Rattle.format.specs.Number.{within, natural_of}
 use Rattle.format.specs.Rows.{list_items}
-use Rattle.text_bytes.specs.Find.{first_from}
-use Rattle.text_bytes.proofs.Parting.{parts_from, from_past, from_start, from_step}
 use Rattle.text_numbers.specs.Number.{natural_in}
-use Rattle.text_numbers.specs.declared.answer.Natural.{Natural}
-use Rattle.text_numbers.specs.declared.answer.Natural.TheVariants as N
 use Rattle.text_numbers.proofs.NumberLaws.{natural_said, natural_denied}
 use Rattle.table_writes.specs.Sets.{clear}
 use Rattle.read_list.specs.declared.Asked.{Asked}
@@ -45,28 +42,25 @@ unfolding items_from
 next_yes q x s ss h = rw (h, items_from)
 
 module _ (s : Bytes) (q : Asked) where
-  pub items_start : (x : Items) → x ≡ no_items q → items_of q (parts comma s) ≡ items_from q x (parts_from comma s 0)
+  pub items_start : (x : Items) → x ≡ no_items q → items_of q (parts comma s) ≡ items_from q x (drop 0 (parts comma s))
   unfolding items_of
-  items_start x e = ap (items_from q (no_items q)) (sym (from_start comma s)) ∙ ap (λ (y : Items). items_from q y (parts_from comma s 0)) (sym e)
+  items_start x e = ap (λ (y : Items). items_from q y (parts comma s)) (sym e)
 
-  module _ (at : ℕ) (x : Items) (inv : items_of q (parts comma s) ≡ items_from q x (parts_from comma s at)) where
-    pub items_end : length s < at → record { sound = true; rising = x.rising; outside = x.outside; rest = x.rest } ≡ items_of q (parts comma s)
+  module _ (i : ℕ) (x : Items) (inv : items_of q (parts comma s) ≡ items_from q x (drop i (parts comma s))) where
+    pub items_end : ◌≡◌ {A = List Bytes} (drop i (parts comma s)) [] → record { sound = true; rising = x.rising; outside = x.outside; rest = x.rest } ≡ items_of q (parts comma s)
     unfolding items_from
-    items_end h = sym (inv ∙ ap (items_from q x) (from_past comma s at h))
+    items_end h = sym (inv ∙ ap (items_from q x) h)
 
-    module _ (r : ℕ) (n : Natural) (h : at ≤ length s) (e : r ≡ first_from s at 44) (l : r ≤ length s)
-        (y : n ≡ natural_in (take (r - at) (drop at s)) q.most) where
-      pub items_no : n ≡ N.Out → unsound ≡ items_of q (parts comma s)
-      items_no z = sym (inv ∙ ap (items_from q x) (from_step comma s at r h e) ∙ next_no q x _ _ (natural_denied _ q.most (sym y ∙ z)))
+    module _ (t : Bytes) (more : drop i (parts comma s) ≡ t ∷ drop (i + 1) (parts comma s)) where
+      pub items_no : None ≡ natural_in t q.most → unsound ≡ items_of q (parts comma s)
+      items_no z = sym (inv ∙ ap (items_from q x) more ∙ next_no q x _ _ (natural_denied _ q.most (sym z)))
 
-      pub items_go : (k : ℕ) (new : Items) → n ≡ N.In k → new ≡ with_item q x k → items_of q (parts comma s) ≡ items_from q new (parts_from comma s (r + 1))
-      items_go k new z w =
-          let said = natural_said _ q.most k (sym y ∙ z) in
-          inv ∙ ap (items_from q x) (from_step comma s at r h e) ∙ next_yes q x _ _ said.0 ∙
-          ap (λ i. items_from q (with_item q x i) (parts_from comma s (r + 1))) said.1 ∙
-          ap (λ u. items_from q u (parts_from comma s (r + 1))) (sym w)
-
-pub ruleset items_laws = (items_start, items_end, items_no, items_go)
+      pub items_go : (k : ℕ) (new : Items) (j : ℕ) → Some k ≡ natural_in t q.most → new ≡ with_item q x k → j ≡ i + 1 → items_of q (parts comma s) ≡ items_from q new (drop j (parts comma s))
+      items_go k new j z w e =
+          let said = natural_said _ q.most k (sym z) in
+          inv ∙ ap (items_from q x) more ∙ next_yes q x _ _ said.0 ∙
+          ap (λ n. items_from q (with_item q x n) (drop (i + 1) (parts comma s))) said.1 ∙
+          rw (w, e)
 
 -- `read`
 pub read_none : (s : Bytes) (q : Asked) → length s ≡ 0 → record { sound = true; rising = true; outside = false; rest = q.all } ≡ items_of q (list_items s)

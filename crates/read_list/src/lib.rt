@@ -7,8 +7,6 @@ ghost use Rattle.format.specs.Bytes.{parts, comma};
 ghost use Rattle.format.specs.Rows.{list_items};
 ghost use Rattle.read_list.specs.Items.{with_item, no_items, items_of};
 
-use text_numbers::Natural;
-
 // What is asked of a list: the greatest number that there is, the least that it may begin with, the bound, and the set
 // that its numbers are taken out of.
 #[derive(Clone, Copy)]
@@ -68,13 +66,9 @@ fn with_item(asked: Asked, seen: Items, k: u32) -> Items
 pub fn filled(part: &[u8], asked: Asked) -> Listed
     ensures { result ≡ items_of asked (parts comma part.now) }
 {
-    let most = asked.most;
     let mut seen = no_items(asked);
-    let mut at = 0;
-    while at <= part.len() {
-        let end = text_bytes::find(part, at, b',');
-        let n = text_numbers::natural(&part[at..end], most);
-        let Natural::In(k) = n else {
+    for item in part.split(|&b| b == b',') {
+        let Some(k) = text_numbers::natural(item, asked.most) else {
             return Listed {
                 sound: false,
                 rising: false,
@@ -83,7 +77,6 @@ pub fn filled(part: &[u8], asked: Asked) -> Listed
             };
         };
         seen = with_item(asked, seen, k);
-        at = end + 1;
     }
     Listed {
         sound: true,

@@ -21,55 +21,58 @@ use Rattle.format.specs.Tokens.{tokens, sounds}
 use Rattle.text_bytes.specs.Find.{gap}
 use Rattle.text_bytes.proofs.FindLaws.{gap_within}
 use Rattle.read_words.specs.Codes.{stray_code}
-use Rattle.read_words.specs.declared.reading.Words.{Words}
+use Rattle.read_words.specs.declared.reading.WordsError.{WordsError}
+use Rattle.read_words.specs.declared.reading.WordsError.TheVariants as W
 use Rattle.read_words.specs.Read.{count, written, Reads}
 use Rattle.read_words.proofs.Answers.{said_read}
 use Rattle.model.proofs.Tests.{not-not}
-use Rattle.read_nodes.specs.declared.Nodes.{Nodes}
-use Rattle.read_nodes.specs.declared.Nodes.TheVariants.{Are, Unsound, Full}
-use Rattle.read_nodes.specs.Nodes.{told, extent_fault, nodes_fault, judged_in, on_words, codes_of, nodes_read, nodes_after}
+use Rattle.read_nodes.specs.declared.NodesError.{NodesError}
+use Rattle.read_nodes.specs.declared.NodesError.TheVariants as E
+use Rattle.std.specs.Prelude.{Result, Ok, Err}
+use Rattle.std.specs.Result.{IsErrAnd}
+use Rattle.read_nodes.specs.Nodes.{broken_row, nodes_error, told, extent_fault, nodes_fault, judged_in, on_words, codes_of, nodes_read, nodes_after}
 
 -- the first row that is broken is the answer; a row that is not leaves it to the later ones
-hit : (n row : ℕ) (b : Bool) (rest : Option ℕ) → b ≡ true → Unsound row ≡ told n (broken row b rest)
+hit : (n row : ℕ) (b : Bool) (rest : Option ℕ) → b ≡ true → broken_row row ≡ told n (broken row b rest)
 unfolding told broken
 hit n row b rest h = rw h
 
-pass : (n row : ℕ) (b : Bool) (rest : Option ℕ) (r : Nodes) → b ≡ false → r ≡ told n rest → r ≡ told n (broken row b rest)
+pass : (n row : ℕ) (b : Bool) (rest : Option ℕ) (r : Result ℕ NodesError) → b ≡ false → r ≡ told n rest → r ≡ told n (broken row b rest)
 unfolding told broken
 pass n row b rest r h e = rw h e
 
 -- `extent`
 module _ (nodes ranges : List ℕ) (before : ℕ) (w : Walked) (hw : w ≡ walk_at nodes ranges 0) where
-  pub extent_deep : w.deep ≡ true → Unsound 9 ≡ told (length nodes) (extent_fault ranges before nodes)
+  pub extent_deep : w.deep ≡ true → broken_row 9 ≡ told (length nodes) (extent_fault ranges before nodes)
   unfolding extent_fault
   extent_deep h = rw (← hw) (hit (length nodes) 9 _ _ h)
 
   module _ (h : w.deep ≡ false) where
-    past_deep : (r : Nodes) → r ≡ told (length nodes) (broken 10 w.leaves (broken 11 (not (leb (before + length nodes) max_nodes)) none)) → r ≡ told (length nodes) (extent_fault ranges before nodes)
+    past_deep : (r : Result ℕ NodesError) → r ≡ told (length nodes) (broken 10 w.leaves (broken 11 (not (leb (before + length nodes) max_nodes)) none)) → r ≡ told (length nodes) (extent_fault ranges before nodes)
     unfolding extent_fault
     past_deep r e = rw (← hw) (pass (length nodes) 9 w.deep _ r h e)
 
-    pub extent_leaves : w.leaves ≡ true → Unsound 10 ≡ told (length nodes) (extent_fault ranges before nodes)
-    extent_leaves g = past_deep (Unsound 10) (hit (length nodes) 10 w.leaves _ g)
+    pub extent_leaves : w.leaves ≡ true → broken_row 10 ≡ told (length nodes) (extent_fault ranges before nodes)
+    extent_leaves g = past_deep (broken_row 10) (hit (length nodes) 10 w.leaves _ g)
 
     module _ (g : w.leaves ≡ false) (b : Bool) (hb : b ≡ leb (before + length nodes) max_nodes) where
-      pub extent_many : not b ≡ true → Unsound 11 ≡ told (length nodes) (extent_fault ranges before nodes)
-      extent_many q = past_deep (Unsound 11) (pass (length nodes) 10 w.leaves _ (Unsound 11) g (hit (length nodes) 11 _ none (ap not (sym hb) ∙ q)))
+      pub extent_many : not b ≡ true → broken_row 11 ≡ told (length nodes) (extent_fault ranges before nodes)
+      extent_many q = past_deep (broken_row 11) (pass (length nodes) 10 w.leaves _ (broken_row 11) g (hit (length nodes) 11 _ none (ap not (sym hb) ∙ q)))
 
-      pub extent_fine : not b ≡ false → Are (length nodes) ≡ told (length nodes) (extent_fault ranges before nodes)
+      pub extent_fine : not b ≡ false → Ok (length nodes) ≡ told (length nodes) (extent_fault ranges before nodes)
       unfolding told
-      extent_fine q = past_deep (Are (length nodes)) (pass (length nodes) 10 w.leaves _ (Are (length nodes)) g (pass (length nodes) 11 _ none (Are (length nodes)) (ap not (sym hb) ∙ q) refl))
+      extent_fine q = past_deep (Ok (length nodes)) (pass (length nodes) 10 w.leaves _ (Ok (length nodes)) g (pass (length nodes) 11 _ none (Ok (length nodes)) (ap not (sym hb) ∙ q) refl))
 
 pub ruleset extent_laws = (extent_deep, extent_leaves, extent_many, extent_fine)
 
 -- `judged`
 module _ (nodes ranges : List ℕ) (o : Bool) (variables before high : ℕ) where
-  pub judged_full : high < length nodes → Full ≡ judged_in o variables ranges before high nodes
+  pub judged_full : high < length nodes → Err E.Full ≡ judged_in o variables ranges before high nodes
   unfolding judged_in
   judged_full h = rw (lt-leb (length nodes) high h, judged_in)
 
   module _ (room : length nodes ≤ high) where
-    pub judged_in_lem : (r : Nodes) → r ≡ told (length nodes) (nodes_fault o variables ranges before nodes) → r ≡ judged_in o variables ranges before high nodes
+    pub judged_in_lem : (r : Result ℕ NodesError) → r ≡ told (length nodes) (nodes_fault o variables ranges before nodes) → r ≡ judged_in o variables ranges before high nodes
     unfolding judged_in
     judged_in_lem r e = rw (le-leb (length nodes) high room, judged_in) e
 
@@ -79,30 +82,30 @@ module _ (nodes ranges : List ℕ) (o : Bool) (variables before high : ℕ) wher
           let e : leb (length nodes) (length nodes) ≡ true = le-leb (length nodes) (length nodes) (omega arith) in
           sym (not-not _) ∙ ap not (sym (rw (le-leb (length nodes) high room, e, take-length nodes) at hb))
 
-      pub judged_ill : not b ≡ true → Unsound 6 ≡ judged_in o variables ranges before high nodes
+      pub judged_ill : not b ≡ true → broken_row 6 ≡ judged_in o variables ranges before high nodes
       unfolding nodes_fault
-      judged_ill h = judged_in_lem (Unsound 6) (hit (length nodes) 6 _ _ (ill_is ∙ h))
+      judged_ill h = judged_in_lem (broken_row 6) (hit (length nodes) 6 _ _ (ill_is ∙ h))
 
       module _ (h : not b ≡ false) (q : Bool) (hq : q ≡ names_outside variables (map word_of (take (length nodes) nodes))) where
         outside_is : names_outside variables (map word_of nodes) ≡ q
         outside_is = ap (λ (l : List ℕ). names_outside variables (map word_of l)) (sym (take-length nodes)) ∙ sym hq
 
-        pub judged_outside : q ≡ true → Unsound 7 ≡ judged_in o variables ranges before high nodes
+        pub judged_outside : q ≡ true → broken_row 7 ≡ judged_in o variables ranges before high nodes
         unfolding nodes_fault
-        judged_outside g = judged_in_lem (Unsound 7) (pass (length nodes) 6 _ _ (Unsound 7) (ill_is ∙ h) (hit (length nodes) 7 _ _ (outside_is ∙ g)))
+        judged_outside g = judged_in_lem (broken_row 7) (pass (length nodes) 6 _ _ (broken_row 7) (ill_is ∙ h) (hit (length nodes) 7 _ _ (outside_is ∙ g)))
 
         module _ (g : q ≡ false) (w : Bool) (hw : w ≡ names_new (map word_of (take (length nodes) nodes))) where
           new_is : (o && names_new (map word_of nodes)) ≡ (o && w)
           new_is = ap (λ (l : List ℕ). o && names_new (map word_of l)) (sym (take-length nodes)) ∙ ap (λ (x : Bool). o && x) (sym hw)
 
-          pub judged_new : (o && w) ≡ true → Unsound 8 ≡ judged_in o variables ranges before high nodes
+          pub judged_new : (o && w) ≡ true → broken_row 8 ≡ judged_in o variables ranges before high nodes
           unfolding nodes_fault
           judged_new i =
-              judged_in_lem (Unsound 8)
-              (pass (length nodes) 6 _ _ (Unsound 8) (ill_is ∙ h)
-              (pass (length nodes) 7 _ _ (Unsound 8) (outside_is ∙ g) (hit (length nodes) 8 _ _ (new_is ∙ i))))
+              judged_in_lem (broken_row 8)
+              (pass (length nodes) 6 _ _ (broken_row 8) (ill_is ∙ h)
+              (pass (length nodes) 7 _ _ (broken_row 8) (outside_is ∙ g) (hit (length nodes) 8 _ _ (new_is ∙ i))))
 
-          pub judged_rest : (o && w) ≡ false → (r : Nodes) → r ≡ told (length nodes) (extent_fault ranges before nodes) → r ≡ judged_in o variables ranges before high nodes
+          pub judged_rest : (o && w) ≡ false → (r : Result ℕ NodesError) → r ≡ told (length nodes) (extent_fault ranges before nodes) → r ≡ judged_in o variables ranges before high nodes
           unfolding nodes_fault
           judged_rest i r e =
               judged_in_lem r
@@ -112,7 +115,7 @@ module _ (nodes ranges : List ℕ) (o : Bool) (variables before high : ℕ) wher
 pub ruleset judged_laws = (judged_full, judged_ill, judged_outside, judged_new, judged_rest)
 
 -- `read`: where all words were read, their codes stand in front
-pub read_front : (part old new : List ℕ) (n : ℕ) → Reads part old new (Words.Read n) → (take n new ≡ codes_of part) × (length (codes_of part) ≡ n)
+pub read_front : (part old new : List ℕ) (n : ℕ) → Reads part old new (Ok n) → (take n new ≡ codes_of part) × (length (codes_of part) ≡ n)
 unfolding codes_of written count
 read_front part old new n r =
     let cs = codes_of part in
@@ -124,12 +127,21 @@ read_front part old new n r =
     let w : new ≡ cs ++ drop n old = r.memory ∙ rw (g, t, take_all (length old) cs m) in
     (ap (take n) w ∙ take_at cs (drop n old) n l, l)
 
+pub read_within : (part old new : List ℕ) (n : ℕ) → Reads part old new (Ok n) → n ≤ length new
+read_within part old new n r =
+    let i = said_read (codes_of part) (length old) n (unfold codes_of in r.answered) in
+    omega (arith, i.1, r.long)
+
+by_error : (r : Result ℕ NodesError) (e : NodesError) → IsErrAnd r (λ x. x ≡ e) → r ≡ Err e
+by_error (Ok n) e h = absurd h
+by_error (Err x) e h = ap Err h
+
 module _ (part : List ℕ) (o : Bool) (variables : ℕ) (ranges : List ℕ) (before high : ℕ) (old : List ℕ) (b : Bool) (hb : b ≡ sounds [] (tokens part)) where
   module _ (h : not b ≡ true) where
     ill_numbers : sounds [] (tokens part) ≡ false
     ill_numbers = sym hb ∙ not-true b h
 
-    pub read_numbers : Unsound 3 ≡ nodes_read part o variables ranges before (length old) high
+    pub read_numbers : broken_row 3 ≡ nodes_read part o variables ranges before (length old) high
     unfolding nodes_read
     read_numbers = rw (ill_numbers, nodes_read)
 
@@ -137,7 +149,7 @@ module _ (part : List ℕ) (o : Bool) (variables : ℕ) (ranges : List ℕ) (bef
     unfolding nodes_after
     read_numbers_kept = rw (ill_numbers, nodes_after)
 
-  module _ (h : not b ≡ false) (new : List ℕ) (q : Words) (hq : Reads part old new q) where
+  module _ (h : not b ≡ false) (new : List ℕ) (q : Result ℕ WordsError) (hq : Reads part old new q) where
     numbers : sounds [] (tokens part) ≡ true
     numbers = sym hb ∙ not-false b h
 
@@ -145,23 +157,20 @@ module _ (part : List ℕ) (o : Bool) (variables : ℕ) (ranges : List ℕ) (bef
     unfolding nodes_after codes_of
     read_after = rw (numbers, nodes_after) hq.memory
 
-    by_words : (r : Nodes) → r ≡ on_words o variables ranges before high (codes_of part) q → r ≡ nodes_read part o variables ranges before (length old) high
+    by_words : (r : Result ℕ NodesError) → r ≡ on_words o variables ranges before high (codes_of part) q → r ≡ nodes_read part o variables ranges before (length old) high
     unfolding nodes_read codes_of
     by_words r e = rw (numbers, nodes_read) (e ∙ ap (on_words o variables ranges before high (codes_of part)) hq.answered)
 
-    pub read_stray : q ≡ Words.Stray → Unsound 6 ≡ nodes_read part o variables ranges before (length old) high
+    pub read_failed : (w : WordsError) → q ≡ Err w → (r : Result ℕ NodesError) → IsErrAnd r (λ x. x ≡ nodes_error w) → r ≡ nodes_read part o variables ranges before (length old) high
     unfolding on_words
-    read_stray e = by_words (Unsound 6) (rw e)
+    read_failed W.Stray e r z = by_words r (rw e (by_error r (nodes_error W.Stray) z))
+    read_failed W.Full e r z = by_words r (rw e (by_error r (nodes_error W.Full) z))
 
-    pub read_full : q ≡ Words.Full → Full ≡ nodes_read part o variables ranges before (length old) high
-    unfolding on_words
-    read_full e = by_words Full (rw e)
-
-    pub read_words_lem : (n : ℕ) → q ≡ Words.Read n → (ns : List ℕ) → ns ≡ take n new → (r : Nodes) → r ≡ judged_in o variables ranges before high ns
+    pub read_words_lem : (n : ℕ) → q ≡ Ok n → (ns : List ℕ) → ns ≡ take n new → (r : Result ℕ NodesError) → r ≡ judged_in o variables ranges before high ns
         → r ≡ nodes_read part o variables ranges before (length old) high
     unfolding on_words
     read_words_lem n e ns hn r hr =
         let f = read_front part old new n (rw e at hq) in
         by_words r (rw e (hr ∙ ap (judged_in o variables ranges before high) (hn ∙ f.0)))
 
-pub ruleset read_laws = (read_numbers, read_numbers_kept, read_after, read_stray, read_full, read_words_lem)
+pub ruleset read_laws = (read_within, read_numbers, read_numbers_kept, read_after, read_failed, read_words_lem)

@@ -27,19 +27,21 @@ use Rattle.format.specs.Tokens.{tokens, sounds, read_words}
 use Rattle.text_bytes.specs.Find.{gap}
 use Rattle.text_bytes.proofs.FindLaws.{gap_within}
 use Rattle.read_words.specs.Codes.{stray_code}
-use Rattle.read_words.specs.declared.reading.Words.{Words}
+use Rattle.read_words.specs.declared.reading.WordsError.{WordsError}
+use Rattle.read_words.specs.declared.reading.WordsError.TheVariants as W
 use Rattle.read_words.specs.Read.{answer, count, written, Reads}
 use Rattle.read_words.proofs.Answers.{read_all_words, read_stray_word, never_full, words_read, half_as_many, said_read}
 use Rattle.read_form.proofs.Outcomes.{same_row}
 use Rattle.model.proofs.Tests.{not_leb}
-use Rattle.read_nodes.specs.declared.Nodes.{Nodes}
-use Rattle.read_nodes.specs.declared.Nodes.TheVariants.{Are, Unsound, Full}
-use Rattle.read_nodes.specs.Nodes.{told, extent_fault, nodes_fault, judged_in, on_words, codes_of, nodes_read, nodes_after}
+use Rattle.read_nodes.specs.declared.NodesError.{NodesError}
+use Rattle.read_nodes.specs.declared.NodesError.TheVariants as E
+use Rattle.std.specs.Prelude.{Result, Ok, Err}
+use Rattle.read_nodes.specs.Nodes.{broken_row, told, extent_fault, nodes_fault, judged_in, on_words, codes_of, nodes_read, nodes_after}
 use Rattle.read_nodes.specs.Text.{text_pred, text_fault}
 use Rattle.read_nodes.proofs.NodesLaws.{read_front}
 
 -- what an answer says of the rows
-pub told_are : (k n : ℕ) (f : Option ℕ) → told k f ≡ Are n → (f ≡ none) × (n ≡ k)
+pub told_are : (k n : ℕ) (f : Option ℕ) → told k f ≡ Ok n → (f ≡ none) × (n ≡ k)
 unfolding told
 told_are k n none e = (refl, cc)
 told_are k n (some row) e = absurd (let z : ◌≡◌ {A = ℕ} 0 1 = cc in omega arith)
@@ -89,10 +91,10 @@ module _ (part : Bytes) (sound : sounds [] (tokens part) ≡ true) where
     abbrev after : List ℕ
     after = written (codes_of part) (blank room)
 
-    spelled : (n : ℕ) → answer (codes_of part) room ≡ Words.Read n → Spelled
+    spelled : (n : ℕ) → answer (codes_of part) room ≡ Ok n → Spelled
     unfolding codes_of
     spelled n e =
-        let k : Reads part (blank room) after (Words.Read n) = rw e at (reads_are part room) in
+        let k : Reads part (blank room) after (Ok n) = rw e at (reads_are part room) in
         let f = read_front part (blank room) after n k in
         let s = said_read (codes_of part) room n (sym e) in
         record {
@@ -101,10 +103,10 @@ module _ (part : Bytes) (sound : sounds [] (tokens part) ≡ true) where
           few = omega (arith, f.1, s.0, half_as_many part);
         }
 
-    unspelled : answer (codes_of part) room ≡ Words.Stray → read_pred the_words ≡ none
+    unspelled : answer (codes_of part) room ≡ Err W.Stray → read_pred the_words ≡ none
     unspelled e = read_stray_word part (blank room) after sound (rw e at (reads_are part room))
 
-    unfilled : length part ≤ 2 * room → answer (codes_of part) room ≡ Words.Full → ⊥
+    unfilled : length part ≤ 2 * room → answer (codes_of part) room ≡ Err W.Full → ⊥
     unfilled l e = never_full part (blank room) after (omega (arith, length-replicate {A = ℕ} room 0)) (rw e at (reads_are part room))
 
   -- the predicate that they make
@@ -185,19 +187,19 @@ module _ (declared : List Range) (ranges : List ℕ) (are : declared_of ranges �
           let l : length (codes_of part) ≤ high = omega (arith, m.few) in
           rw (le-leb (length (codes_of part)) high l, judged_in) (ap (told (length (codes_of part))) (nodes_rows s m))
 
-      words_rows : (s : sounds [] (tokens part) ≡ true) (a : Words) → answer (codes_of part) room ≡ a
+      words_rows : (s : sounds [] (tokens part) ≡ true) (a : Result ℕ WordsError) → answer (codes_of part) room ≡ a
           → on_words o (length declared) ranges before high (codes_of part) a ≡ told (length (codes_of part)) later
       unfolding on_words told lacks
-      words_rows s (Words.Read n) e = judged_rows s (spelled part s room n e)
-      words_rows s Words.Stray e = ap (told (length (codes_of part))) (sym (is_broken 6 _ _ (ap lacks (unspelled part s room e))))
-      words_rows s Words.Full e = absurd (unfilled part s room enough e)
+      words_rows s (Ok n) e = judged_rows s (spelled part s room n e)
+      words_rows s (Err W.Stray) e = ap (told (length (codes_of part))) (sym (is_broken 6 _ _ (ap lacks (unspelled part s room e))))
+      words_rows s (Err W.Full) e = absurd (unfilled part s room enough e)
 
       pub read_rows : nodes_read part o (length declared) ranges before room high ≡ told (length (codes_of part)) (text_fault declared before o part none)
       unfolding nodes_read text_fault told
       read_rows = go (sounds [] (tokens part)) refl
         where
           go : (v : Bool) → sounds [] (tokens part) ≡ v
-              → elim v as (λ x. Nodes) [ true ↦ on_words o (length declared) ranges before high (codes_of part) (answer (codes_of part) room) | false ↦ Unsound 3 ]
+              → elim v as (λ x. Result ℕ NodesError) [ true ↦ on_words o (length declared) ranges before high (codes_of part) (answer (codes_of part) room) | false ↦ broken_row 3 ]
               ≡ told (length (codes_of part)) (broken 3 (not v) later)
           go true e = words_rows e (answer (codes_of part) room) refl ∙ ap (told (length (codes_of part))) (sym (not_broken 3 _ later refl))
           go false e = ap (told (length (codes_of part))) (sym (is_broken 3 _ later refl))
@@ -213,38 +215,38 @@ module _ (part : Bytes) (o : Bool) (variables : ℕ) (ranges : List ℕ) (before
   -- each step of the reading went well
   pub record Went (n : ℕ) : Type 0 where
     pub numbers : sounds [] (tokens part) ≡ true
-    pub words : answer (codes_of part) room ≡ Words.Read n
+    pub words : answer (codes_of part) room ≡ Ok n
     pub rows : nodes_fault o variables ranges before (codes_of part) ≡ none
 
-  judged_are : (n : ℕ) → judged_in o variables ranges before high (codes_of part) ≡ Are n → (nodes_fault o variables ranges before (codes_of part) ≡ none) × (n ≡ length (codes_of part))
+  judged_are : (n : ℕ) → judged_in o variables ranges before high (codes_of part) ≡ Ok n → (nodes_fault o variables ranges before (codes_of part) ≡ none) × (n ≡ length (codes_of part))
   unfolding judged_in
   judged_are n e = go (leb (length (codes_of part)) high) e
     where
-      go : (v : Bool) → elim v as (λ x. Nodes) [ true ↦ told (length (codes_of part)) (nodes_fault o variables ranges before (codes_of part)) | false ↦ Full ] ≡ Are n
+      go : (v : Bool) → elim v as (λ x. Result ℕ NodesError) [ true ↦ told (length (codes_of part)) (nodes_fault o variables ranges before (codes_of part)) | false ↦ Err E.Full ] ≡ Ok n
           → (nodes_fault o variables ranges before (codes_of part) ≡ none) × (n ≡ length (codes_of part))
       go true k = told_are _ n _ k
       go false k = absurd (let z : ◌≡◌ {A = ℕ} 0 1 = cc in omega arith)
 
-  words_are : (n : ℕ) → sounds [] (tokens part) ≡ true → (a : Words) → answer (codes_of part) room ≡ a
-      → on_words o variables ranges before high (codes_of part) a ≡ Are n → Went n
+  words_are : (n : ℕ) → sounds [] (tokens part) ≡ true → (a : Result ℕ WordsError) → answer (codes_of part) room ≡ a
+      → on_words o variables ranges before high (codes_of part) a ≡ Ok n → Went n
   unfolding on_words
-  words_are n s (Words.Read m) e h =
+  words_are n s (Ok m) e h =
       let i = judged_are n h in
       let f = read_front part (blank room) (written (codes_of part) (blank room)) m (rw e at (reads_are part room)) in
-      record { numbers = s; words = e ∙ ap Words.Read (sym f.1 ∙ sym i.1); rows = i.0 }
-  words_are n s Words.Stray e h = absurd (let z : ◌≡◌ {A = ℕ} 0 1 = cc in omega arith)
-  words_are n s Words.Full e h = absurd (let z : ◌≡◌ {A = ℕ} 0 1 = cc in omega arith)
+      record { numbers = s; words = e ∙ ap Ok (sym f.1 ∙ sym i.1); rows = i.0 }
+  words_are n s (Err W.Stray) e h = absurd (let z : ◌≡◌ {A = ℕ} 0 1 = cc in omega arith)
+  words_are n s (Err W.Full) e h = absurd (let z : ◌≡◌ {A = ℕ} 0 1 = cc in omega arith)
 
-  pub went : (n : ℕ) → nodes_read part o variables ranges before room high ≡ Are n → Went n
+  pub went : (n : ℕ) → nodes_read part o variables ranges before room high ≡ Ok n → Went n
   unfolding nodes_read
   went n h = go (sounds [] (tokens part)) refl h
     where
       go : (v : Bool) → sounds [] (tokens part) ≡ v
-          → elim v as (λ x. Nodes) [ true ↦ on_words o variables ranges before high (codes_of part) (answer (codes_of part) room) | false ↦ Unsound 3 ] ≡ Are n → Went n
+          → elim v as (λ x. Result ℕ NodesError) [ true ↦ on_words o variables ranges before high (codes_of part) (answer (codes_of part) room) | false ↦ broken_row 3 ] ≡ Ok n → Went n
       go true e k = words_are n e (answer (codes_of part) room) refl k
       go false e k = absurd (let z : ◌≡◌ {A = ℕ} 0 1 = cc in omega arith)
 
-  pub accepted : (n : ℕ) → nodes_read part o variables ranges before room high ≡ Are n → Accepted part n
+  pub accepted : (n : ℕ) → nodes_read part o variables ranges before room high ≡ Ok n → Accepted part n
   unfolding nodes_fault extent_fault node_count
   accepted n h =
       let i = went n h in
@@ -265,12 +267,12 @@ module _ (part : Bytes) (o : Bool) (variables : ℕ) (ranges : List ℕ) (before
       }
 
   -- they stand in front of the lent memory
-  pub accepted_stands : (n : ℕ) (old : List ℕ) → length old ≡ room → nodes_read part o variables ranges before room high ≡ Are n → take n (nodes_after part old) ≡ codes_of part
+  pub accepted_stands : (n : ℕ) (old : List ℕ) → length old ≡ room → nodes_read part o variables ranges before room high ≡ Ok n → take n (nodes_after part old) ≡ codes_of part
   unfolding nodes_after codes_of
   accepted_stands n old l h =
       let i = went n h in
-      let a : answer (codes_of part) (length old) ≡ Words.Read n = ap (answer (codes_of part)) l ∙ i.words in
-      let k : Reads part old (written (codes_of part) old) (Words.Read n) = record { answered = sym a; memory = refl; long = written_long (codes_of part) old } in
+      let a : answer (codes_of part) (length old) ≡ Ok n = ap (answer (codes_of part)) l ∙ i.words in
+      let k : Reads part old (written (codes_of part) old) (Ok n) = record { answered = sym a; memory = refl; long = written_long (codes_of part) old } in
       ap (take n) (rw (i.numbers, nodes_after)) ∙ (read_front part old (written (codes_of part) old) n k).0
 
 -- more room than enough changes nothing
@@ -282,23 +284,23 @@ module _ (part : Bytes) (room high : ℕ) (enough : length part ≤ 2 * room) (s
       rw (le-leb (gap stray_code (codes_of part)) room (omega arith), le-leb (gap stray_code (codes_of part)) most (omega arith), answer)
 
   module _ (o : Bool) (variables : ℕ) (ranges : List ℕ) (before most top : ℕ) (up : length part ≤ 2 * most) (over : length part ≤ 2 * top) where
-    words_same : sounds [] (tokens part) ≡ true → (a : Words) → answer (codes_of part) room ≡ a
+    words_same : sounds [] (tokens part) ≡ true → (a : Result ℕ WordsError) → answer (codes_of part) room ≡ a
         → on_words o variables ranges before high (codes_of part) a ≡ on_words o variables ranges before top (codes_of part) a
     unfolding on_words judged_in
-    words_same s (Words.Read n) e =
+    words_same s (Ok n) e =
         let f = (spelled part s room n e).few in
         rw (le-leb (length (codes_of part)) high (omega arith), le-leb (length (codes_of part)) top (omega arith), judged_in)
-    words_same s Words.Stray e = refl
-    words_same s Words.Full e = refl
+    words_same s (Err W.Stray) e = refl
+    words_same s (Err W.Full) e = refl
 
     pub room_same : nodes_read part o variables ranges before room high ≡ nodes_read part o variables ranges before most top
     unfolding nodes_read
     room_same = go (sounds [] (tokens part)) refl
       where
         go : (v : Bool) → sounds [] (tokens part) ≡ v
-            → ◌≡◌ {A = Nodes}
-            (elim v as (λ x. Nodes) [ true ↦ on_words o variables ranges before high (codes_of part) (answer (codes_of part) room) | false ↦ Unsound 3 ])
-            (elim v as (λ x. Nodes) [ true ↦ on_words o variables ranges before top (codes_of part) (answer (codes_of part) most) | false ↦ Unsound 3 ])
+            → ◌≡◌ {A = Result ℕ NodesError}
+            (elim v as (λ x. Result ℕ NodesError) [ true ↦ on_words o variables ranges before high (codes_of part) (answer (codes_of part) room) | false ↦ broken_row 3 ])
+            (elim v as (λ x. Result ℕ NodesError) [ true ↦ on_words o variables ranges before top (codes_of part) (answer (codes_of part) most) | false ↦ broken_row 3 ])
         go true e = words_same e (answer (codes_of part) room) refl ∙ ap (on_words o variables ranges before top (codes_of part)) (answer_same most up)
         go false e = refl
 
@@ -320,5 +322,5 @@ read_exact declared ranges are lawful before part o old high enough sorts =
     go none e h =
         let a = accepted part o (length declared) ranges before (length old) high (length (codes_of part)) e in
         let s = accepted_stands part o (length declared) ranges before (length old) high (length (codes_of part)) old refl e in
-        record { answer = e ∙ ap Are a.size ∙ rw h; memory = λ q. rw (← a.size) (s ∙ a.codes) }
+        record { answer = e ∙ ap Ok a.size ∙ rw h; memory = λ q. rw (← a.size) (s ∙ a.codes) }
     go (some row) e h = record { answer = e ∙ rw h; memory = λ q. absurd (let z : ◌≡◌ {A = ℕ} 0 1 = cc in omega arith) }

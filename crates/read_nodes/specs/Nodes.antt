@@ -7,20 +7,31 @@ use Rattle.model.specs.Bounds.{max_nodes}
 use Rattle.model.specs.Predicate.{names_outside, names_new}
 use Rattle.model.specs.Parse.{read_pred}
 use Rattle.model.specs.Limits.{broken}
+use Rattle.model.specs.Row.{row}
 use Rattle.model.specs.Table.{word_of}
 use Rattle.table_predicate.specs.Walk.{walk_at}
 use Rattle.format.specs.Bytes.{Bytes}
 use Rattle.format.specs.Tokens.{tokens, sounds}
 use Rattle.read_words.specs.declared.reading.Due.TheVariants.{Word}
-use Rattle.read_words.specs.declared.reading.Words.{Words}
+use Rattle.read_words.specs.declared.reading.WordsError.{WordsError}
+use Rattle.read_words.specs.declared.reading.WordsError.TheVariants as W
 use Rattle.read_words.specs.Read.{codes, answer, written}
-use Rattle.read_nodes.specs.declared.Nodes.{Nodes}
-use Rattle.read_nodes.specs.declared.Nodes.TheVariants.{Are, Unsound, Full}
+use Rattle.read_nodes.specs.declared.NodesError.{NodesError}
+use Rattle.read_nodes.specs.declared.NodesError.TheVariants as E
+use Rattle.std.specs.Prelude.{Result, Ok, Err}
+
+-- a row that is broken; and what the words break, where they were not all read
+abbrev pub broken_row : ℕ → Result ℕ NodesError
+broken_row r = Err (E.Row (row r))
+
+abbrev pub nodes_error : WordsError → NodesError
+nodes_error W.Stray = E.Row (row 6)
+nodes_error W.Full = E.Full
 
 -- so many nodes, if no row is broken
-unfoldable pub told : (nodes : ℕ) → Option ℕ → Nodes
-told nodes none = Are nodes
-told nodes (some row) = Unsound row
+unfoldable pub told : (nodes : ℕ) → Option ℕ → Result ℕ NodesError
+told nodes none = Ok nodes
+told nodes (some r) = broken_row r
 
 -- rows 9 to 11 of node words, by the words of the ranges and the nodes before these
 unfoldable pub extent_fault : (ranges : List ℕ) (before : ℕ) (nodes : List ℕ) → Option ℕ
@@ -40,15 +51,15 @@ module _ (old_only : Bool) (variables : ℕ) (ranges : List ℕ) (before : ℕ) 
       (extent_fault ranges before nodes)))
 
   -- with room for so many sorts
-  unfoldable pub judged_in : (high : ℕ) (nodes : List ℕ) → Nodes
+  unfoldable pub judged_in : (high : ℕ) (nodes : List ℕ) → Result ℕ NodesError
   judged_in high nodes =
-      elim (leb (length nodes) high) [ true ↦ told (length nodes) (nodes_fault nodes) | false ↦ Full ]
+      elim (leb (length nodes) high) [ true ↦ told (length nodes) (nodes_fault nodes) | false ↦ Err E.Full ]
 
   -- by what reading the words came to, of which these are the codes
-  unfoldable pub on_words : (high : ℕ) (nodes : List ℕ) → Words → Nodes
-  on_words high nodes (Words.Read n) = judged_in high nodes
-  on_words high nodes Words.Stray = Unsound 6
-  on_words high nodes Words.Full = Full
+  unfoldable pub on_words : (high : ℕ) (nodes : List ℕ) → Result ℕ WordsError → Result ℕ NodesError
+  on_words high nodes (Ok n) = judged_in high nodes
+  on_words high nodes (Err W.Stray) = broken_row 6
+  on_words high nodes (Err W.Full) = Err E.Full
 
 -- the codes of the words that the bytes spell
 unfoldable pub codes_of : Bytes → List ℕ
@@ -56,11 +67,11 @@ codes_of part = codes Word (tokens part)
 
 -- with room for so many nodes, and for so many sorts
 unfoldable pub nodes_read :
-    (part : Bytes) (old_only : Bool) (variables : ℕ) (ranges : List ℕ) (before room high : ℕ) → Nodes
+    (part : Bytes) (old_only : Bool) (variables : ℕ) (ranges : List ℕ) (before room high : ℕ) → Result ℕ NodesError
 nodes_read part old_only variables ranges before room high =
     elim (sounds [] (tokens part)) [
       | true ↦ on_words old_only variables ranges before high (codes_of part) (answer (codes_of part) room)
-      | false ↦ Unsound 3
+      | false ↦ broken_row 3
     ]
 
 -- the lent memory for the nodes: as it was where row 3 is broken, or with the codes up to the first stray one in front

@@ -2,39 +2,49 @@
 // line, no key and no table is known but the words of the variables' ranges.
 #![tactic(auto)]
 
-ghost use Rattle.std.specs.Prelude.{◌≡◌, length, take};
+ghost use Rattle.std.specs.Prelude.{◌≡◌, length};
 ghost use Rattle.read_predicate.specs.Scratch.{Scratch};
-ghost use Rattle.read_nodes.specs.Nodes.{told, extent_fault, judged_in, nodes_read, nodes_after};
+ghost use Rattle.read_nodes.specs.Nodes.{nodes_error, told, extent_fault, judged_in, nodes_read, nodes_after};
 
-use model::Model;
-use read_words::Words;
+use model::{Model, Row};
+use read_words::WordsError;
 
-// Are: so many nodes, which stand at the front of the lent memory. Unsound: the smallest row that P breaks. Full: P has
-// more words than there are places, and what it breaks is not known.
-#[derive(Clone, Copy)]
-pub enum Nodes {
-    Are(usize),
-    Unsound(u32),
+// Row: the smallest row that P breaks. Full: P has more words than there are places, and what it breaks is not known.
+#[derive(Clone, Copy, Debug, PartialEq, Eq)]
+pub enum NodesError {
+    Row(Row),
     Full,
 }
 
+impl From<WordsError> for NodesError {
+    ghost from_gives = { λ w e. e ≡ nodes_error w };
+
+    fn from(words: WordsError) -> NodesError {
+        match words {
+            WordsError::Stray => NodesError::Row(Row(6)),
+            WordsError::Full => NodesError::Full,
+        }
+    }
+}
+
 // Rows 9, 10 and 11 of nodes that make a predicate.
-fn extent(nodes: &[u32], ranges: &[u32], before: usize) -> Nodes
+#[tactic(auto, using(crate::proofs::NodesLaws::extent_laws))]
+fn extent(nodes: &[u32], ranges: &[u32], before: usize) -> Result<usize, NodesError>
     ensures { result ≡ told (length nodes.now)
         (extent_fault ranges.now before nodes.now) }
 {
     let walk = table_predicate::walk(nodes, 0, ranges);
     if walk.deep {
-        return Nodes::Unsound(9);
+        return Err(NodesError::Row(Row(9)));
     }
     if walk.leaves {
-        return Nodes::Unsound(10);
+        return Err(NodesError::Row(Row(10)));
     }
     let n = nodes.len();
     if !arithmetic::fits(before, n, Model::NODES) {
-        return Nodes::Unsound(11);
+        return Err(NodesError::Row(Row(11)));
     }
-    Nodes::Are(n)
+    Ok(n)
 }
 
 // Rows 6 to 11 of node words.
@@ -45,35 +55,25 @@ fn judged(
     ranges: &[u32],
     before: usize,
     sorts: &mut [bool],
-) -> Nodes
+) -> Result<usize, NodesError>
     ensures value { result ≡ judged_in old variables ranges.now before (length sorts.old)
         nodes.now }
     ensures scratch { Scratch sorts.old sorts.new }
 {
     let n = nodes.len();
     if sorts.len() < n {
-        return Nodes::Full;
+        return Err(NodesError::Full);
     }
     if !read_predicate::well_formed(nodes, n, sorts) {
-        return Nodes::Unsound(6);
+        return Err(NodesError::Row(Row(6)));
     }
     if table_predicate::scan::names_outside(nodes, 0, n, variables) {
-        return Nodes::Unsound(7);
+        return Err(NodesError::Row(Row(7)));
     }
     if old & table_predicate::scan::names_new(nodes, 0, n) {
-        return Nodes::Unsound(8);
+        return Err(NodesError::Row(Row(8)));
     }
     extent(nodes, ranges, before)
-}
-
-// The first n, or all that there are.
-fn first(from: &[u32], n: usize) -> &[u32]
-    ensures { result.now ≡ take n from.now }
-{
-    if from.len() < n {
-        return from;
-    }
-    &from[..n]
 }
 
 // Reads the bytes of a P, of any length. Where `old`, P may name only old values. `ranges` has the variables' declared
@@ -88,19 +88,15 @@ pub fn read(
     before: usize,
     nodes: &mut [u32],
     sorts: &mut [bool],
-) -> Nodes
+) -> Result<usize, NodesError>
     ensures value { result ≡ nodes_read part.now old variables ranges.now before
         (length nodes.old) (length sorts.old) }
     ensures nodes_after { (nodes.new ≡ nodes_after part.now nodes.old)
         × Scratch sorts.old sorts.new }
 {
     if !read_tokens::numbers_sound(part) {
-        return Nodes::Unsound(3);
+        return Err(NodesError::Row(Row(3)));
     }
-    let read = read_words::read(part, nodes);
-    match read {
-        Words::Read(n) => judged(first(nodes, n), old, variables, ranges, before, sorts),
-        Words::Stray => Nodes::Unsound(6),
-        Words::Full => Nodes::Full,
-    }
+    let n = read_words::read(part, nodes)?;
+    judged(&nodes[..n], old, variables, ranges, before, sorts)
 }

@@ -21,9 +21,10 @@ use Rattle.format.specs.Spelling.{spelling}
 use Rattle.format.proofs.LineLaws.{formed}
 use Rattle.text_bytes.specs.Find.{gap}
 use Rattle.text_bytes.proofs.FindLaws.{parts_step, parts_last, parts_count}
-use Rattle.read_form.specs.declared.LineRead.TheVariants.{Sound}
-use Rattle.read_numbers.specs.declared.number.Count.{Count}
-use Rattle.read_numbers.specs.declared.number.Count.TheVariants.{Is, Unsound}
+use Rattle.std.specs.Prelude.{Result, Ok, Err}
+use Rattle.model.specs.declared.Row.{Row}
+use Rattle.model.specs.Row as Row
+use Rattle.read_form.specs.Outcome.{said}
 use Rattle.table_owners.specs.Owners.{beyond_in}
 use Rattle.table_owners.proofs.OwnerLaws.{beyond_is}
 use Rattle.table_line.specs.Line.{ranges_in}
@@ -47,10 +48,10 @@ sole_part c v h = go (ltb (gap c v) (length v)) refl
     go false e = parts_last c v (ltb-false (gap c v) (length v) e)
 
 -- the number by rows 2 and 3
-unfoldable by_rows : (two three : Bool) → ℕ → Count
-by_rows true three n = Unsound 2
-by_rows false true n = Unsound 3
-by_rows false false n = Is n
+unfoldable by_rows : (two three : Bool) → ℕ → Result ℕ Row
+by_rows true three n = Err (Row.row 2)
+by_rows false true n = Err (Row.row 3)
+by_rows false false n = Ok n
 
 -- the number, by whether the line is misformed and its value in the range
 by_value : (name : Bytes) (low high : ℕ) (s : Bytes) (ended two three : Bool) (n : ℕ) → misformed name 1 s ended ≡ two
@@ -58,7 +59,7 @@ by_value : (name : Bytes) (low high : ℕ) (s : Bytes) (ended two three : Bool) 
 unfolding count_in by_rows
 by_value name low high s ended true three n e f = rw (e, count_in)
 by_value name low high s ended false true n e f = let g = f refl in rw (e, not-true (within (pos low) (pos high) (value_after name s)) g.0, count_in)
-by_value name low high s ended false false n e f = let g = f refl in rw (e, not-false (within (pos low) (pos high) (value_after name s)) g.0, count_in) (ap (λ (x : ℕ). Is x) g.1)
+by_value name low high s ended false false n e f = let g = f refl in rw (e, not-false (within (pos low) (pos high) (value_after name s)) g.0, count_in) (ap (λ (x : ℕ). Ok x) g.1)
 
 module _ (k : Key) (s : Bytes) (ended : Bool) where
   abbrev l : Line
@@ -80,7 +81,7 @@ module _ (k : Key) (s : Bytes) (ended : Bool) where
       (λ e. let v = sole_field b c e in (ap (λ (x : Bytes). not (within (pos low) (pos high) x)) (sym v) ∙ ap not (sym d), ap natural_of (sym v)))
 
 -- the answer by the two rows
-number_read_lem : (two three : Bool) (n at : ℕ) → number_read (by_rows two three n) at ≡ answered (broken 2 two (broken 3 three none)) (Sound n 0 (next_place at 1))
+number_read_lem : (two three : Bool) (n at : ℕ) → number_read (by_rows two three n) at ≡ answered (broken 2 two (broken 3 three none)) (said n 0 (next_place at 1))
 unfolding number_read by_rows answered broken
 number_read_lem true three n at = refl
 number_read_lem false true n at = refl
@@ -132,17 +133,17 @@ module _ (r : Reading) (s : Bytes) (ended : Bool) (at : ℕ) (words : List ℕ) 
   -- the keys with one number: what is asked of the key is seen by computing
   module _ (k : Key) (low high : ℕ) (a : fields_of k ≡ 1) (b : field_count k ≡ 1) (c : fields k ln ≡ parts comma (value_of k ln)) (d : numbers_sound k ln ≡ within (pos low) (pos high) (field 0 k ln))
       (f : fault r k ln ≡ broken 2 (row2 k ln) (broken 3 (row3 k ln) none)) where
-    counting_read : number_read (count_in (spelling k) low high s ended) at ≡ answered (fault r k ln) (Sound (natural_of (field 0 k ln)) 0 (next_place at 1))
+    counting_read : number_read (count_in (spelling k) low high s ended) at ≡ answered (fault r k ln) (said (natural_of (field 0 k ln)) 0 (next_place at 1))
     counting_read =
-        ap (λ (x : Count). number_read x at) (count_rows k s ended low high a b c d) ∙ number_read_lem _ _ _ at
-        ∙ ap (λ (o : Option ℕ). answered o (Sound (natural_of (field 0 k ln)) 0 (next_place at 1))) (sym f)
+        ap (λ (x : Result ℕ Row). number_read x at) (count_rows k s ended low high a b c d) ∙ number_read_lem _ _ _ at
+        ∙ ap (λ (o : Option ℕ). answered o (said (natural_of (field 0 k ln)) 0 (next_place at 1))) (sym f)
 
     counting_left : number_after (count_in (spelling k) low high s ended) at words ≡ written (fault r k ln) (put at (natural_of (field 0 k ln) ∷ []) words) words
     counting_left =
-        ap (λ (x : Count). number_after x at words) (count_rows k s ended low high a b c d) ∙ number_left _ _ _ at words
+        ap (λ (x : Result ℕ Row). number_after x at words) (count_rows k s ended low high a b c d) ∙ number_left _ _ _ at words
         ∙ ap (λ (o : Option ℕ). written o (put at (natural_of (field 0 k ln) ∷ []) words) words) (sym f)
 
-  pub format_read : number_read (count_in (spelling format) first_format last_format s ended) at ≡ answered (fault r format ln) (Sound (natural_of (field 0 format ln)) 0 (next_place at 1))
+  pub format_read : number_read (count_in (spelling format) first_format last_format s ended) at ≡ answered (fault r format ln) (said (natural_of (field 0 format ln)) 0 (next_place at 1))
   unfolding fields_of field_count fields numbers_sound is place
   format_read = counting_read format first_format last_format refl refl refl refl (fault_format r s ended)
 
@@ -150,7 +151,7 @@ module _ (r : Reading) (s : Bytes) (ended : Bool) (at : ℕ) (words : List ℕ) 
   unfolding fields_of field_count fields numbers_sound is place
   format_left = counting_left format first_format last_format refl refl refl refl (fault_format r s ended)
 
-  pub actions_read : number_read (count_in (spelling actions) 0 max_actions s ended) at ≡ answered (fault r actions ln) (Sound (natural_of (field 0 actions ln)) 0 (next_place at 1))
+  pub actions_read : number_read (count_in (spelling actions) 0 max_actions s ended) at ≡ answered (fault r actions ln) (said (natural_of (field 0 actions ln)) 0 (next_place at 1))
   unfolding fields_of field_count fields numbers_sound is place
   actions_read = counting_read actions 0 max_actions refl refl refl refl (fault_actions r s ended)
 
@@ -158,7 +159,7 @@ module _ (r : Reading) (s : Bytes) (ended : Bool) (at : ℕ) (words : List ℕ) 
   unfolding fields_of field_count fields numbers_sound is place
   actions_left = counting_left actions 0 max_actions refl refl refl refl (fault_actions r s ended)
 
-  pub variables_read : number_read (count_in (spelling variables) 0 max_variables s ended) at ≡ answered (fault r variables ln) (Sound (natural_of (field 0 variables ln)) 0 (next_place at 1))
+  pub variables_read : number_read (count_in (spelling variables) 0 max_variables s ended) at ≡ answered (fault r variables ln) (said (natural_of (field 0 variables ln)) 0 (next_place at 1))
   unfolding fields_of field_count fields numbers_sound is place
   variables_read = counting_read variables 0 max_variables refl refl refl refl (fault_variables r s ended)
 
@@ -166,7 +167,7 @@ module _ (r : Reading) (s : Bytes) (ended : Bool) (at : ℕ) (words : List ℕ) 
   unfolding fields_of field_count fields numbers_sound is place
   variables_left = counting_left variables 0 max_variables refl refl refl refl (fault_variables r s ended)
 
-  pub locations_read : number_read (count_in (spelling locations) 1 max_locations s ended) at ≡ answered (fault r locations ln) (Sound (natural_of (field 0 locations ln)) 0 (next_place at 1))
+  pub locations_read : number_read (count_in (spelling locations) 1 max_locations s ended) at ≡ answered (fault r locations ln) (said (natural_of (field 0 locations ln)) 0 (next_place at 1))
   unfolding fields_of field_count fields numbers_sound is place
   locations_read = counting_read locations 1 max_locations refl refl refl refl (fault_locations r s ended)
 
@@ -175,11 +176,11 @@ module _ (r : Reading) (s : Bytes) (ended : Bool) (at : ℕ) (words : List ℕ) 
   locations_left = counting_left locations 1 max_locations refl refl refl refl (fault_locations r s ended)
 
 -- the number by rows 2 and 3 and a later one
-unfoldable by_later : (two three later : Bool) (row n : ℕ) → Count
-by_later true three later row n = Unsound 2
-by_later false true later row n = Unsound 3
-by_later false false true row n = Unsound row
-by_later false false false row n = Is n
+unfoldable by_later : (two three later : Bool) (row n : ℕ) → Result ℕ Row
+by_later true three later row n = Err (Row.row 2)
+by_later false true later row n = Err (Row.row 3)
+by_later false false true row n = Err (Row.row row)
+by_later false false false row n = Ok n
 
 few_rows : (before : ℕ) (two three : Bool) (n : ℕ) → few_edges before (by_rows two three n) ≡ by_later two three (ltb max_edges (before + n)) 15 n
 unfolding few_edges by_rows by_later
@@ -187,7 +188,7 @@ few_rows before true three n = refl
 few_rows before false true n = refl
 few_rows before false false n = go (ltb max_edges (before + n))
   where
-    go : (b : Bool) → elim b as (λ x. Count) [ true ↦ Unsound 15 | false ↦ Is n ] ≡ by_later false false b 15 n
+    go : (b : Bool) → elim b as (λ x. Result ℕ Row) [ true ↦ Err (Row.row 15) | false ↦ Ok n ] ≡ by_later false false b 15 n
     go true = refl
     go false = refl
 
@@ -197,11 +198,11 @@ known_rows vs true three n = refl
 known_rows vs false true n = refl
 known_rows vs false false n = go (beyond_in vs n)
   where
-    go : (b : Bool) → elim b as (λ x. Count) [ true ↦ Unsound 50 | false ↦ Is n ] ≡ by_later false false b 50 n
+    go : (b : Bool) → elim b as (λ x. Result ℕ Row) [ true ↦ Err (Row.row 50) | false ↦ Ok n ] ≡ by_later false false b 50 n
     go true = refl
     go false = refl
 
-later_read : (two three later : Bool) (row n at : ℕ) → number_read (by_later two three later row n) at ≡ answered (broken 2 two (broken 3 three (broken row later none))) (Sound n 0 (next_place at 1))
+later_read : (two three later : Bool) (row n at : ℕ) → number_read (by_later two three later row n) at ≡ answered (broken 2 two (broken 3 three (broken row later none))) (said n 0 (next_place at 1))
 unfolding number_read by_later answered broken
 later_read true three later row n at = refl
 later_read false true later row n at = refl
@@ -228,14 +229,14 @@ module _ (r : Reading) (s : Bytes) (ended : Bool) (at : ℕ) (words : List ℕ) 
   unfolding fields_of field_count fields numbers_sound is place
   edges_count = ap (few_edges before) (count_rows edges s ended 0 max_edges refl refl refl refl) ∙ few_rows before _ _ _
 
-  pub edges_read : number_read (few_edges before (count_in (spelling edges) 0 max_edges s ended)) at ≡ answered (fault r edges le) (Sound (natural_of (field 0 edges le)) 0 (next_place at 1))
+  pub edges_read : number_read (few_edges before (count_in (spelling edges) 0 max_edges s ended)) at ≡ answered (fault r edges le) (said (natural_of (field 0 edges le)) 0 (next_place at 1))
   edges_read =
-      ap (λ (x : Count). number_read x at) edges_count ∙ later_read _ _ _ 15 _ at
-      ∙ ap (λ (o : Option ℕ). answered o (Sound (natural_of (field 0 edges le)) 0 (next_place at 1))) by_edges
+      ap (λ (x : Result ℕ Row). number_read x at) edges_count ∙ later_read _ _ _ 15 _ at
+      ∙ ap (λ (o : Option ℕ). answered o (said (natural_of (field 0 edges le)) 0 (next_place at 1))) by_edges
 
   pub edges_left : number_after (few_edges before (count_in (spelling edges) 0 max_edges s ended)) at words ≡ written (fault r edges le) (put at (natural_of (field 0 edges le) ∷ []) words) words
   edges_left =
-      ap (λ (x : Count). number_after x at words) edges_count ∙ later_left _ _ _ 15 _ at words
+      ap (λ (x : Result ℕ Row). number_after x at words) edges_count ∙ later_left _ _ _ 15 _ at words
       ∙ ap (λ (o : Option ℕ). written o (put at (natural_of (field 0 edges le) ∷ []) words) words) by_edges
 
 -- `automata=N`: row 50 too, by the words of the variables that were read
@@ -254,12 +255,12 @@ module _ (r : Reading) (s : Bytes) (ended : Bool) (at : ℕ) (words : List ℕ) 
   unfolding fields_of field_count fields numbers_sound is place
   automata_count = ap (known_owners (ranges_in words variables)) (count_rows automata s ended 1 max_automata refl refl refl refl) ∙ known_rows (ranges_in words variables) _ _ _
 
-  pub automata_read : number_read (known_owners (ranges_in words variables) (count_in (spelling automata) 1 max_automata s ended)) at ≡ answered (fault r automata la) (Sound (natural_of (field 0 automata la)) 0 (next_place at 1))
+  pub automata_read : number_read (known_owners (ranges_in words variables) (count_in (spelling automata) 1 max_automata s ended)) at ≡ answered (fault r automata la) (said (natural_of (field 0 automata la)) 0 (next_place at 1))
   automata_read =
-      ap (λ (x : Count). number_read x at) automata_count ∙ later_read _ _ _ 50 _ at
-      ∙ ap (λ (o : Option ℕ). answered o (Sound (natural_of (field 0 automata la)) 0 (next_place at 1))) by_automata
+      ap (λ (x : Result ℕ Row). number_read x at) automata_count ∙ later_read _ _ _ 50 _ at
+      ∙ ap (λ (o : Option ℕ). answered o (said (natural_of (field 0 automata la)) 0 (next_place at 1))) by_automata
 
   pub automata_left : number_after (known_owners (ranges_in words variables) (count_in (spelling automata) 1 max_automata s ended)) at words ≡ written (fault r automata la) (put at (natural_of (field 0 automata la) ∷ []) words) words
   automata_left =
-      ap (λ (x : Count). number_after x at words) automata_count ∙ later_left _ _ _ 50 _ at words
+      ap (λ (x : Result ℕ Row). number_after x at words) automata_count ∙ later_left _ _ _ 50 _ at words
       ∙ ap (λ (o : Option ℕ). written o (put at (natural_of (field 0 automata la) ∷ []) words) words) by_automata

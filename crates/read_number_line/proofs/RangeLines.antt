@@ -17,15 +17,14 @@ use Rattle.format.specs.Number.{within, integer_of}
 use Rattle.format.specs.Rows.{Line, place, is, value_of, fields, field_count, field, numbers_sound, the_range, row2, row3, fault}
 use Rattle.format.specs.Spelling.{spelling}
 use Rattle.format.proofs.LineLaws.{formed, list_2}
-use Rattle.text_numbers.specs.declared.answer.Integer.{Integer}
-use Rattle.text_numbers.specs.declared.answer.Integer.TheVariants as I
 use Rattle.text_numbers.specs.Number.{integer_in}
-use Rattle.read_form.specs.declared.LineRead.TheVariants.{Sound}
-use Rattle.read_numbers.specs.declared.range.Bounds.{Bounds}
-use Rattle.read_numbers.specs.declared.range.Bounds.TheVariants.{Are, Unsound}
+use Rattle.std.specs.Prelude as P
+use Rattle.std.specs.Prelude.{Some, None, Ok, Err}
+use Rattle.model.specs.Row.{row}
+use Rattle.read_form.specs.Outcome.{said}
 use Rattle.table_append.specs.Append.{next_place, put}
 use Rattle.read_form.specs.Form.{line_of, value_after, field_in, misformed, fields_of}
-use Rattle.read_numbers.specs.Range.{ordered_from, bounds_of, bounds_in}
+use Rattle.read_numbers.specs.Range.{Ends, ordered_from, bounds_of, bounds_in}
 use Rattle.read_number_line.specs.Number.{bounds_read, bounds_after}
 use Rattle.read_form.specs.Outcome.{answered, written}
 use Rattle.read_form.proofs.FormLaws.{row2_by}
@@ -33,11 +32,11 @@ use Rattle.read_number_line.proofs.NumberLines.{fault_variable}
 
 -- two fields
 -- the ends by rows 2, 3 and 4
-unfoldable by_rows : (two three four : Bool) → ℤ → ℤ → Bounds
-by_rows true three four x y = Unsound 2
-by_rows false true four x y = Unsound 3
-by_rows false false true x y = Unsound 4
-by_rows false false false x y = Are x y
+unfoldable by_rows : (two three four : Bool) → ℤ → ℤ → Ends
+by_rows true three four x y = Err (row 2)
+by_rows false true four x y = Err (row 3)
+by_rows false false true x y = Err (row 4)
+by_rows false false false x y = Ok (x, y)
 
 bounds_rows : (p q : Bytes)
     → bounds_of (integer_in p least_number greatest_number) (integer_in q least_number greatest_number)
@@ -46,14 +45,14 @@ unfolding integer_in
 bounds_rows p q = go (within least_number greatest_number p) (within least_number greatest_number q) (le_z (integer_of p) (integer_of q)) refl
   where
     go : (a b c : Bool) → le_z (integer_of p) (integer_of q) ≡ c
-        → bounds_of (elim a as (λ x. Integer) [ true ↦ I.In (integer_of p) | false ↦ I.Out ]) (elim b as (λ x. Integer) [ true ↦ I.In (integer_of q) | false ↦ I.Out ])
+        → bounds_of (elim a as (λ x. P.Option ℤ) [ true ↦ Some (integer_of p) | false ↦ None ]) (elim b as (λ x. P.Option ℤ) [ true ↦ Some (integer_of q) | false ↦ None ])
         ≡ by_rows false (not (a && (b && true))) (not c) (integer_of p) (integer_of q)
     go false b c e = unfold bounds_of by_rows in refl
     go true false c e = unfold bounds_of by_rows in refl
     go true true true e = unfold bounds_of ordered_from by_rows in rw (e, ordered_from)
     go true true false e = unfold bounds_of ordered_from by_rows in rw (e, ordered_from)
 
-bounds_read_lem : (two three four : Bool) (x y : ℤ) (at : ℕ) → bounds_read (by_rows two three four x y) at ≡ answered (broken 2 two (broken 3 three (broken 4 four none))) (Sound 0 0 (next_place at 3))
+bounds_read_lem : (two three four : Bool) (x y : ℤ) (at : ℕ) → bounds_read (by_rows two three four x y) at ≡ answered (broken 2 two (broken 3 three (broken 4 four none))) (said 0 0 (next_place at 3))
 unfolding bounds_read by_rows answered broken
 bounds_read_lem true three four x y at = refl
 bounds_read_lem false true four x y at = refl
@@ -85,7 +84,7 @@ module _ (r : Reading) (s : Bytes) (ended : Bool) (at : ℕ) (words : List ℕ) 
   unfolding fields_of
   misformed_is = row2_by variable s ended
 
-  ill : row2 variable l ≡ true → bounds_in (spelling variable) s ended ≡ Unsound 2
+  ill : row2 variable l ≡ true → bounds_in (spelling variable) s ended ≡ Err (row 2)
   unfolding bounds_in
   ill e = rw (misformed_is ∙ e, bounds_in)
 
@@ -100,11 +99,11 @@ module _ (r : Reading) (s : Bytes) (ended : Bool) (at : ℕ) (words : List ℕ) 
       go true e = unfold by_rows in ill e
       go false e = well e
 
-  pub variable_read : bounds_read (bounds_in (spelling variable) s ended) at ≡ answered (fault r variable l) (Sound 0 0 (next_place at 3))
+  pub variable_read : bounds_read (bounds_in (spelling variable) s ended) at ≡ answered (fault r variable l) (said 0 0 (next_place at 3))
   variable_read =
-      ap (λ (b : Bounds). bounds_read b at) ends ∙ bounds_read_lem _ _ _ low high at ∙ ap (λ (o : Option ℕ). answered o (Sound 0 0 (next_place at 3))) (sym (fault_variable r s ended))
+      ap (λ (b : Ends). bounds_read b at) ends ∙ bounds_read_lem _ _ _ low high at ∙ ap (λ (o : Option ℕ). answered o (said 0 0 (next_place at 3))) (sym (fault_variable r s ended))
 
   pub variable_left : bounds_after (bounds_in (spelling variable) s ended) at words ≡ written (fault r variable l) (put at (biased low ∷ biased high ∷ 0 ∷ []) words) words
   variable_left =
-      ap (λ (b : Bounds). bounds_after b at words) ends ∙ bounds_left _ _ _ low high at words
+      ap (λ (b : Ends). bounds_after b at words) ends ∙ bounds_left _ _ _ low high at words
       ∙ ap (λ (o : Option ℕ). written o (put at (biased low ∷ biased high ∷ 0 ∷ []) words) words) (sym (fault_variable r s ended))

@@ -4,4 +4,4 @@
 
 mod number;
 
-pub use number::{actions, automata, edges, format, locations, variable, variables};
+pub use number::{automata, counted, edges, variable};

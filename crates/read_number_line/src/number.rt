@@ -1,7 +1,6 @@
 // The lines that have one number, and the line of a variable's range.
 ghost use Rattle.std.specs.Prelude.{◌≡◌, [], ◌∷◌};
-ghost use Rattle.model.specs.Bounds.{first_format, last_format, max_actions, max_variables};
-ghost use Rattle.model.specs.Bounds.{max_automata, max_locations, max_edges};
+ghost use Rattle.model.specs.Bounds.{max_automata, max_edges};
 ghost use Rattle.model.specs.Lines as Lines;
 ghost use Rattle.format.specs.Spelling.{spelling};
 ghost use Rattle.read_numbers.specs.Number.{count_in, few_edges};
@@ -11,20 +10,28 @@ ghost use Rattle.table_line.specs.Line.{ranges_in};
 ghost use Rattle.read_number_line.specs.Number.{number_read, number_after, known_owners, bounds_read, bounds_after};
 
 use line_order::Counts;
-use model::Model;
+use model::{Model, Row};
 use read_form::LineRead;
-use read_numbers::{Bounds, Count, few_edges, one_number, two_numbers};
+use read_numbers::{few_edges, one_number, two_numbers};
 use read_words::biased;
 use table_append::{append_one, append_two};
 
 // A line that counts something, or the format's.
-fn counting(count: Count, words: &mut [u32; Model::WORDS], at: usize) -> LineRead
+fn counting(
+    count: Result<u32, Row>,
+    words: &mut [u32; Model::WORDS],
+    at: usize,
+) -> Result<LineRead, Row>
     ensures { (result ≡ number_read count at) × (words.new ≡ number_after count at words.old) }
 {
-    match count {
-        Count::Is(n) => LineRead::Sound(arithmetic::index(n), 0, append_one(words, at, n)),
-        Count::Unsound(row) => LineRead::Fault(row),
-    }
+    let n = count?;
+    let next = append_one(words, at, n);
+    let number = arithmetic::index(n);
+    Ok(LineRead {
+        number,
+        nodes: 0,
+        next,
+    })
 }
 
 // A variable's words: its range's, and nobody as its owner, which the line behind may replace.
@@ -37,89 +44,48 @@ fn append_variable(words: &mut [u32; Model::WORDS], at: usize, low: u32, high: u
 }
 
 // A variable's line, by its range's ends.
-fn ranging(bounds: Bounds, table: &mut [u32; Model::WORDS], at: usize) -> LineRead
+fn ranging(
+    bounds: Result<(i32, i32), Row>,
+    table: &mut [u32; Model::WORDS],
+    at: usize,
+) -> Result<LineRead, Row>
     ensures { (result ≡ bounds_read bounds at) × (table.new ≡ bounds_after bounds at table.old) }
 {
-    match bounds {
-        Bounds::Are(low, high) => {
-            let next = append_variable(table, at, biased(low), biased(high));
-            LineRead::Sound(0, 0, next)
-        }
-        Bounds::Unsound(row) => LineRead::Fault(row),
-    }
+    let (low, high) = bounds?;
+    let next = append_variable(table, at, biased(low), biased(high));
+    Ok(LineRead {
+        number: 0,
+        nodes: 0,
+        next,
+    })
 }
 
-// The format's line.
-pub fn format(line: &[u8], ended: bool, words: &mut [u32; Model::WORDS], at: usize) -> LineRead
-    ensures { (result ≡ number_read
-        (count_in (spelling Lines.format) first_format last_format line.now ended) at)
-        × (words.new ≡ number_after
-        (count_in (spelling Lines.format) first_format last_format line.now ended) at words.old) }
+// The line of a number from low to high, with the key `name`: the format's, or that of the actions, the variables, or
+// an automaton's locations.
+pub fn counted(
+    line: &[u8],
+    ended: bool,
+    name: &[u8],
+    low: u32,
+    high: u32,
+    words: &mut [u32; Model::WORDS],
+    at: usize,
+) -> Result<LineRead, Row>
+    ensures { (result ≡ number_read (count_in name.now low high line.now ended) at)
+        × (words.new ≡ number_after (count_in name.now low high line.now ended) at words.old) }
 {
-    counting(
-        one_number(
-            line,
-            ended,
-            b"format=",
-            Model::FIRST_FORMAT as u32,
-            Model::LAST_FORMAT as u32,
-        ),
-        words,
-        at,
-    )
-}
-
-// The numbers of actions, variables, and an automaton's locations.
-pub fn actions(line: &[u8], ended: bool, words: &mut [u32; Model::WORDS], at: usize) -> LineRead
-    ensures { (result ≡ number_read
-        (count_in (spelling Lines.actions) 0 max_actions line.now ended) at)
-        × (words.new ≡ number_after
-        (count_in (spelling Lines.actions) 0 max_actions line.now ended) at words.old) }
-{
-    counting(
-        one_number(line, ended, b"actions=", 0, Model::ACTIONS),
-        words,
-        at,
-    )
-}
-
-pub fn variables(line: &[u8], ended: bool, words: &mut [u32; Model::WORDS], at: usize) -> LineRead
-    ensures { (result ≡ number_read
-        (count_in (spelling Lines.variables) 0 max_variables line.now ended) at)
-        × (words.new ≡ number_after
-        (count_in (spelling Lines.variables) 0 max_variables line.now ended) at words.old) }
-{
-    counting(
-        one_number(line, ended, b"variables=", 0, Model::VARIABLES as u32),
-        words,
-        at,
-    )
-}
-
-pub fn locations(line: &[u8], ended: bool, words: &mut [u32; Model::WORDS], at: usize) -> LineRead
-    ensures { (result ≡ number_read
-        (count_in (spelling Lines.locations) 1 max_locations line.now ended) at)
-        × (words.new ≡ number_after
-        (count_in (spelling Lines.locations) 1 max_locations line.now ended) at words.old) }
-{
-    counting(
-        one_number(line, ended, b"locations=", 1, Model::LOCATIONS as u32),
-        words,
-        at,
-    )
+    counting(one_number(line, ended, name, low, high), words, at)
 }
 
 // Row 50: no variable, by the words of them all, has an owner that is not among so many automata.
-fn known_owners(variables: &[u32], count: Count) -> Count
+fn known_owners(variables: &[u32], count: Result<u32, Row>) -> Result<u32, Row>
     ensures { result ≡ known_owners variables.now count }
 {
-    let Count::Is(n) = count else {
-        return count;
-    };
+    let n = count?;
     if table_owners::beyond(variables, arithmetic::index(n)) {
-        return Count::Unsound(50);
+        return Err(Row(50));
     }
-    Count::Is(n)
+    Ok(n)
 }
 
 // The number of automata, after the variables.
@@ -129,7 +95,7 @@ pub fn automata(
     counts: Counts,
     words: &mut [u32; Model::WORDS],
     at: usize,
-) -> LineRead
+) -> Result<LineRead, Row>
     ensures { (result ≡ number_read (known_owners (ranges_in words.old counts.variables)
         (count_in (spelling Lines.automata) 1 max_automata line.now ended)) at)
         × (words.new ≡ number_after (known_owners (ranges_in words.old counts.variables)
@@ -148,7 +114,7 @@ pub fn edges(
     counts: Counts,
     words: &mut [u32; Model::WORDS],
     at: usize,
-) -> LineRead
+) -> Result<LineRead, Row>
     ensures { (result ≡ number_read
         (few_edges counts.edges (count_in (spelling Lines.edges) 0 max_edges line.now ended)) at)
         × (words.new ≡ number_after
@@ -161,7 +127,12 @@ pub fn edges(
 }
 
 // A variable's range.
-pub fn variable(line: &[u8], ended: bool, words: &mut [u32; Model::WORDS], at: usize) -> LineRead
+pub fn variable(
+    line: &[u8],
+    ended: bool,
+    words: &mut [u32; Model::WORDS],
+    at: usize,
+) -> Result<LineRead, Row>
     ensures { (result ≡ bounds_read (bounds_in (spelling Lines.variable) line.now ended) at)
         × (words.new ≡
         bounds_after (bounds_in (spelling Lines.variable) line.now ended) at words.old) }

@@ -13,13 +13,15 @@ use Rattle.model.specs.Bounds.{max_edges}
 use Rattle.model.proofs.Tests.{and_right, and_no_right}
 use Rattle.format.specs.Bytes.{Bytes}
 use Rattle.format.specs.Number.{natural, unsigned, negative, number, is_between, within, natural_of}
-use Rattle.text_numbers.specs.declared.answer.Natural.{Natural}
-use Rattle.text_numbers.specs.declared.answer.Natural.TheVariants as N
+use Rattle.std.specs.Prelude as P
+use Rattle.std.specs.Prelude.{Some, None, Result, Ok, Err}
+use Rattle.std.specs.Option.{ok_or}
+use Rattle.model.specs.declared.Row.{Row}
+use Rattle.model.specs.Row.{row}
 use Rattle.text_numbers.specs.Number.{natural_in}
 use Rattle.text_numbers.proofs.NumberLaws.{natural_said, natural_denied}
 use Rattle.read_form.specs.Form.{value_after, misformed}
-use Rattle.read_numbers.specs.declared.number.Count.{Count}
-use Rattle.read_numbers.specs.declared.number.Count.TheVariants.{Is, Unsound}
+use Rattle.read_form.proofs.Outcomes.{lacking, present}
 use Rattle.read_numbers.specs.Number.{count_in, few_edges}
 
 -- a number with no minus is its digits' number
@@ -62,48 +64,49 @@ within_out s low high h = go (number s) h
 
 -- `one_number`
 module _ (name : Bytes) (low high : ℕ) (s : Bytes) (ended : Bool) (b : Bool) (hb : b ≡ misformed name 1 s ended) where
-  pub number_form : b ≡ true → Unsound 2 ≡ count_in name low high s ended
+  pub number_form : b ≡ true → Err (row 2) ≡ count_in name low high s ended
   unfolding count_in
   number_form h = rw (sym hb ∙ h, count_in)
 
-  module _ (k : b ≡ false) (v : Bytes) (hv : v ≡ value_after name s) (m : Natural) (hm : m ≡ natural_in v high) where
-    module _ (n : ℕ) (e : m ≡ N.In n) where
+  module _ (k : b ≡ false) (v : Bytes) (hv : v ≡ value_after name s) (o : P.Option ℕ) (ho : o ≡ natural_in v high) where
+    module _ (n : ℕ) (e : Ok n ≡ ok_or o (row 3)) where
       said : (within (pos 0) (pos high) (value_after name s) ≡ true) × (natural_of (value_after name s) ≡ n)
-      said = natural_said (value_after name s) high n (sym (ap (λ (x : Bytes). natural_in x high) hv) ∙ sym hm ∙ e)
+      said = natural_said (value_after name s) high n (sym (ap (λ (x : Bytes). natural_in x high) hv) ∙ sym ho ∙ present o 3 n e)
 
-      pub number_low : n < low → Unsound 3 ≡ count_in name low high s ended
+      pub number_low : n < low → Err (row 3) ≡ count_in name low high s ended
       unfolding count_in
       number_low l = rw (sym hb ∙ k, within_from (value_after name s) low high n said.0 said.1, lt-leb low n l, count_in)
 
-      pub number_is : low ≤ n → Is n ≡ count_in name low high s ended
+      pub number_is : low ≤ n → Ok n ≡ count_in name low high s ended
       unfolding count_in
-      number_is l = rw (sym hb ∙ k, within_from (value_after name s) low high n said.0 said.1, le-leb low n l, count_in) (ap (λ (x : ℕ). Is x) (sym said.1))
+      number_is l = rw (sym hb ∙ k, within_from (value_after name s) low high n said.0 said.1, le-leb low n l, count_in) (ap (λ (x : ℕ). Ok x) (sym said.1))
 
-    pub number_out : m ≡ N.Out → Unsound 3 ≡ count_in name low high s ended
+    pub number_out : (r : Row) → Err r ≡ ok_or o (row 3) → Err r ≡ count_in name low high s ended
     unfolding count_in
-    number_out e =
-        let out = natural_denied (value_after name s) high (sym (ap (λ (x : Bytes). natural_in x high) hv) ∙ sym hm ∙ e) in
-        rw (sym hb ∙ k, within_out (value_after name s) low high out, count_in)
+    number_out r e =
+        let q = lacking o 3 r e in
+        let out = natural_denied (value_after name s) high (sym (ap (λ (x : Bytes). natural_in x high) hv) ∙ sym ho ∙ q.0) in
+        rw (q.1, sym hb ∙ k, within_out (value_after name s) low high out, count_in)
 
 pub ruleset number_laws = (number_form, number_low, number_is, number_out)
 
 -- `few_edges`
-module _ (before : ℕ) (c : Count) where
-  pub few_unsound : (row : ℕ) → c ≡ Unsound row → c ≡ few_edges before c
+module _ (before : ℕ) (c : Result ℕ Row) where
+  pub few_unsound : (r : Row) → c ≡ Err r → Err r ≡ few_edges before c
   unfolding few_edges
-  few_unsound row e = rw e
+  few_unsound r e = rw e
 
-  module _ (n : ℕ) (e : c ≡ Is n) (i : ℕ) (hi : i ≡ n) (p : Bool) (hp : p ≡ leb (before + i) max_edges) where
-    pub few_past : p ≡ false → Unsound 15 ≡ few_edges before c
+  module _ (n : ℕ) (e : c ≡ Ok n) (i : ℕ) (hi : i ≡ n) (p : Bool) (hp : p ≡ leb (before + i) max_edges) where
+    pub few_past : p ≡ false → Err (row 15) ≡ few_edges before c
     unfolding few_edges
     few_past h =
         let l = leb-false (before + i) 512 (sym hp ∙ h) in
         rw (e, ← hi, lt-ltb 512 (before + i) l, few_edges)
 
-    pub few_fit : p ≡ true → Is n ≡ few_edges before c
+    pub few_fit : p ≡ true → Ok n ≡ few_edges before c
     unfolding few_edges
     few_fit h =
         let l = leb-true (before + i) 512 (sym hp ∙ h) in
-        sym (rw (e, ← hi, le-ltb 512 (before + i) l, few_edges) (ap (λ (x : ℕ). Is x) (sym hi)))
+        sym (rw (e, ← hi, le-ltb 512 (before + i) l, few_edges) (ap (λ (x : ℕ). Ok x) (sym hi)))
 
 pub ruleset few_laws = (few_unsound, few_past, few_fit)

@@ -4,5 +4,5 @@
 mod number;
 mod range;
 
-pub use number::{Count, few_edges, one_number};
-pub use range::{Bounds, two_numbers};
+pub use number::{few_edges, one_number};
+pub use range::two_numbers;

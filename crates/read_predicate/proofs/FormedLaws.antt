@@ -6,10 +6,13 @@ use mathlib.Core.List.{List, [], ◌∷◌, map}
 use mathlib.Core.Option.{Option, none, some}
 use native.Mathlib.Omega.{arith}
 use native.Mathlib.Numerals.{add-one}
-use borrow.Author.Tests.{not-true, not-false, le-leb, lt-leb, ne_eqb}
-use lib.ListN.{length, get_or, take, drop, set, length-set, drop_of_length-le}
+use borrow.Author.Tests.{le-leb, lt-leb, ne_eqb}
+use lib.ListN.{length, get_or, take, drop, set, length-set, length-drop, drop_of_length-le}
 use lib.Seq.{get_or-set_same, get_or-set_other, drop-cons, length-take-le, get_or-take}
 use lib.Dec.{leb, eqb}
+use Rattle.std.specs.List.{list_all}
+use Rattle.std.proofs.lemmas.List.Folds.{list_all_more}
+use Rattle.std.proofs.lemmas.List.{get_or-drop}
 use mir.Syntax.{w64}
 use mir.Val.{Fits}
 use Rattle.model.specs.Basic.{on_some, lacks}
@@ -20,12 +23,11 @@ use Rattle.node_words.specs.declared.Node.TheVariants as N
 use Rattle.node_words.specs.declared.Node.TheVariants.{All, Any, Not, Imp, Eq, Le, Number, Old, New, Add, Sub, Mul, If}
 use Rattle.node_words.specs.Nodes.{meant, node_of}
 use Rattle.node_words.proofs.NodeLaws.{word_by, Other, by_others}
-use Rattle.read_predicate.specs.Formed.{arity_of, take_off, push_sort, sort_stack, sole, stacked, stack_at, taken_from, Below, Pushed}
+use Rattle.read_predicate.specs.Formed.{takes, arity_of, take_off, push_sort, sort_stack, sole, stacked, stack_at, taken_from, Below, Pushed}
 use Rattle.read_predicate.specs.Scratch.{Scratch}
 use Rattle.read_predicate.specs.declared.formed.Arity.{Arity}
-use Rattle.read_predicate.specs.declared.formed.Arity.TheVariants.{Takes, Stray}
-use Rattle.read_predicate.specs.declared.formed.Height.{Height}
-use Rattle.read_predicate.specs.declared.formed.Height.TheVariants.{Of, Off}
+use Rattle.std.specs.Prelude as Std
+use Rattle.std.specs.Prelude.{Some, None}
 use Rattle.read_predicate.proofs.ScratchLaws.{scratch_same}
 use Rattle.read_predicate.proofs.SortLaws.{formed_by_sorts, sorts_none}
 
@@ -40,89 +42,109 @@ abbrev unsummed : List Node
 unsummed = All 0 ∷ Any 0 ∷ Not ∷ Imp ∷ Eq ∷ Le ∷ Number 0 ∷ Old 0 ∷ New 0 ∷ If ∷ N.Stray ∷ []
 
 module _ (w : ℕ) (n : Node) (is : n ≡ node_of w) where
-  pub arity_all : (k i : ℕ) → n ≡ All k → i ≡ k → Takes i 0 true ≡ arity_of (word_of w)
-  unfolding arity_of meant
-  arity_all k i h e = rw (word_by w n (All k) is h, e)
-
-  pub arity_any : (k i : ℕ) → n ≡ Any k → i ≡ k → Takes i 0 true ≡ arity_of (word_of w)
-  unfolding arity_of meant
-  arity_any k i h e = rw (word_by w n (Any k) is h, e)
-
-  pub arity_not : n ≡ Not → Takes 1 0 true ≡ arity_of (word_of w)
-  unfolding arity_of meant
-  arity_not h = rw (word_by w n Not is h)
-
-  pub arity_imp : n ≡ Imp → Takes 2 0 true ≡ arity_of (word_of w)
-  unfolding arity_of meant
-  arity_imp h = rw (word_by w n Imp is h)
-
-  pub arity_comparisons : Other uncompared n → Takes 0 2 true ≡ arity_of (word_of w)
-  unfolding arity_of meant
-  arity_comparisons o =
-      rw (word_by w n n is refl)
-      (by_others (λ (m : Node). Takes 0 2 true ≡ arity_of (meant m)) uncompared n o
-      (tt, tt, tt, tt, refl, refl, tt, tt, tt, tt, tt, tt, tt, tt))
-
-  pub arity_values : Other unvalued n → Takes 0 0 false ≡ arity_of (word_of w)
-  unfolding arity_of meant
-  arity_values o =
-      let leaf : (k : ℕ) → Takes 0 0 false ≡ Takes 0 0 false = λ k. refl in
-      rw (word_by w n n is refl)
-      (by_others (λ (m : Node). Takes 0 0 false ≡ arity_of (meant m)) unvalued n o
-      (tt, tt, tt, tt, tt, tt, leaf, leaf, leaf, tt, tt, tt, tt, tt))
-
-  pub arity_sums : Other unsummed n → Takes 0 2 false ≡ arity_of (word_of w)
-  unfolding arity_of meant
-  arity_sums o =
-      rw (word_by w n n is refl)
-      (by_others (λ (m : Node). Takes 0 2 false ≡ arity_of (meant m)) unsummed n o
-      (tt, tt, tt, tt, tt, tt, tt, tt, tt, refl, refl, refl, tt, tt))
-
-  pub arity_if : n ≡ If → Takes 1 2 false ≡ arity_of (word_of w)
-  unfolding arity_of meant
-  arity_if h = rw (word_by w n If is h)
-
-  pub arity_stray : n ≡ N.Stray → Stray ≡ arity_of (word_of w)
+  pub arity_stray : n ≡ N.Stray → None ≡ arity_of (word_of w)
   unfolding arity_of meant
   arity_stray h = rw (word_by w n N.Stray is h)
+
+  module _ (r : Std.Option Arity) where
+    pub arity_all : (k i : ℕ) → n ≡ All k → i ≡ k → r ≡ takes i 0 true → r ≡ arity_of (word_of w)
+    unfolding arity_of meant
+    arity_all k i h e t = t ∙ rw (word_by w n (All k) is h, e)
+
+    pub arity_any : (k i : ℕ) → n ≡ Any k → i ≡ k → r ≡ takes i 0 true → r ≡ arity_of (word_of w)
+    unfolding arity_of meant
+    arity_any k i h e t = t ∙ rw (word_by w n (Any k) is h, e)
+
+    pub arity_not : n ≡ Not → r ≡ takes 1 0 true → r ≡ arity_of (word_of w)
+    unfolding arity_of meant
+    arity_not h t = t ∙ rw (word_by w n Not is h)
+
+    pub arity_imp : n ≡ Imp → r ≡ takes 2 0 true → r ≡ arity_of (word_of w)
+    unfolding arity_of meant
+    arity_imp h t = t ∙ rw (word_by w n Imp is h)
+
+    pub arity_comparisons : Other uncompared n → r ≡ takes 0 2 true → r ≡ arity_of (word_of w)
+    unfolding arity_of meant
+    arity_comparisons o t =
+        t ∙ rw (word_by w n n is refl)
+        (by_others (λ (m : Node). takes 0 2 true ≡ arity_of (meant m)) uncompared n o
+        (tt, tt, tt, tt, refl, refl, tt, tt, tt, tt, tt, tt, tt, tt))
+
+    pub arity_values : Other unvalued n → r ≡ takes 0 0 false → r ≡ arity_of (word_of w)
+    unfolding arity_of meant
+    arity_values o t =
+        let leaf : (k : ℕ) → takes 0 0 false ≡ takes 0 0 false = λ k. refl in
+        t ∙ rw (word_by w n n is refl)
+        (by_others (λ (m : Node). takes 0 0 false ≡ arity_of (meant m)) unvalued n o
+        (tt, tt, tt, tt, tt, tt, leaf, leaf, leaf, tt, tt, tt, tt, tt))
+
+    pub arity_sums : Other unsummed n → r ≡ takes 0 2 false → r ≡ arity_of (word_of w)
+    unfolding arity_of meant
+    arity_sums o t =
+        t ∙ rw (word_by w n n is refl)
+        (by_others (λ (m : Node). takes 0 2 false ≡ arity_of (meant m)) unsummed n o
+        (tt, tt, tt, tt, tt, tt, tt, tt, tt, refl, refl, refl, tt, tt))
+
+    pub arity_if : n ≡ If → r ≡ takes 1 2 false → r ≡ arity_of (word_of w)
+    unfolding arity_of meant
+    arity_if h t = t ∙ rw (word_by w n If is h)
 
 pub ruleset arity_laws = (arity_all, arity_any, arity_not, arity_imp, arity_comparisons, arity_values, arity_sums, arity_if, arity_stray)
 
 -- `taken`
-taken_top : (sorts : List Bool) (sort : Bool) (k h : ℕ) (v : Bool) → beq (get_or sorts h false) sort ≡ v
-    → taken_from sorts sort (suc k) (suc h) ≡ elim v as (λ x. Height) [ true ↦ taken_from sorts sort k h | false ↦ Off ]
+taken_short : (sorts : List Bool) (sort : Bool) (k h : ℕ) → h < k → None ≡ taken_from sorts sort k h
 unfolding taken_from
-taken_top sorts sort k h v e = ap (λ (x : Bool). elim x as (λ y. Height) [ true ↦ taken_from sorts sort k h | false ↦ Off ]) e
+taken_short sorts sort zero h l = absurd (omega arith)
+taken_short sorts sort (suc k) zero l = refl
+taken_short sorts sort (suc k) (suc h) l = go (beq (get_or sorts h false) sort) (taken_short sorts sort k h (omega arith))
+  where
+    go : (v : Bool) → None ≡ taken_from sorts sort k h → ◌≡◌ {A = Std.Option ℕ} None (elim v [ true ↦ taken_from sorts sort k h | false ↦ None ])
+    go true ih = ih
+    go false ih = refl
 
-taken_empty : (sorts : List Bool) (sort : Bool) (k : ℕ) → taken_from sorts sort (suc k) 0 ≡ Off
+-- are the first so many sorts from a place on this one?
+abbrev all_of_sort : List Bool → Bool → (below count : ℕ) → Bool
+all_of_sort sorts sort below count = list_all (λ x. beq x sort) (take count (drop below sorts))
+
+taken_found : (sorts : List Bool) (sort : Bool) (k h : ℕ) → k ≤ h → h ≤ length sorts
+    → taken_from sorts sort k h ≡ elim (all_of_sort sorts sort (h - k) k) as (λ x. Std.Option ℕ) [ true ↦ Some (h - k) | false ↦ None ]
 unfolding taken_from
-taken_empty sorts sort k = refl
+taken_found sorts sort zero h l m = ap Some (omega arith)
+taken_found sorts sort (suc k) zero l m = absurd (omega arith)
+taken_found sorts sort (suc k) (suc h) l m =
+    let more : all_of_sort sorts sort (h - k) (suc k) ≡ (all_of_sort sorts sort (h - k) k && beq (get_or sorts h false) sort) =
+    ap (all_of_sort sorts sort (h - k)) (sym (add-one k))
+    ∙ list_all_more (λ x. beq x sort) (drop (h - k) sorts) k false (omega (arith, length-drop (h - k) sorts))
+    ∙ ap (λ (x : Bool). all_of_sort sorts sort (h - k) k && beq x sort) (get_or-drop (h - k) sorts k false ∙ ap (λ i. get_or sorts i false) (omega arith)) in
+    go (beq (get_or sorts h false) sort) (all_of_sort sorts sort (h - k) k) (taken_found sorts sort k h (omega arith) (omega arith))
+    ∙ ap (λ (w : Bool). elim w as (λ x. Std.Option ℕ) [ true ↦ Some (h - k) | false ↦ None ]) (sym more)
+    ∙ ap (λ i. elim (all_of_sort sorts sort i (suc k)) as (λ x. Std.Option ℕ) [ true ↦ Some i | false ↦ None ]) (omega arith)
+  where
+    go : (v w : Bool) → taken_from sorts sort k h ≡ elim w as (λ x. Std.Option ℕ) [ true ↦ Some (h - k) | false ↦ None ]
+        → elim v as (λ x. Std.Option ℕ) [ true ↦ taken_from sorts sort k h | false ↦ None ] ≡ elim (w && v) as (λ x. Std.Option ℕ) [ true ↦ Some (h - k) | false ↦ None ]
+    go true true ih = ih
+    go true false ih = ih
+    go false true ih = refl
+    go false false ih = refl
 
-module _ (sorts : List Bool) (sort : Bool) (left h : ℕ) (whole : Height) (inv : taken_from sorts sort left h ≡ whole) where
-  pub taken_all : left ≡ 0 → Of h ≡ whole
-  unfolding taken_from
-  taken_all z = rw z at inv
+module _ (sorts : List Bool) (sort : Bool) (k h : ℕ) where
+  pub taken_few : (r : Std.Option ℕ) → r ≡ None → (k ≤ h → ⊥) → r ≡ taken_from sorts sort k h
+  taken_few r e l = e ∙ taken_short sorts sort k h (omega arith)
 
-  module _ (z : left ≡ 0 → ⊥) where
-    pub taken_bare : h ≡ 0 → Off ≡ whole
-    taken_bare e =
-        let a : left ≡ suc (left - 1) = omega arith in
-        sym (taken_empty sorts sort (left - 1)) ∙ (rw (a, e) at inv)
+  module _ (inside : h ≤ length sorts) (below : ℕ) (i : (k ≤ h) × (below ≡ h - k)) (found : Bool) (e : found ≡ list_all (λ x. beq x sort) (take (h - below) (drop below sorts))) where
+    by_found : taken_from sorts sort k h ≡ elim found as (λ x. Std.Option ℕ) [ true ↦ Some below | false ↦ None ]
+    by_found =
+        let back : h - (h - k) ≡ k = omega (arith, i.0) in
+        let same : list_all (λ x. beq x sort) (take (h - below) (drop below sorts)) ≡ all_of_sort sorts sort (h - k) k = rw (i.1, back) in
+        taken_found sorts sort k h i.0 inside
+        ∙ ap (λ (x : Bool). elim x as (λ y. Std.Option ℕ) [ true ↦ Some (h - k) | false ↦ None ]) (sym (e ∙ same))
+        ∙ ap (λ j. elim found as (λ y. Std.Option ℕ) [ true ↦ Some j | false ↦ None ]) (sym i.1)
 
-    module _ (u : h ≡ 0 → ⊥) where
-      by_top : (v : Bool) → beq (get_or sorts (h - 1) false) sort ≡ v → elim v as (λ x. Height) [ true ↦ taken_from sorts sort (left - 1) (h - 1) | false ↦ Off ] ≡ whole
-      by_top v e =
-          let a : left ≡ suc (left - 1) = omega arith in
-          let b : h ≡ suc (h - 1) = omega arith in
-          sym (taken_top sorts sort (left - 1) (h - 1) v e) ∙ (rw (a, b) at inv)
+    pub taken_all : found ≡ true → Some below ≡ taken_from sorts sort k h
+    taken_all y = sym (by_found ∙ rw y)
 
-      pub taken_other : not (beq (get_or sorts (h - 1) false) sort) ≡ true → Off ≡ whole
-      taken_other e = by_top false (not-true _ e)
-
-      pub taken_on : not (beq (get_or sorts (h - 1) false) sort) ≡ false → taken_from sorts sort (left - 1) (h - 1) ≡ whole
-      taken_on e = by_top true (not-false _ e)
-
-pub ruleset taken_laws = (taken_all, taken_bare, taken_other, taken_on)
+    pub taken_other : found ≡ false → None ≡ taken_from sorts sort k h
+    taken_other y = sym (by_found ∙ rw y)
 
 -- what is left is lower, and is the stack with so many taken off
 taken_below : (sorts : List Bool) (sort : Bool) (k h : ℕ) → Below h (taken_from sorts sort k h)
@@ -131,24 +153,24 @@ taken_below sorts sort zero h = omega arith
 taken_below sorts sort (suc k) zero = tt
 taken_below sorts sort (suc k) (suc h) = go (beq (get_or sorts h false) sort) (taken_from sorts sort k h) (taken_below sorts sort k h)
   where
-    up : (r : Height) → Below h r → Below (suc h) r
-    up (Of x) l = omega arith
-    up Off l = tt
+    up : (r : Std.Option ℕ) → Below h r → Below (suc h) r
+    up (Some x) l = omega arith
+    up None l = tt
 
-    go : (v : Bool) (r : Height) → Below h r → Below (suc h) (elim v [ true ↦ r | false ↦ Off ])
+    go : (v : Bool) (r : Std.Option ℕ) → Below h r → Below (suc h) (elim v [ true ↦ r | false ↦ None ])
     go true r l = up r l
     go false r l = tt
 
-taken_low : (sorts : List Bool) (sort : Bool) (k h : ℕ) (r : Height) (x : ℕ) → r ≡ taken_from sorts sort k h → r ≡ Of x → x ≤ h
+taken_low : (sorts : List Bool) (sort : Bool) (k h : ℕ) (r : Std.Option ℕ) (x : ℕ) → r ≡ taken_from sorts sort k h → r ≡ Some x → x ≤ h
 unfolding Below
 taken_low sorts sort k h r x e f = subst (Below h) (sym e ∙ f) (taken_below sorts sort k h)
 
 -- so there is room for one more
-module _ (sorts : List Bool) (sort : Bool) (k h : ℕ) (r : Height) (x : ℕ) (e : r ≡ taken_from sorts sort k h) (f : r ≡ Of x) (size : ℕ) (l : h < size) where
+module _ (sorts : List Bool) (sort : Bool) (k h : ℕ) (r : Std.Option ℕ) (x : ℕ) (e : r ≡ taken_from sorts sort k h) (f : r ≡ Some x) (size : ℕ) (l : h < size) where
   pub room_once : x ≤ size
   room_once = let u : x ≤ h = taken_low sorts sort k h r x e f in omega arith
 
-  module _ (other : Bool) (j : ℕ) (s : Height) (y : ℕ) (g : s ≡ taken_from sorts other j x) (i : s ≡ Of y) where
+  module _ (other : Bool) (j : ℕ) (s : Std.Option ℕ) (y : ℕ) (g : s ≡ taken_from sorts other j x) (i : s ≡ Some y) where
     pub room_twice : y < size
     room_twice =
         let u : x ≤ h = taken_low sorts sort k h r x e f in
@@ -165,7 +187,7 @@ taken_stack sorts sort (suc k) zero = refl
 taken_stack sorts sort (suc k) (suc h) = go (beq (get_or sorts h false) sort) (taken_stack sorts sort k h)
   where
     go : (v : Bool) → stack_at sorts (taken_from sorts sort k h) ≡ take_off k sort (stacked sorts h)
-        → stack_at sorts (elim v [ true ↦ taken_from sorts sort k h | false ↦ Off ]) ≡ elim v as (λ x. Option (List Bool)) [ true ↦ take_off k sort (stacked sorts h) | false ↦ none ]
+        → stack_at sorts (elim v [ true ↦ taken_from sorts sort k h | false ↦ None ]) ≡ elim v as (λ x. Option (List Bool)) [ true ↦ take_off k sort (stacked sorts h) | false ↦ none ]
     go true ih = ih
     go false ih = refl
 
@@ -181,47 +203,47 @@ unfolding stacked
 stacked_put sorts h v l = rw (add-one h, get_or-set_same sorts h v false l, stacked_above sorts h v h (omega arith))
 
 -- `step`
-module _ (a x : Arity) (e : x ≡ a) (old : List Bool) (h : ℕ) where
-  off : push_sort a (stacked old h) ≡ none → Pushed a old old h Off
+module _ (a x : Std.Option Arity) (e : x ≡ a) (old : List Bool) (h : ℕ) where
+  off : push_sort a (stacked old h) ≡ none → Pushed a old old h None
   unfolding stack_at Below
   off z = record { stack = sym z; low = tt; kept = record { long = refl } }
 
-  pub step_stray : x ≡ Stray → Pushed a old old h Off
+  pub step_stray : (n : Std.Option ℕ) → n ≡ None → x ≡ None → Pushed a old old h n
   unfolding push_sort
-  step_stray s = off (rw (← e, s))
+  step_stray n k s = rw k (off (rw (← e, s)))
 
-  module _ (p q : ℕ) (sort : Bool) (s : x ≡ Takes p q sort) (r : Height) (f : r ≡ taken_from old true p h) where
-    pushed : (y : Height) → r ≡ y → push_sort a (stacked old h) ≡ on_some (λ s₁. on_some (λ s₂. some (sort ∷ s₂)) (take_off q false s₁)) (stack_at old y)
+  module _ (w : Arity) (s : x ≡ Some w) (r : Std.Option ℕ) (f : r ≡ taken_from old true w.preds h) where
+    pushed : (y : Std.Option ℕ) → r ≡ y → push_sort a (stacked old h) ≡ on_some (λ s₁. on_some (λ s₂. some (w.sort ∷ s₂)) (take_off w.exprs false s₁)) (stack_at old y)
     unfolding push_sort
-    pushed y g = rw (← e, s, ← taken_stack old true p h, ← f, g)
+    pushed y g = rw (← e, s, ← taken_stack old true w.preds h, ← f, g)
 
-    pub step_preds : r ≡ Off → Pushed a old old h Off
+    pub step_preds : (n : Std.Option ℕ) → n ≡ None → r ≡ None → Pushed a old old h n
     unfolding stack_at on_some
-    step_preds g = off (pushed Off g)
+    step_preds n k g = rw k (off (pushed None g))
 
-    module _ (b : ℕ) (g : r ≡ Of b) (t : Height) (k : t ≡ taken_from old false q b) where
-      pushed_on : (y : Height) → t ≡ y → push_sort a (stacked old h) ≡ on_some (λ s₂. some (sort ∷ s₂)) (stack_at old y)
+    module _ (b : ℕ) (g : r ≡ Some b) (t : Std.Option ℕ) (k : t ≡ taken_from old false w.exprs b) where
+      pushed_on : (y : Std.Option ℕ) → t ≡ y → push_sort a (stacked old h) ≡ on_some (λ s₂. some (w.sort ∷ s₂)) (stack_at old y)
       unfolding on_some stack_at
-      pushed_on y z = pushed (Of b) g ∙ rw (← taken_stack old false q b, ← k, z)
+      pushed_on y z = pushed (Some b) g ∙ rw (← taken_stack old false w.exprs b, ← k, z)
 
-      pub step_exprs : t ≡ Off → Pushed a old old h Off
+      pub step_exprs : (n : Std.Option ℕ) → n ≡ None → t ≡ None → Pushed a old old h n
       unfolding stack_at on_some
-      step_exprs z = off (pushed_on Off z)
+      step_exprs n m z = rw m (off (pushed_on None z))
 
-      module _ (top : ℕ) (z : t ≡ Of top) (room : h < length old) where
+      module _ (top : ℕ) (z : t ≡ Some top) (room : h < length old) where
         step_top : top ≤ h
         step_top =
-            let u : b ≤ h = taken_low old true p h r b f g in
-            let v : top ≤ b = taken_low old false q b t top k z in
+            let u : b ≤ h = taken_low old true w.preds h r b f g in
+            let v : top ≤ b = taken_low old false w.exprs b t top k z in
             omega arith
 
-        pub step_on : Pushed a old (set old top sort) h (Of (top + 1))
+        pub step_on : Pushed a old (set old top w.sort) h (Some (top + 1))
         unfolding stack_at on_some Below
         step_on =
             record {
-              stack = ap some (stacked_put old top sort (omega (arith, step_top))) ∙ sym (pushed_on (Of top) z);
+              stack = ap some (stacked_put old top w.sort (omega (arith, step_top))) ∙ sym (pushed_on (Some top) z);
               low = omega (arith, step_top);
-              kept = record { long = length-set old top sort };
+              kept = record { long = length-set old top w.sort };
             }
 
 pub ruleset step_laws = (step_stray, step_preds, step_exprs, step_on)
@@ -236,7 +258,7 @@ sole_is sorts (suc zero) = refl
 sole_is sorts (suc (suc h)) = rw (ne_eqb (suc (suc h)) 1 (λ e. omega arith))
 
 -- the stack is as long as before
-pub scratch_pushed : (old sorts new : List Bool) (a : Arity) (height : ℕ) (r : Height) → Scratch old sorts → Pushed a sorts new height r → Scratch old new
+pub scratch_pushed : (old sorts new : List Bool) (a : Std.Option Arity) (height : ℕ) (r : Std.Option ℕ) → Scratch old sorts → Pushed a sorts new height r → Scratch old new
 scratch_pushed old sorts new a height r s p = record { long = p.kept.long ∙ s.long }
 
 -- `well_formed`: what the loop keeps. The sorts of the words from i on are on the stack, and they are not more than those words.
@@ -251,7 +273,7 @@ module _ (words : List ℕ) (n : ℕ) (b : n ≤ length words) where
       let z : length (take n words) ≤ n = omega (arith, length-take-le n words b) in
       record { stack = rw (drop_of_length-le (take n words) z); few = omega arith }
 
-  module _ (sorts : List Bool) (height i : ℕ) (inv : Sorted words n sorts height i) (z : i ≡ 0 → ⊥) (new : List Bool) (r : Height)
+  module _ (sorts : List Bool) (height i : ℕ) (inv : Sorted words n sorts height i) (z : 0 < i) (new : List Bool) (r : Std.Option ℕ)
       (p : Pushed (arity_of (word_of (get_or words (i - 1) 0))) sorts new height r) where
     onward : sort_stack (map word_of (drop (i - 1) (take n words))) ≡ stack_at new r
     unfolding sort_stack on_some
@@ -263,7 +285,7 @@ module _ (words : List ℕ) (n : ℕ) (b : n ≤ length words) where
         drop-cons (take n words) (i - 1) 0 u ∙ rw (get_or-take n words (i - 1) 0 w, v) in
         ap (λ (l : List ℕ). sort_stack (map word_of l)) d ∙ ap (on_some (push_sort (arity_of (word_of (get_or words (i - 1) 0))))) inv.stack ∙ sym p.stack
 
-    pub formed_on : (h : ℕ) → r ≡ Of h → Sorted words n new h (i - 1)
+    pub formed_on : (h : ℕ) → r ≡ Some h → Sorted words n new h (i - 1)
     unfolding stack_at Below
     formed_on h e =
         let l : h ≤ height + 1 = subst (Below (height + 1)) e p.low in
@@ -271,7 +293,7 @@ module _ (words : List ℕ) (n : ℕ) (b : n ≤ length words) where
 
 -- there is room for a sort of each word
 module _ (words : List ℕ) (n : ℕ) (old sorts : List Bool) (height i : ℕ) (a : n ≤ length old) (k : Scratch old sorts) (inv : Sorted words n sorts height i) where
-  pub formed_room : (i ≡ 0 → ⊥) → height < length sorts
+  pub formed_room : 0 < i → height < length sorts
   formed_room z = omega (arith, inv.few, k.long)
 
   pub formed_first : height ≡ 1 → 0 < length sorts
@@ -294,7 +316,7 @@ module _ (words : List ℕ) (n room : ℕ) where
       by_sorts o e = rw (le-leb n room a, le-leb n (length words) b, formed_by_sorts (map word_of (take n words)), e)
 
       module _ (sorts : List Bool) (height i : ℕ) (inv : Sorted words n sorts height i) where
-        pub formed_off : (z : i ≡ 0 → ⊥) (new : List Bool) (r : Height) → Pushed (arity_of (word_of (get_or words (i - 1) 0))) sorts new height r → r ≡ Off → false ≡ formed words n room
+        pub formed_off : (z : 0 < i) (new : List Bool) (r : Std.Option ℕ) → Pushed (arity_of (word_of (get_or words (i - 1) 0))) sorts new height r → r ≡ None → false ≡ formed words n room
         unfolding stack_at sole
         formed_off z new r p e = sym (by_sorts none (sorts_none word_of (i - 1) (take n words) (onward words n b sorts height i inv z new r p ∙ rw e)))
 

@@ -5,78 +5,63 @@ ghost use Rattle.std.specs.Prelude.{◌≡◌, not, ◌&&◌, map, ◌≤◌, �
 ghost use Rattle.model.specs.Basic.{lacks};
 ghost use Rattle.model.specs.Parse.{read_pred};
 ghost use Rattle.model.specs.Table.{word_of};
-ghost use Rattle.read_predicate.specs.Formed.{arity_of, taken_from, Pushed};
+ghost use Rattle.read_predicate.specs.Formed.{takes, arity_of, taken_from, Pushed};
 ghost use Rattle.read_predicate.specs.Scratch.{Scratch};
 
 use node_words::Node;
 
 // What a word takes off and puts on: so many predicates, then so many expressions; is it a predicate itself?
-#[derive(Clone, Copy)]
-pub enum Arity {
-    Takes(usize, usize, bool),
-    Stray,
+#[derive(Clone, Copy, Debug, PartialEq, Eq)]
+pub struct Arity {
+    pub preds: usize,
+    pub exprs: usize,
+    pub sort: bool,
 }
 
-// How many sorts the stack has, or that the words make no predicate.
-#[derive(Clone, Copy)]
-pub enum Height {
-    Of(usize),
-    Off,
+fn takes(preds: usize, exprs: usize, sort: bool) -> Option<Arity>
+    ensures { result ≡ takes preds exprs sort }
+{
+    Some(Arity { preds, exprs, sort })
 }
 
-fn arity_of(word: u32) -> Arity
+// A stray word takes and puts nothing.
+#[tactic(auto, using(crate::proofs::FormedLaws::arity_laws))]
+fn arity_of(word: u32) -> Option<Arity>
     ensures { result ≡ arity_of (word_of word) }
 {
-    let node = node_words::node_of(word);
-    match node {
-        Node::All(k) => Arity::Takes(arithmetic::index(k), 0, true),
-        Node::Any(k) => Arity::Takes(arithmetic::index(k), 0, true),
-        Node::Not => Arity::Takes(1, 0, true),
-        Node::Imp => Arity::Takes(2, 0, true),
-        Node::Eq | Node::Le => Arity::Takes(0, 2, true),
-        Node::Number(_) | Node::Old(_) | Node::New(_) => Arity::Takes(0, 0, false),
-        Node::Add | Node::Sub | Node::Mul => Arity::Takes(0, 2, false),
-        Node::If => Arity::Takes(1, 2, false),
-        Node::Stray => Arity::Stray,
+    match node_words::node_of(word) {
+        Node::All(k) => takes(arithmetic::index(k), 0, true),
+        Node::Any(k) => takes(arithmetic::index(k), 0, true),
+        Node::Not => takes(1, 0, true),
+        Node::Imp => takes(2, 0, true),
+        Node::Eq | Node::Le => takes(0, 2, true),
+        Node::Number(_) | Node::Old(_) | Node::New(_) => takes(0, 0, false),
+        Node::Add | Node::Sub | Node::Mul => takes(0, 2, false),
+        Node::If => takes(1, 2, false),
+        Node::Stray => None,
     }
 }
 
-// The height after `count` operands of a sort are taken off.
-fn taken(sorts: &[bool], height: usize, count: usize, sort: bool) -> Height
+// The height after `count` operands of a sort are taken off; none if they are not on top.
+fn taken(sorts: &[bool], height: usize, count: usize, sort: bool) -> Option<usize>
     requires { height ≤ length sorts.now }
     ensures { result ≡ taken_from sorts.now sort count height }
 {
-    let mut left = count;
-    let mut h = height;
-    while left != 0 {
-        if h == 0 {
-            return Height::Off;
-        }
-        if sorts[h - 1] != sort {
-            return Height::Off;
-        }
-        h -= 1;
-        left -= 1;
-    }
-    Height::Of(h)
+    let below = height.checked_sub(count)?;
+    let found = sorts[below..height].iter().all(|s| *s == sort);
+    if found { Some(below) } else { None }
 }
 
-// One word more: its operands off, itself on.
-fn step(word: u32, sorts: &mut [bool], height: usize) -> Height
+// One word more: its operands off, itself on. The height, unless the words make no predicate.
+fn step(word: u32, sorts: &mut [bool], height: usize) -> Option<usize>
     requires { height < length sorts.old }
     ensures { Pushed (arity_of (word_of word)) sorts.old sorts.new height result }
 {
-    let Arity::Takes(preds, exprs, sort) = arity_of(word) else {
-        return Height::Off;
-    };
-    let Height::Of(below) = taken(sorts, height, preds, true) else {
-        return Height::Off;
-    };
-    let Height::Of(top) = taken(sorts, below, exprs, false) else {
-        return Height::Off;
-    };
-    sorts[top] = sort;
-    Height::Of(top + 1)
+    let arity = arity_of(word)?;
+    let below = taken(sorts, height, arity.preds, true)?;
+    let top = taken(sorts, below, arity.exprs, false)?;
+    sorts[top] = arity.sort;
+    Some(top + 1)
 }
 
 // Do the first n words make one predicate? There must be room for a sort of each. The sorts are scratch memory,
@@ -93,10 +78,8 @@ pub fn well_formed(words: &[u32], n: usize, sorts: &mut [bool]) -> bool
         return false;
     }
     let mut height = 0;
-    let mut i = n;
-    while i != 0 {
-        i -= 1;
-        let Height::Of(h) = step(words[i], sorts, height) else {
+    for i in (0..n).rev() {
+        let Some(h) = step(words[i], sorts, height) else {
             return false;
         };
         height = h;

@@ -21,7 +21,9 @@ use Rattle.format.specs.Number.{within, natural_of}
 use Rattle.format.specs.Rows.{Line, place, is, fields, field, value_of, has_pred, pred_tokens, words_in, pred_of, the_pred, row2, row3, row4, row5, row6, row7, row8, row9, row10, row11, row12, row13, row14, row15, row16, row50, numbers_sound, fault, entry}
 use Rattle.format.specs.Spelling.{spelling}
 use Rattle.format.specs.Tokens.{tokens, sounds}
-use Rattle.read_form.specs.declared.LineRead.TheVariants.{Sound, Fault}
+use Rattle.std.specs.Prelude.{Result, Ok, Err}
+use Rattle.model.specs.Row as Row
+use Rattle.read_form.specs.Outcome.{said}
 use Rattle.table_append.specs.Append.{next_place, put}
 use Rattle.table_writes.specs.Sets.{all_variables, rest_of}
 use Rattle.read_form.specs.Outcome.{then_row}
@@ -103,12 +105,12 @@ module _ (s : Bytes) (ended : Bool) where
         ∙ sym (edge_text r (line_of s ended))
 
     module _ (at : ℕ) where
-      pub edge_faulty : (row : ℕ) → fault r edge (line_of s ended) ≡ some row → edge_read s ended c t most_words most_words at ≡ Fault row
+      pub edge_faulty : (row : ℕ) → fault r edge (line_of s ended) ≡ some row → edge_read s ended c t most_words most_words at ≡ Err (Row.row row)
       unfolding edge_read
       edge_faulty row h = answered_fault _ row _ (edge_rows ∙ h)
 
       pub edge_sound : fault r edge (line_of s ended) ≡ none
-          → (edge_read s ended c t most_words most_words at ≡ Sound (rest_of all_variables (map code (words (the_pred edge (line_of s ended))))) (nodes_of (entry edge (line_of s ended))) (next_place at (length (line_words (entry edge (line_of s ended))))))
+          → (edge_read s ended c t most_words most_words at ≡ Ok (said (rest_of all_variables (map code (words (the_pred edge (line_of s ended))))) (nodes_of (entry edge (line_of s ended))) (next_place at (length (line_words (entry edge (line_of s ended)))))))
           × (edge_after s ended c t most_words most_words at ≡ put at (line_words (entry edge (line_of s ended))) t)
       unfolding edge_read edge_after edge_fault value_fault value_words
       edge_sound h =
@@ -120,8 +122,8 @@ module _ (s : Bytes) (ended : Bool) where
           ap (λ (x : List ℕ). natural_of (field_in 0 value) ∷ natural_of (field_in 1 value) ∷ natural_of (field_in 2 value) ∷ x) (accepted_words (field_in 3 value) a) ∙ sym entry_words in
           let codes : codes_of (field_in 3 value) ≡ map code (words (the_pred edge l)) = ap (drop 1) (accepted_words (field_in 3 value) a) ∙ entry_codes in
           let z : length (codes_of (field_in 3 value)) ≡ nodes_of (entry edge l) = a.size ∙ sym entry_nodes in (
-            answered_sound _ _ f ∙ ap₂ (λ (m : ℕ) (x : List ℕ). Sound (rest_of all_variables (codes_of (field_in 3 value))) m (next_place at (length x))) z w ∙
-                ap (λ (m : List ℕ). Sound (rest_of all_variables m) (nodes_of (entry edge l)) (next_place at (length (line_words (entry edge l))))) codes,
+            answered_sound _ _ f ∙ ap₂ (λ (m : ℕ) (x : List ℕ). Ok (said (rest_of all_variables (codes_of (field_in 3 value))) m (next_place at (length x)))) z w ∙
+                ap (λ (m : List ℕ). Ok (said (rest_of all_variables m) (nodes_of (entry edge l)) (next_place at (length (line_words (entry edge l)))))) codes,
             written_sound _ _ t f ∙ ap (λ (x : List ℕ). put at x t) w,
           )
 

@@ -26,13 +26,15 @@ use Rattle.format.specs.Rows.{Line, place, is, fields, field, value_of, has_pred
 use Rattle.format.specs.Spelling.{spelling}
 use Rattle.text_bytes.specs.Find.{gap}
 use Rattle.text_bytes.proofs.FindLaws.{parts_step, parts_last, parts_count}
-use Rattle.read_nodes.specs.declared.Nodes.{Nodes}
-use Rattle.read_nodes.specs.declared.Nodes.TheVariants.{Are, Unsound, Full}
+use Rattle.read_nodes.specs.declared.NodesError.{NodesError}
+use Rattle.read_nodes.specs.declared.NodesError.TheVariants as E
 use Rattle.read_nodes.specs.Nodes.{told, codes_of, nodes_read}
 use Rattle.read_nodes.specs.Text.{text_pred, text_fault}
 use Rattle.read_form.proofs.Outcomes.{same_row, answered_fault, answered_sound, written_sound, written_long}
 use Rattle.read_nodes.proofs.NodesRows.{read_rows, Accepted, accepted}
-use Rattle.read_form.specs.declared.LineRead.TheVariants.{Sound, Fault}
+use Rattle.std.specs.Prelude.{Result, Ok, Err}
+use Rattle.model.specs.Row as Row
+use Rattle.read_form.specs.Outcome.{said}
 use Rattle.table_append.specs.Append.{next_place, put}
 use Rattle.read_form.specs.Form.{line_of, value_after, misparted, misformed, fields_of}
 use Rattle.read_predicate_line.specs.Predicate.{most_words, predicate_read, row_in, predicate_fault, counted, location_fault, location_read, location_after}
@@ -60,12 +62,12 @@ pub accepted_row : (part : Bytes) (o : Bool) (c : Counts) (t : List ℕ) (room h
 unfolding predicate_fault row_in predicate_read
 accepted_row part o c t room high h = go (predicate_read part o c t room high) refl h
   where
-    go : (x : Nodes) → predicate_read part o c t room high ≡ x → row_in x ≡ none → Accepted part (length (codes_of part))
-    go (Are n) e g =
+    go : (x : Result ℕ NodesError) → predicate_read part o c t room high ≡ x → row_in x ≡ none → Accepted part (length (codes_of part))
+    go (Ok n) e g =
         let a = accepted part o c.variables (ranges_in t c.variables) c.nodes room high n e in
         rw a.counted a
-    go (Unsound row) e g = absurd (let z : ◌≡◌ {A = ℕ} 0 1 = cc in omega arith)
-    go Full e g = absurd (let z : ◌≡◌ {A = ℕ} 0 1 = cc in omega arith)
+    go (Err (E.Row w)) e g = absurd (let z : ◌≡◌ {A = ℕ} 0 1 = cc in omega arith)
+    go (Err E.Full) e g = absurd (let z : ◌≡◌ {A = ℕ} 0 1 = cc in omega arith)
 
 -- the count and the codes of an accepted predicate are its words in the table
 pub accepted_words : (part : Bytes) → Accepted part (length (codes_of part)) → counted (codes_of part) ≡ pred_words (text_pred part)
@@ -120,12 +122,12 @@ module _ (k : Key) (of : OfLocation k) (s : Bytes) (ended : Bool) where
         ∙ sym (of.rows r (line_of s ended))
 
     module _ (at : ℕ) where
-      pub location_faulty : (row : ℕ) → fault r k (line_of s ended) ≡ some row → location_read (spelling k) s ended c t most_words most_words at ≡ Fault row
+      pub location_faulty : (row : ℕ) → fault r k (line_of s ended) ≡ some row → location_read (spelling k) s ended c t most_words most_words at ≡ Err (Row.row row)
       unfolding location_read
       location_faulty row h = answered_fault _ row _ (location_rows ∙ h)
 
       pub location_sound : fault r k (line_of s ended) ≡ none
-          → (location_read (spelling k) s ended c t most_words most_words at ≡ Sound (number_of (entry k (line_of s ended))) (nodes_of (entry k (line_of s ended))) (next_place at (length (line_words (entry k (line_of s ended))))))
+          → (location_read (spelling k) s ended c t most_words most_words at ≡ Ok (said (number_of (entry k (line_of s ended))) (nodes_of (entry k (line_of s ended))) (next_place at (length (line_words (entry k (line_of s ended)))))))
           × (location_after (spelling k) s ended c t most_words most_words at ≡ put at (line_words (entry k (line_of s ended))) t)
       unfolding location_read location_after location_fault
       location_sound h =
@@ -137,8 +139,8 @@ module _ (k : Key) (of : OfLocation k) (s : Bytes) (ended : Bool) where
           let e = value_is u.0 in
           let w : counted (codes_of v) ≡ line_words (entry k l) = accepted_words v a ∙ ap (λ (x : Bytes). pred_words (text_pred x)) (sym e) ∙ sym (of.words l) in
           let z : length (codes_of v) ≡ nodes_of (entry k l) = a.size ∙ ap (λ (x : Bytes). node_count (text_pred x)) (sym e) ∙ sym (of.nodes l) in (
-            answered_sound _ _ f ∙ ap₂ (λ (n : ℕ) (x : List ℕ). Sound 0 n (next_place at (length x))) z w ∙
-                ap (λ (n : ℕ). Sound n (nodes_of (entry k l)) (next_place at (length (line_words (entry k l))))) (sym (of.number l)),
+            answered_sound _ _ f ∙ ap₂ (λ (n : ℕ) (x : List ℕ). Ok (said 0 n (next_place at (length x)))) z w ∙
+                ap (λ (n : ℕ). Ok (said n (nodes_of (entry k l)) (next_place at (length (line_words (entry k l)))))) (sym (of.number l)),
             written_sound _ _ t f ∙ ap (λ (x : List ℕ). put at x t) w,
           )
 

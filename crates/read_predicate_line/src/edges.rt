@@ -6,30 +6,28 @@ ghost use Rattle.table_append.specs.Append.{next_place, put};
 ghost use Rattle.table_writes.specs.Sets.{all_variables, rest_of};
 ghost use Rattle.read_predicate_line.specs.Edge.{value_read, after_value, edge_read, edge_after};
 
-use crate::predicates::{self};
+use crate::predicates;
 use line_order::Counts;
-use model::Model;
+use model::{Model, Row};
 use read_edge::{Ends, astray, read_ends};
 use read_form::{LineRead, field};
-use read_nodes::Nodes;
 
 // FROM, ACT, TO, and then a predicate's words.
 fn append_edge(
     words: &mut [u32; Model::WORDS],
     at: usize,
-    from: u32,
-    action: u32,
-    to: u32,
+    ends: Ends,
     nodes: &[u32],
     n: usize,
 ) -> usize
     requires { n ≤ max_nodes }
     ensures { (result ≡ next_place at (suc (suc (suc (suc (length (take n nodes.now)))))))
-        × (words.new ≡ put at (from ∷ action ∷ to ∷ n ∷ take n nodes.now) words.old) }
+        × (words.new ≡ put at
+        (ends.from ∷ ends.action ∷ ends.to ∷ n ∷ take n nodes.now) words.old) }
 {
-    let second = table_append::append_one(words, at, from);
-    let third = table_append::append_one(words, second, action);
-    let fourth = table_append::append_one(words, third, to);
+    let second = table_append::append_one(words, at, ends.from);
+    let third = table_append::append_one(words, second, ends.action);
+    let fourth = table_append::append_one(words, third, ends.to);
     predicates::append_nodes(words, fourth, nodes, n)
 }
 
@@ -50,7 +48,7 @@ fn read_value(
     at: usize,
     nodes: &mut [u32],
     sorts: &mut [bool],
-) -> LineRead
+) -> Result<LineRead, Row>
     ensures value { result ≡ value_read counts words.old value.now (length nodes.old)
         (length sorts.old) at }
     ensures words_after { words.new ≡ after_value counts words.old value.now
@@ -58,21 +56,18 @@ fn read_value(
     ensures scratch { Scratch nodes.old nodes.new
         × Scratch sorts.old sorts.new }
 {
-    let Ends::Are(from, action, to) = read_ends(value) else {
-        return LineRead::Fault(3);
-    };
-    let read = predicates::predicate(field(value, 3), false, counts, words, nodes, sorts);
-    match read {
-        Nodes::Are(n) => {
-            if astray(counts, from, action, to) {
-                return LineRead::Fault(12);
-            }
-            let rest = left_alone(nodes, n);
-            LineRead::Sound(rest, n, append_edge(words, at, from, action, to, nodes, n))
-        }
-        Nodes::Unsound(row) => LineRead::Fault(row),
-        Nodes::Full => LineRead::Fault(6),
+    let ends = read_ends(value).ok_or(Row(3))?;
+    let n = predicates::predicate(field(value, 3), false, counts, words, nodes, sorts)?;
+    if astray(counts, ends) {
+        return Err(Row(12));
     }
+    let number = left_alone(nodes, n);
+    let next = append_edge(words, at, ends, nodes, n);
+    Ok(LineRead {
+        number,
+        nodes: n,
+        next,
+    })
 }
 
 // Row 2, and then those of the value.
@@ -84,7 +79,7 @@ pub fn edge(
     at: usize,
     nodes: &mut [u32],
     sorts: &mut [bool],
-) -> LineRead
+) -> Result<LineRead, Row>
     ensures value { result ≡ edge_read line.now ended counts words.old (length nodes.old)
         (length sorts.old) at }
     ensures words_after { words.new ≡ edge_after line.now ended counts words.old
@@ -93,7 +88,7 @@ pub fn edge(
         × Scratch sorts.old sorts.new }
 {
     if read_form::misformed(line, ended, b"edge=", 4) {
-        return LineRead::Fault(2);
+        return Err(Row(2));
     }
     read_value(
         read_form::value(line, b"edge="),

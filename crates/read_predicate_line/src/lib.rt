@@ -6,4 +6,4 @@ mod edges;
 mod predicates;
 
 pub use edges::edge;
-pub use predicates::{init, inv};
+pub use predicates::location;

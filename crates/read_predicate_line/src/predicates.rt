@@ -1,20 +1,19 @@
 // The lines `init=P` and `inv=P`, and the predicate P of these and of an edge, with memory for its nodes.
 ghost use Rattle.std.specs.Prelude.{◌≡◌, ◌∷◌, suc, ◌≤◌, length, take};
 ghost use Rattle.model.specs.Bounds.{max_nodes};
-ghost use Rattle.model.specs.Lines as Lines;
-ghost use Rattle.format.specs.Spelling.{spelling};
 ghost use Rattle.read_predicate.specs.Scratch.{Scratch};
 ghost use Rattle.read_nodes.specs.Nodes.{nodes_after};
 ghost use Rattle.table_append.specs.Append.{next_place, put};
-ghost use Rattle.read_predicate_line.specs.Predicate.{predicate_read, located_read, located_after};
+ghost use Rattle.read_predicate_line.specs.Predicate.{predicate_read, by_row, located_read, located_after};
 ghost use Rattle.read_predicate_line.specs.Predicate.{location_read, location_after};
 
 use line_order::Counts;
-use model::Model;
+use model::{Model, Row};
 use read_form::LineRead;
-use read_nodes::Nodes;
+use read_nodes::NodesError;
 
-// The predicate that the bytes spell, by the table so far; where `old`, it may name only old values.
+// The predicate that the bytes spell, by the table so far; where `old`, it may name only old values. Where there is
+// no room, it has more words than a text can have: row 6.
 pub(crate) fn predicate(
     part: &[u8],
     old: bool,
@@ -22,16 +21,20 @@ pub(crate) fn predicate(
     words: &[u32; Model::WORDS],
     nodes: &mut [u32],
     sorts: &mut [bool],
-) -> Nodes
-    ensures value { result ≡ predicate_read part.now old counts words.now (length nodes.old)
-        (length sorts.old) }
+) -> Result<usize, Row>
+    ensures value { result ≡ by_row (predicate_read part.now old counts words.now (length nodes.old)
+        (length sorts.old)) }
     ensures nodes_after { (nodes.new ≡ nodes_after part.now nodes.old)
         × Scratch sorts.old sorts.new }
 {
     let v = counts.variables;
     let before = counts.nodes;
     let ranges = table_line::ranges(words, v);
-    read_nodes::read(part, old, v, ranges, before, nodes, sorts)
+    match read_nodes::read(part, old, v, ranges, before, nodes, sorts) {
+        Ok(n) => Ok(n),
+        Err(NodesError::Row(row)) => Err(row),
+        Err(NodesError::Full) => Err(Row(6)),
+    }
 }
 
 // The count of a predicate's nodes, and the nodes: the first of `from`.
@@ -57,7 +60,7 @@ fn located(
     at: usize,
     nodes: &mut [u32],
     sorts: &mut [bool],
-) -> LineRead
+) -> Result<LineRead, Row>
     ensures value { result ≡ located_read counts words.old value.now (length nodes.old)
         (length sorts.old) at }
     ensures words_after { words.new ≡ located_after counts words.old value.now
@@ -65,16 +68,17 @@ fn located(
     ensures scratch { Scratch nodes.old nodes.new
         × Scratch sorts.old sorts.new }
 {
-    let read = predicate(value, true, counts, words, nodes, sorts);
-    match read {
-        Nodes::Are(n) => LineRead::Sound(0, n, append_nodes(words, at, nodes, n)),
-        Nodes::Unsound(row) => LineRead::Fault(row),
-        Nodes::Full => LineRead::Fault(6),
-    }
+    let n = predicate(value, true, counts, words, nodes, sorts)?;
+    let next = append_nodes(words, at, nodes, n);
+    Ok(LineRead {
+        number: 0,
+        nodes: n,
+        next,
+    })
 }
 
-// A location's line with the key `name`: row 2, and those of P.
-fn location(
+// A location's line with the key `name`, `init=` or `inv=`: row 2, and those of P.
+pub fn location(
     line: &[u8],
     ended: bool,
     name: &[u8],
@@ -83,7 +87,7 @@ fn location(
     at: usize,
     nodes: &mut [u32],
     sorts: &mut [bool],
-) -> LineRead
+) -> Result<LineRead, Row>
     ensures value { result ≡ location_read name.now line.now ended counts words.old
         (length nodes.old) (length sorts.old) at }
     ensures words_after { words.new ≡ location_after name.now line.now ended counts
@@ -92,7 +96,7 @@ fn location(
         × Scratch sorts.old sorts.new }
 {
     if read_form::misformed(line, ended, name, 1) {
-        return LineRead::Fault(2);
+        return Err(Row(2));
     }
     located(
         read_form::value(line, name),
@@ -102,43 +106,4 @@ fn location(
         nodes,
         sorts,
     )
-}
-
-// The lines by their keys.
-pub fn init(
-    line: &[u8],
-    ended: bool,
-    counts: Counts,
-    words: &mut [u32; Model::WORDS],
-    at: usize,
-    nodes: &mut [u32],
-    sorts: &mut [bool],
-) -> LineRead
-    ensures value { result ≡ location_read (spelling Lines.init) line.now ended counts words.old
-        (length nodes.old) (length sorts.old) at }
-    ensures words_after { words.new ≡ location_after (spelling Lines.init) line.now ended counts
-        words.old (length nodes.old) (length sorts.old) at }
-    ensures scratch { Scratch nodes.old nodes.new
-        × Scratch sorts.old sorts.new }
-{
-    location(line, ended, b"init=", counts, words, at, nodes, sorts)
-}
-
-pub fn inv(
-    line: &[u8],
-    ended: bool,
-    counts: Counts,
-    words: &mut [u32; Model::WORDS],
-    at: usize,
-    nodes: &mut [u32],
-    sorts: &mut [bool],
-) -> LineRead
-    ensures value { result ≡ location_read (spelling Lines.inv) line.now ended counts words.old
-        (length nodes.old) (length sorts.old) at }
-    ensures words_after { words.new ≡ location_after (spelling Lines.inv) line.now ended counts
-        words.old (length nodes.old) (length sorts.old) at }
-    ensures scratch { Scratch nodes.old nodes.new
-        × Scratch sorts.old sorts.new }
-{
-    location(line, ended, b"inv=", counts, words, at, nodes, sorts)
 }

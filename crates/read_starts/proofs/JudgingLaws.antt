@@ -1,23 +1,26 @@
 -- Each way out of the code of src/judging.rt.
 use Prim.Native.Nat.{ℕ, ◌+◌, ◌-◌, ◌≤◌, ◌<◌}
-use mathlib.Core.Path.{◌≡◌, sym, ◌∙◌, ap}
+use mathlib.Core.Path.{◌≡◌, refl, sym, ◌∙◌, ap}
 use mathlib.Core.Bool.{Bool, true, false}
 use mathlib.Core.List.{List, ◌∷◌}
 use native.Mathlib.Omega.{arith}
-use borrow.Author.Tests.{le-leb, lt-leb, leb-true, lt-ltb, le-ltb, eq-eqb, ne_eqb}
+use borrow.Author.Tests.{le-leb, lt-leb, leb-true, lt-ltb, le-ltb}
 use lib.ListN.{length, take, drop}
-use lib.Dec.{leb}
+use lib.Dec.{leb, ltb}
 use Rattle.format.specs.Bytes.{Bytes}
-use Rattle.read_nodes.specs.declared.Nodes.{Nodes}
-use Rattle.read_nodes.specs.declared.Nodes.TheVariants.{Are, Unsound, Full}
+use Rattle.read_nodes.specs.declared.NodesError.{NodesError}
+use Rattle.read_nodes.specs.declared.NodesError.TheVariants as E
 use Rattle.read_nodes.specs.Nodes.{nodes_read}
 use Rattle.read_predicate.specs.Scratch.{Scratch}
-use Rattle.read_extent.specs.declared.places.Start.{Start}
-use Rattle.read_extent.specs.declared.places.Start.TheVariants.{At, Nothing}
+use Rattle.std.specs.Prelude as Std
+use Rattle.std.specs.Prelude.{Some, None, Result, Ok, Err}
+use Rattle.std.specs.Bool.{then_some}
+use Rattle.model.specs.declared.Row.{Row}
+use Rattle.model.specs.Row as R
 use Rattle.read_extent.specs.Extent.{after_start, next_start}
 use Rattle.read_starts.specs.declared.judging.Judged.{Judged}
 use Rattle.read_starts.specs.Judged.{sum_up, smaller, one_more, judged, begun, with_start, judged_from, judged_all}
-use Rattle.read_starts.proofs.PartLaws.{texts_from, texts_start, texts_past, texts_none, texts_next, texts_later}
+use Rattle.read_starts.proofs.PartLaws.{texts_from, texts_start, texts_none, texts_next, texts_later}
 
 -- `sum`
 module _ (a b : ℕ) (p : Bool) (e : p ≡ leb (a + b) 4096) where
@@ -35,19 +38,19 @@ module _ (a b : ℕ) (p : Bool) (e : p ≡ leb (a + b) 4096) where
 pub ruleset sum_laws = (sum_small, sum_in, sum_over)
 
 -- `smaller`
-module _ (row sofar : ℕ) where
-  pub smaller_first : sofar ≡ 0 → row ≡ smaller row sofar
+module _ (row : Row) (sofar : Std.Option Row) where
+  pub smaller_first : sofar ≡ None → row ≡ smaller row sofar
   unfolding smaller
-  smaller_first h = rw (eq-eqb sofar 0 h, smaller)
+  smaller_first h = rw h
 
-  module _ (z : sofar ≡ 0 → ⊥) where
-    pub smaller_row : row ≤ sofar → row ≡ smaller row sofar
+  module _ (least : Row) (h : sofar ≡ Some least) where
+    pub smaller_row : row.0 ≤ least.0 → row ≡ smaller row sofar
     unfolding smaller
-    smaller_row h = rw (ne_eqb sofar 0 z, smaller, le-leb row sofar h, smaller)
+    smaller_row l = rw (h, le-leb row.0 least.0 l, smaller)
 
-    pub smaller_sofar : sofar < row → sofar ≡ smaller row sofar
+    pub smaller_sofar : least.0 < row.0 → least ≡ smaller row sofar
     unfolding smaller
-    smaller_sofar h = rw (ne_eqb sofar 0 z, smaller, lt-leb row sofar h, smaller)
+    smaller_sofar l = rw (h, lt-leb row.0 least.0 l, smaller)
 
 pub ruleset smaller_laws = (smaller_first, smaller_row, smaller_sofar)
 
@@ -64,32 +67,31 @@ module _ (count : ℕ) where
 pub ruleset more_laws = (more_in, more_over)
 
 -- `begun`
-module _ (before : ℕ) where
-  pub begun_over : 4096 < before → judged 11 0 0 ≡ begun before
-  unfolding begun
-  begun_over h = rw (lt-ltb 4096 before h, begun)
+pub begun_is : (before : ℕ) (row : Std.Option Row) → row ≡ then_some (ltb 4096 before) (R.row 11) → judged row 0 0 ≡ begun before
+unfolding begun
+begun_is before row e = ap (λ (r : Std.Option Row). judged r 0 0) e ∙ go (ltb 4096 before)
+  where
+    go : (v : Bool) → judged (then_some v (R.row 11)) 0 0 ≡ elim v as (λ x. Judged) [ true ↦ judged (Some (R.row 11)) 0 0 | false ↦ judged None 0 0 ]
+    go true = refl
+    go false = refl
 
-  pub begun_in : before ≤ 4096 → judged 0 0 0 ≡ begun before
-  unfolding begun
-  begun_in h = rw (le-ltb 4096 before h, begun)
-
-pub ruleset begun_laws = (begun_over, begun_in)
+pub ruleset begun_laws = (begun_is)
 
 -- `with_start`
-module _ (j : Judged) (read : Nodes) (c : ℕ) (hc : c ≡ one_more j.count) where
-  pub with_are : (n s : ℕ) → read ≡ Are n → s ≡ sum_up j.nodes n → judged j.row s c ≡ with_start j read
+module _ (j : Judged) (read : Result ℕ NodesError) (c : ℕ) (hc : c ≡ one_more j.count) where
+  pub with_are : (n s : ℕ) → read ≡ Ok n → s ≡ sum_up j.nodes n → judged j.row s c ≡ with_start j read
   unfolding with_start
   with_are n s e h = rw (e, h, hc)
 
-  pub with_unsound : (row s : ℕ) → read ≡ Unsound row → s ≡ smaller row j.row → judged s j.nodes c ≡ with_start j read
+  pub with_row : (row s : Row) (error : NodesError) → read ≡ Err error → error ≡ E.Row row → s ≡ smaller row j.row → judged (Some s) j.nodes c ≡ with_start j read
   unfolding with_start
-  with_unsound row s e h = rw (e, h, hc)
+  with_row row s error e i h = rw (e, i, h, hc)
 
-  pub with_full : (s : ℕ) → read ≡ Full → s ≡ smaller 6 j.row → judged s j.nodes c ≡ with_start j read
+  pub with_full : (s : Row) → read ≡ Err E.Full → s ≡ smaller (R.row 6) j.row → judged (Some s) j.nodes c ≡ with_start j read
   unfolding with_start
   with_full s e h = rw (e, h, hc)
 
-pub ruleset with_laws = (with_are, with_unsound, with_full)
+pub ruleset with_laws = (with_are, with_row, with_full)
 
 -- `judge`
 module _ (variables : ℕ) (ranges : List ℕ) (before room high : ℕ) (s : Bytes) where
@@ -101,33 +103,26 @@ module _ (variables : ℕ) (ranges : List ℕ) (before room high : ℕ) (s : Byt
   judge_start j e = ap (judged_from variables ranges before room high (begun before)) (texts_start s) ∙ rw e
 
   module _ (j : Judged) (from : ℕ) (g : Goes j from) where
-    pub judge_past : length s < from → j ≡ judged_all variables ranges before room high s
-    unfolding judged_from
-    judge_past h = sym (g ∙ ap (judged_from variables ranges before room high j) (texts_past s from h))
-
-    module _ (h : from ≤ length s) (x : Start) (e : x ≡ next_start s from) where
-      pub judge_none : x ≡ Nothing → j ≡ judged_all variables ranges before room high s
+    module _ (x : Std.Option ℕ) (e : x ≡ next_start s from) where
+      pub judge_none : x ≡ None → j ≡ judged_all variables ranges before room high s
       unfolding judged_from
       judge_none z = sym (g ∙ ap (judged_from variables ranges before room high j) (texts_none s from (sym e ∙ z)))
 
-      module _ (at next : ℕ) (z : x ≡ At at) (y : next ≡ after_start s at) where
+      module _ (at next : ℕ) (z : x ≡ Some at) (y : next ≡ after_start s at) where
         pub judge_less : length s + 1 - next < length s + 1 - from
-        judge_less = let l = texts_later s from h at (sym e ∙ z) in omega (arith, l.0)
-
-        pub judge_within : next ≤ length s + 1
-        judge_within = let l = texts_later s from h at (sym e ∙ z) in omega (arith, l.1)
+        judge_less = let l = texts_later s from at (sym e ∙ z) in omega (arith, l.0, l.1)
 
         -- with lent memory that is as long as at first
         pub judge_on : (nodes₀ nodes : List ℕ) → Scratch nodes₀ nodes → length nodes₀ ≡ room
             → (sorts₀ sorts : List Bool) → Scratch sorts₀ sorts → length sorts₀ ≡ high
-            → (p : Bytes) (sofar : ℕ) (read : Nodes) (k : Judged) → p ≡ take (next - 1 - at) (drop at s) → sofar ≡ sum_up before j.nodes
+            → (p : Bytes) (sofar : ℕ) (read : Result ℕ NodesError) (k : Judged) → p ≡ take (next - 1 - at) (drop at s) → sofar ≡ sum_up before j.nodes
             → read ≡ nodes_read p true variables ranges sofar (length nodes) (length sorts) → k ≡ with_start j read → Goes k next
         unfolding judged_from
         judge_on nodes₀ nodes ln rn sorts₀ sorts ls rs p sofar read k a b c d =
             let here : p ∷ texts_from s next ≡ texts_from s from =
-            sym (texts_next s from h at (sym e ∙ z) ∙ rw (← y, ← a)) in
+            sym (texts_next s from at (sym e ∙ z) ∙ rw (← y, ← a)) in
             let said : read ≡ nodes_read p true variables ranges (sum_up before j.nodes) room high =
             c ∙ rw (b, ln.long, rn, ls.long, rs) in
             g ∙ rw (← here, d, said)
 
-pub ruleset judge_laws = (judge_start, judge_past, judge_none, judge_less, judge_within, judge_on)
+pub ruleset judge_laws = (judge_start, judge_none, judge_less, judge_on)

@@ -5,9 +5,13 @@ use mathlib.Core.Bool.{Bool, true, false, ◌||◌, or_assoc}
 use mathlib.Core.List.{List, [], ◌∷◌}
 use mathlib.Core.Option.{Option, none, some}
 use native.Mathlib.Omega.{arith}
-use borrow.Author.Tests.{le-leb, lt-leb, ne_eqb}
-use lib.Dec.{eqb, leb}
+use borrow.Author.Tests.{le-leb, lt-leb}
+use lib.Dec.{leb}
 use lib.ListN.{length}
+use Rattle.std.specs.Prelude as Std
+use Rattle.std.specs.Prelude.{Some, None}
+use Rattle.model.specs.declared.Row.{Row}
+use Rattle.model.specs.Row.{row}
 use Rattle.model.specs.Limits.{broken}
 use Rattle.read_starts.specs.Judged.{smaller, row_of}
 
@@ -22,38 +26,37 @@ either (x ∷ xs) [] = x ∷ xs
 either (x ∷ xs) (y ∷ ys) = (x || y) ∷ either xs ys
 
 -- as the code says and joins them
-abbrev pub number : Option ℕ → ℕ
-number none = 0
-number (some row) = row
+abbrev pub number : Option ℕ → Std.Option Row
+number none = None
+number (some r) = Some (row r)
+
+abbrev pub lesser : ℕ → ℕ → ℕ
+lesser b a = elim (leb b a) [ true ↦ b | false ↦ a ]
 
 abbrev pub least : Option ℕ → Option ℕ → Option ℕ
 least none y = y
 least (some a) none = some a
-least (some a) (some b) = some (smaller b a)
+least (some a) (some b) = some (lesser b a)
 
 pub least_none : (o : Option ℕ) → least o none ≡ o
 least_none none = refl
 least_none (some a) = refl
 
-pub number_least : (o : Option ℕ) (row : ℕ) → smaller row (number o) ≡ number (least o (some row))
+pub number_least : (o : Option ℕ) (b : ℕ) → Some (smaller (row b) (number o)) ≡ number (least o (some b))
 unfolding smaller
-number_least none row = refl
-number_least (some a) row = refl
-
--- `smaller` of rows in order
-pub below : (b a : ℕ) → b ≤ a → smaller b a ≡ b
-unfolding smaller
-below b a h = go (eqb a 0) refl
+number_least none b = refl
+number_least (some a) b = go (leb b a)
   where
-    go : (v : Bool) → eqb a 0 ≡ v → elim v as (λ x. ℕ) [ true ↦ b | false ↦ elim (leb b a) as (λ x. ℕ) [ true ↦ b | false ↦ a ] ] ≡ b
-    go true e = refl
-    go false e = ap (λ (v : Bool). elim v as (λ x. ℕ) [ true ↦ b | false ↦ a ]) (le-leb b a h)
+    go : (v : Bool) → Some (elim v as (λ x. Row) [ true ↦ row b | false ↦ row a ]) ≡ Some (row (elim v as (λ x. ℕ) [ true ↦ b | false ↦ a ]))
+    go true = refl
+    go false = refl
 
-pub above : (b a : ℕ) → a < b → 0 < a → smaller b a ≡ a
-unfolding smaller
-above b a h p =
-    ap (λ (v : Bool). elim v as (λ x. ℕ) [ true ↦ b | false ↦ elim (leb b a) as (λ x. ℕ) [ true ↦ b | false ↦ a ] ]) (ne_eqb a 0 (λ z. omega arith)) ∙
-    ap (λ (v : Bool). elim v as (λ x. ℕ) [ true ↦ b | false ↦ a ]) (lt-leb b a h)
+-- `lesser` of rows in order
+pub below : (b a : ℕ) → b ≤ a → lesser b a ≡ b
+below b a h = ap (λ (v : Bool). elim v as (λ x. ℕ) [ true ↦ b | false ↦ a ]) (le-leb b a h)
+
+pub above : (b a : ℕ) → a < b → lesser b a ≡ a
+above b a h = ap (λ (v : Bool). elim v as (λ x. ℕ) [ true ↦ b | false ↦ a ]) (lt-leb b a h)
 
 -- a row that is broken is one of them
 pub rows_within : (bs : List Bool) (r a : ℕ) → rows r bs ≡ some a → (r ≤ a) × (a < r + length bs)
@@ -71,7 +74,7 @@ least_rows (true ∷ xs) (false ∷ ys) r p = go (rows (suc r) ys) refl
   where
     go : (o : Option ℕ) → rows (suc r) ys ≡ o → least (some r) o ≡ some r
     go none e = refl
-    go (some b) e = ap (λ (n : ℕ). some n) (above b r (omega (arith, (rows_within ys (suc r) b e).0)) p)
+    go (some b) e = ap (λ (n : ℕ). some n) (above b r (omega (arith, (rows_within ys (suc r) b e).0)))
 least_rows (false ∷ xs) (true ∷ ys) r p = go (rows (suc r) xs) refl
   where
     go : (o : Option ℕ) → rows (suc r) xs ≡ o → least o (some r) ≡ some r
@@ -91,8 +94,8 @@ either_long [] ys n h k = k
 either_long (x ∷ xs) [] n h k = h
 either_long (x ∷ xs) (y ∷ ys) n h k = let m = either_long xs ys (n - 1) (omega arith) (omega arith) in omega arith
 
--- the number says the row, which is not 0
-pub said_row : (o : Option ℕ) → ((a : ℕ) → o ≡ some a → 0 < a) → row_of (number o) ≡ o
+-- the row that it says
+pub said_row : (o : Option ℕ) → row_of (number o) ≡ o
 unfolding row_of
-said_row none h = refl
-said_row (some a) h = let p = h a refl in ap (λ (v : Bool). elim v as (λ x. Option ℕ) [ true ↦ none | false ↦ some a ]) (ne_eqb a 0 (λ z. omega arith))
+said_row none = refl
+said_row (some a) = refl

@@ -26,10 +26,14 @@ use Rattle.format.specs.Tokens.{tokens, sounds, read_words}
 use Rattle.format.proofs.BytesLaws.{Each}
 use Rattle.read_form.specs.Outcome.{then_row}
 use Rattle.read_form.proofs.Outcomes.{then_broken, then_none, first_none}
-use Rattle.read_nodes.specs.declared.Nodes.{Nodes}
-use Rattle.read_nodes.specs.declared.Nodes.TheVariants.{Are, Unsound, Full}
+use Rattle.read_nodes.specs.declared.NodesError.{NodesError}
+use Rattle.read_nodes.specs.declared.NodesError.TheVariants as E
+use Rattle.std.specs.Prelude as Std
+use Rattle.std.specs.Prelude.{Some, None, Result, Ok, Err}
+use Rattle.model.specs.declared.Row.{Row}
+use Rattle.model.specs.Row as R
 use Rattle.read_nodes.specs.Nodes.{told, nodes_read, codes_of}
-use Rattle.read_words.specs.declared.reading.Words.{Words}
+use Rattle.read_words.specs.declared.reading.WordsError.{WordsError}
 use Rattle.read_nodes.specs.Text.{text_pred, text_fault}
 use Rattle.read_nodes.proofs.NodesRows.{read_exact, room_same, answer_same, accepted, went}
 use Rattle.read_starts.specs.declared.judging.Judged.{Judged}
@@ -37,7 +41,7 @@ use Rattle.read_starts.specs.Judged.{sum_up, smaller, one_more, judged, begun, w
 use Rattle.read_starts.specs.Rows.{starts_read, start_preds, starts_rows}
 use Rattle.read_starts.specs.Texts.{start_texts}
 use Rattle.read_starts.specs.Words.{counted_words, words_by, start_words, starts_words}
-use Rattle.read_starts.proofs.Least.{rows, either, number, least, least_none, number_least, below, above, rows_within, least_rows, either_assoc, either_long, said_row}
+use Rattle.read_starts.proofs.Least.{rows, either, number, lesser, least, least_none, number_least, below, above, rows_within, least_rows, either_assoc, either_long, said_row}
 use Rattle.read_starts.proofs.TextLaws.{Text, preds_of, texts_fine, texts_read, texts_short}
 
 -- the predicate of a P that is one
@@ -90,34 +94,40 @@ module _ (before : ℕ) where
   moved : (j : Judged) (x y : Option ℕ) (n m : ℕ) → x ≡ y → n ≡ m → Sofar j x n → Sofar j y m
   moved j x y n m e f s = rw (← e, ← f) s
 
+  abbrev said : ℕ → Std.Option Row
+  said b = Some (R.row b)
+
+  abbrev with_row : ℕ → Std.Option Row → Std.Option Row
+  with_row b o = Some (smaller (R.row b) o)
+
   -- one P more that breaks one of these rows
-  broken_more : (j : Judged) (n k c b : ℕ) (x : Option ℕ) → Sofar j x n → b < 11 → Sofar (judged (smaller b j.row) j.nodes c) (least x (some b)) (n + k)
+  broken_more : (j : Judged) (n k c b : ℕ) (x : Option ℕ) → Sofar j x n → b < 11 → Sofar (judged (Some (smaller (R.row b) j.row)) j.nodes c) (least x (some b)) (n + k)
   unfolding then_row
-  broken_more j n k c b (some a) s l = record { row = ap (smaller b) s.row; nodes = λ e. some_none (smaller b a) e }
+  broken_more j n k c b (some a) s l = record { row = ap (with_row b) s.row ∙ number_least (some a) b; nodes = λ e. some_none (lesser b a) e }
   broken_more j n k c b none s l = go (ltb max_nodes (before + n)) refl
     where
-      go : (v : Bool) → ltb max_nodes (before + n) ≡ v → Sofar (judged (smaller b j.row) j.nodes c) (some b) (n + k)
-      go true e = record { row = ap (smaller b) (s.row ∙ ap number (many_over (before + n) (ltb-true _ _ e))) ∙ below b 11 (omega arith); nodes = λ z. some_none b z }
-      go false e = record { row = ap (smaller b) (s.row ∙ ap number (many_in (before + n) (ltb-false _ _ e))) ∙ number_least none b; nodes = λ z. some_none b z }
+      go : (v : Bool) → ltb max_nodes (before + n) ≡ v → Sofar (judged (Some (smaller (R.row b) j.row)) j.nodes c) (some b) (n + k)
+      go true e = record { row = ap (with_row b) (s.row ∙ ap number (many_over (before + n) (ltb-true _ _ e))) ∙ number_least (some 11) b ∙ ap said (below b 11 (omega arith)); nodes = λ z. some_none b z }
+      go false e = record { row = ap (with_row b) (s.row ∙ ap number (many_in (before + n) (ltb-false _ _ e))) ∙ number_least none b; nodes = λ z. some_none b z }
 
   -- or that breaks none of them, but row 11
   many_more : (j : Judged) (n k c : ℕ) (x : Option ℕ) → Sofar j x n → ((a : ℕ) → x ≡ some a → (0 < a) × (a < 11)) → max_nodes < sum_up before j.nodes + k
-      → Sofar (judged (smaller 11 j.row) j.nodes c) x (n + k)
+      → Sofar (judged (Some (smaller (R.row 11) j.row)) j.nodes c) x (n + k)
   unfolding then_row
-  many_more j n k c (some a) s l h = record { row = ap (smaller 11) s.row ∙ above 11 a (l a refl).1 (l a refl).0; nodes = λ z. some_none a z }
+  many_more j n k c (some a) s l h = record { row = ap (with_row 11) s.row ∙ number_least (some a) 11 ∙ ap said (above 11 a (l a refl).1); nodes = λ z. some_none a z }
   many_more j n k c none s l h = go (ltb max_nodes (before + n)) refl
     where
-      over : max_nodes < before + (n + k) → smaller 11 j.row ≡ 11 → Sofar (judged (smaller 11 j.row) j.nodes c) none (n + k)
+      over : max_nodes < before + (n + k) → with_row 11 j.row ≡ said 11 → Sofar (judged (Some (smaller (R.row 11) j.row)) j.nodes c) none (n + k)
       over m e = record { row = e ∙ sym (ap number (many_over (before + (n + k)) m)); nodes = λ z. some_none 11 (sym (many_over (before + (n + k)) m) ∙ z) }
 
-      go : (v : Bool) → ltb max_nodes (before + n) ≡ v → Sofar (judged (smaller 11 j.row) j.nodes c) none (n + k)
+      go : (v : Bool) → ltb max_nodes (before + n) ≡ v → Sofar (judged (Some (smaller (R.row 11) j.row)) j.nodes c) none (n + k)
       go true e =
           let l = ltb-true max_nodes (before + n) e in
-          over (omega arith) (ap (smaller 11) (s.row ∙ ap number (many_over (before + n) l)) ∙ below 11 11 (omega arith))
+          over (omega arith) (ap (with_row 11) (s.row ∙ ap number (many_over (before + n) l)) ∙ number_least (some 11) 11 ∙ ap said (below 11 11 (omega arith)))
       go false e =
           let l = ltb-false max_nodes (before + n) e in
           let m = s.nodes (many_in (before + n) l) in
-          over (omega (arith, m, sum_is before j.nodes (omega (arith, m)))) (ap (smaller 11) (s.row ∙ ap number (many_in (before + n) l)) ∙ number_least none 11)
+          over (omega (arith, m, sum_is before j.nodes (omega (arith, m)))) (ap (with_row 11) (s.row ∙ ap number (many_in (before + n) l)) ∙ number_least none 11)
 
   -- or none at all
   none_more : (j : Judged) (n k c : ℕ) (x : Option ℕ) → Sofar j x n → sum_up before j.nodes + k ≤ max_nodes → Sofar (judged j.row (sum_up j.nodes k) c) x (n + k)
@@ -227,7 +237,7 @@ module _ (declared : List Range) where
       unfolding begun exists broken then_row
       start = go (ltb max_nodes before) refl
         where
-          go : (v : Bool) → ltb max_nodes before ≡ v → Sofar before (elim v as (λ x. Judged) [ true ↦ judged 11 0 0 | false ↦ judged 0 0 0 ]) none 0
+          go : (v : Bool) → ltb max_nodes before ≡ v → Sofar before (elim v as (λ x. Judged) [ true ↦ judged (Some (R.row 11)) 0 0 | false ↦ judged None 0 0 ]) none 0
           go true e =
               let l = ltb-true max_nodes before e in
               let m = many_over (before + 0) (omega arith) in
@@ -245,11 +255,11 @@ module _ (declared : List Range) where
     one_words : (u : Bytes) → Text most u → rows 6 (flags (read_of u)) ≡ none → size u ≤ max_nodes → start_words room u ≡ pred_words (pred (read_of u))
     unfolding start_words words_by counted_words pred_words told then_row text_pred
     one_words u t e l =
-        let n : nodes_read u true (length declared) ranges 0 room high ≡ Are (size u) =
+        let n : nodes_read u true (length declared) ranges 0 room high ≡ Ok (size u) =
         read_one 0 u 0 t ∙ ap (told (size u)) (ap (λ (o : Option ℕ). then_row o (many (0 + size u))) e ∙ many_in (0 + size u) (omega arith)) in
         let w = (went u true (length declared) ranges 0 room high (size u) n).words in
         let a = accepted u true (length declared) ranges 0 room high (size u) n in
-        ap (λ (x : Words). words_by x (codes_of u)) w
+        ap (λ (x : Result ℕ WordsError). words_by x (codes_of u)) w
         ∙ ap (λ (v : Bool). elim v as (λ x. List ℕ) [ true ↦ size u ∷ take (size u) (codes_of u) | false ↦ [] ]) (le-leb (size u) max_nodes l)
         ∙ ap (λ (c : List ℕ). size u ∷ c) (take_all (size u) (codes_of u) (omega (arith, a.counted)) ∙ a.codes)
         ∙ ap (λ (k : ℕ). k ∷ map code (words (pred (read_of u)))) a.size
@@ -261,7 +271,7 @@ module _ (declared : List Range) where
         go : (x y : Option ℕ) → least x y ≡ none → (x ≡ none) × (y ≡ none)
         go none y h = (refl, h)
         go (some a) none h = some_none a h
-        go (some a) (some b) h = some_none (smaller b a) h
+        go (some a) (some b) h = some_none (lesser b a) h
 
     all_words : (us : List Bytes) → Each (Text most) us → rows 6 (all_flags (preds_of us)) ≡ none → total (preds_of us) ≤ max_nodes
         → flat_map (start_words room) us ≡ flat_map pred_words (map pred (preds_of us))
@@ -274,11 +284,11 @@ module _ (declared : List Range) where
 
 -- how many they are
 module _ (variables : ℕ) (ranges : List ℕ) (before room high : ℕ) where
-  counted_one : (j : Judged) (x : Nodes) → (with_start j x).count ≡ one_more j.count
+  counted_one : (j : Judged) (x : Result ℕ NodesError) → (with_start j x).count ≡ one_more j.count
   unfolding with_start
-  counted_one j (Are n) = refl
-  counted_one j (Unsound row) = refl
-  counted_one j Full = refl
+  counted_one j (Ok n) = refl
+  counted_one j (Err (E.Row row)) = refl
+  counted_one j (Err E.Full) = refl
 
   more_by : (c : ℕ) → c < max_tree_nodes → one_more c ≡ c + 1
   unfolding one_more
@@ -297,7 +307,7 @@ module _ (variables : ℕ) (ranges : List ℕ) (before room high : ℕ) where
   unfolding begun
   zero_begun = go (ltb max_nodes before)
     where
-      go : (v : Bool) → (elim v as (λ x. Judged) [ true ↦ judged 11 0 0 | false ↦ judged 0 0 0 ]).count ≡ 0
+      go : (v : Bool) → (elim v as (λ x. Judged) [ true ↦ judged (Some (R.row 11)) 0 0 | false ↦ judged None 0 0 ]).count ≡ 0
       go true = refl
       go false = refl
 
@@ -340,17 +350,8 @@ module _ (declared : List Range) (ranges : List ℕ) (are : declared_of ranges �
   unfolding starts_rows passes_nodes
   rows_are = all_rows declared _ _ _ _ _ _
 
-  row_within : (a : ℕ) → then_row (rows 6 (all_flags declared (starts_read s))) (many (before + total (starts_read s))) ≡ some a → 0 < a
-  unfolding then_row broken
-  row_within a e = go (rows 6 (all_flags declared (starts_read s))) refl (ltb max_nodes (before + total (starts_read s))) e
-    where
-      go : (x : Option ℕ) → rows 6 (all_flags declared (starts_read s)) ≡ x → (v : Bool) → then_row x (broken 11 v none) ≡ some a → 0 < a
-      go none q true h = let z : 11 ≡ a = cc in omega arith
-      go none q false h = some_none a (sym h)
-      go (some b) q v h = let z : b ≡ a = cc in omega (arith, (rows_within (all_flags declared (starts_read s)) 6 b q).0)
-
   pub judged_rows : row_of its.row ≡ starts_rows declared before s none
-  judged_rows = ap row_of sofar.row ∙ said_row _ row_within ∙ rows_are
+  judged_rows = ap row_of sofar.row ∙ said_row _ ∙ rows_are
 
   pub judged_nodes : starts_rows declared before s none ≡ none → its.nodes ≡ length (flat_map words (start_preds s))
   judged_nodes h = sofar.nodes (rows_are ∙ h)
@@ -381,7 +382,7 @@ module _ (s : Bytes) (room high most top : ℕ) (a : length s ≤ 2 * room) (b :
   from_same variables ranges before [] l j = refl
   from_same variables ranges before (u ∷ us) l j =
       let n = l.0 in
-      ap (λ (x : Nodes). judged_from variables ranges before room high (with_start j x) us)
+      ap (λ (x : Result ℕ NodesError). judged_from variables ranges before room high (with_start j x) us)
       (room_same u room high (omega arith) (omega arith) true variables ranges (sum_up before j.nodes) most top (omega arith) (omega arith))
       ∙ from_same variables ranges before us l.1 (with_start j (nodes_read u true variables ranges (sum_up before j.nodes) most top))
 
@@ -390,7 +391,7 @@ module _ (s : Bytes) (room high most top : ℕ) (a : length s ≤ 2 * room) (b :
   each_same [] l = refl
   each_same (u ∷ us) l =
       let n = l.0 in
-      ap₂ (λ (x y : List ℕ). x ++ y) (ap (λ (w : Words). words_by w (codes_of u)) (answer_same u room high (omega arith) (omega arith) most (omega arith))) (each_same us l.1)
+      ap₂ (λ (x y : List ℕ). x ++ y) (ap (λ (w : Result ℕ WordsError). words_by w (codes_of u)) (answer_same u room high (omega arith) (omega arith) most (omega arith))) (each_same us l.1)
 
   pub judged_same : (variables : ℕ) (ranges : List ℕ) (before : ℕ) → judged_all variables ranges before room high s ≡ judged_all variables ranges before most top s
   unfolding judged_all

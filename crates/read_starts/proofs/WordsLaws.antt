@@ -1,11 +1,11 @@
 -- Each way out of the code of src/words.rt.
 use Prim.Native.Nat.{ℕ, ◌+◌, ◌-◌, ◌≤◌, ◌<◌}
-use mathlib.Core.Path.{◌≡◌, sym, ◌∙◌, ap}
-use mathlib.Core.Bool.{true, false}
+use mathlib.Core.Path.{◌≡◌, refl, sym, ◌∙◌, ap}
+use mathlib.Core.Bool.{Bool, true, false}
 use mathlib.Core.List.{List, [], ◌∷◌, ◌++◌, flat_map}
 use native.Mathlib.Omega.{arith}
 use native.Mathlib.Nat.{add-zero, zero-add}
-use borrow.Author.Tests.{le-leb, lt-leb}
+use borrow.Author.Tests.{le-leb, lt-leb, leb-true, leb-false}
 use lib.Dec.{leb}
 use lib.ListN.{length, take, drop, length-append}
 use lib.Seq.{take_all}
@@ -14,26 +14,31 @@ use Rattle.format.specs.Bytes.{Bytes}
 use Rattle.table_append.specs.Append.{next_place, put}
 use Rattle.table_append.proofs.AppendLaws.{next_in, next_over}
 use Rattle.table_append.proofs.Joined.{next_then, put_then}
-use Rattle.read_words.specs.declared.reading.Words.{Words}
-use Rattle.read_words.specs.declared.reading.Words.TheVariants.{Read, Stray, Full}
+use Rattle.read_words.specs.declared.reading.WordsError.{WordsError}
+use Rattle.read_words.specs.declared.reading.WordsError.TheVariants.{Stray, Full}
 use Rattle.read_words.specs.Read.{Reads}
 use Rattle.read_predicate.specs.Scratch.{Scratch}
 use Rattle.read_nodes.specs.Nodes.{codes_of}
 use Rattle.read_nodes.proofs.NodesLaws.{read_front}
-use Rattle.read_extent.specs.declared.places.Start.{Start}
-use Rattle.read_extent.specs.declared.places.Start.TheVariants.{At, Nothing}
+use Rattle.std.specs.Prelude as Std
+use Rattle.std.specs.Prelude.{Some, None, Result, Ok, Err}
 use Rattle.read_extent.specs.Extent.{after_start, next_start}
 use Rattle.read_starts.specs.Words.{counted_words, words_by, start_words, starts_words}
-use Rattle.read_starts.proofs.PartLaws.{texts_from, texts_start, texts_past, texts_none, texts_next, texts_later}
+use Rattle.read_starts.proofs.PartLaws.{texts_from, texts_start, texts_none, texts_next, texts_later}
 
 -- `place`
-pub place_in : (at : ℕ) → at ≤ table_words → at ≡ next_place at 0
+place_in : (at : ℕ) → at ≤ table_words → at ≡ next_place at 0
 place_in at h = let z : at ≡ at + 0 = omega arith in z ∙ next_in at 0 (omega arith)
 
-pub place_over : (at : ℕ) → table_words < at → table_words ≡ next_place at 0
+place_over : (at : ℕ) → table_words < at → table_words ≡ next_place at 0
 place_over at h = next_over at 0 (omega arith)
 
-pub ruleset place_laws = (place_in, place_over)
+pub place_by : (at r : ℕ) → (at ≤ table_words → r ≡ at) → (table_words < at → r ≡ table_words) → r ≡ next_place at 0
+place_by at r inside over = go (leb at table_words) refl
+  where
+    go : (v : Bool) → leb at table_words ≡ v → r ≡ next_place at 0
+    go true e = let h = leb-true at table_words e in inside h ∙ place_in at h
+    go false e = let h = leb-false at table_words e in over h ∙ place_over at h
 
 -- `append_counted`
 module _ (n : ℕ) (nodes : List ℕ) (at : ℕ) (words : List ℕ) where
@@ -67,28 +72,28 @@ module _ (n : ℕ) (nodes : List ℕ) (at : ℕ) (words : List ℕ) where
 pub ruleset counted_laws = (long_next, long_put, short_next, short_put)
 
 -- `append_one`
-module _ (p : Bytes) (old new : List ℕ) (a : Words) (e : Reads p old new a) (at : ℕ) where
+module _ (p : Bytes) (old new : List ℕ) (a : Result ℕ WordsError) (e : Reads p old new a) (at : ℕ) where
   by_answer : (w : List ℕ) → words_by a (codes_of p) ≡ w → w ≡ start_words (length old) p
   unfolding start_words codes_of
-  by_answer w h = sym (ap (λ (x : Words). words_by x (codes_of p)) (sym e.answered) ∙ h)
+  by_answer w h = sym (ap (λ (x : Result ℕ WordsError). words_by x (codes_of p)) (sym e.answered) ∙ h)
 
-  pub stray_next : (z : ℕ) → a ≡ Stray → z ≡ next_place at 0 → z ≡ next_place at (length (start_words (length old) p))
-  unfolding words_by
-  stray_next z h hz = hz ∙ ap (λ (l : List ℕ). next_place at (length l)) (by_answer [] (rw h))
+  module _ (w : WordsError) (h : a ≡ Err w) where
+    none_by : [] ≡ start_words (length old) p
+    unfolding words_by
+    none_by = go w h
+      where
+        go : (v : WordsError) → a ≡ Err v → [] ≡ start_words (length old) p
+        go Stray k = by_answer [] (rw k)
+        go Full k = by_answer [] (rw k)
 
-  pub stray_put : (words : List ℕ) → a ≡ Stray → words ≡ put at (start_words (length old) p) words
-  unfolding words_by put
-  stray_put words h = ap (λ (l : List ℕ). put at l words) (by_answer [] (rw h))
+    pub failed_next : (z : ℕ) → z ≡ next_place at 0 → z ≡ next_place at (length (start_words (length old) p))
+    failed_next z hz = hz ∙ ap (λ (l : List ℕ). next_place at (length l)) none_by
 
-  pub full_next : (z : ℕ) → a ≡ Full → z ≡ next_place at 0 → z ≡ next_place at (length (start_words (length old) p))
-  unfolding words_by
-  full_next z h hz = hz ∙ ap (λ (l : List ℕ). next_place at (length l)) (by_answer [] (rw h))
+    pub failed_put : (words : List ℕ) → words ≡ put at (start_words (length old) p) words
+    unfolding put
+    failed_put words = ap (λ (l : List ℕ). put at l words) none_by
 
-  pub full_put : (words : List ℕ) → a ≡ Full → words ≡ put at (start_words (length old) p) words
-  unfolding words_by put
-  full_put words h = ap (λ (l : List ℕ). put at l words) (by_answer [] (rw h))
-
-  module _ (n : ℕ) (h : a ≡ Read n) where
+  module _ (n : ℕ) (h : a ≡ Ok n) where
     front : counted_words n new ≡ start_words (length old) p
     unfolding words_by counted_words
     front =
@@ -104,7 +109,7 @@ module _ (p : Bytes) (old new : List ℕ) (a : Words) (e : Reads p old new a) (a
   pub read_scratch : Scratch old new
   read_scratch = record { long = e.long }
 
-pub ruleset one_laws = (stray_next, stray_put, full_next, full_put, read_next, read_put, read_scratch)
+pub ruleset one_laws = (failed_next, failed_put, read_next, read_put, read_scratch)
 
 -- `append`
 module _ (s : Bytes) (words : List ℕ) (at room : ℕ) where
@@ -140,25 +145,16 @@ module _ (s : Bytes) (words : List ℕ) (at room : ℕ) where
       unfolding flat_map put
       ended_put = ap (λ (l : List Bytes). put end (flat_map (start_words room) l) sofar) (sym none) ∙ sym g.table
 
-    pub past_next : length s < from → end ≡ next_place at (length all_words)
-    past_next h = ended_next (texts_past s from h)
-
-    pub past_put : length s < from → sofar ≡ put at all_words words
-    past_put h = ended_put (texts_past s from h)
-
-    module _ (h : from ≤ length s) (x : Start) (e : x ≡ next_start s from) where
-      pub none_next : x ≡ Nothing → end ≡ next_place at (length all_words)
+    module _ (x : Std.Option ℕ) (e : x ≡ next_start s from) where
+      pub none_next : x ≡ None → end ≡ next_place at (length all_words)
       none_next z = ended_next (texts_none s from (sym e ∙ z))
 
-      pub none_put : x ≡ Nothing → sofar ≡ put at all_words words
+      pub none_put : x ≡ None → sofar ≡ put at all_words words
       none_put z = ended_put (texts_none s from (sym e ∙ z))
 
-      module _ (start next : ℕ) (z : x ≡ At start) (y : next ≡ after_start s start) where
+      module _ (start next : ℕ) (z : x ≡ Some start) (y : next ≡ after_start s start) where
         pub go_less : length s + 1 - next < length s + 1 - from
-        go_less = let l = texts_later s from h start (sym e ∙ z) in omega (arith, l.0)
-
-        pub go_within : next ≤ length s + 1
-        go_within = let l = texts_later s from h start (sym e ∙ z) in omega (arith, l.1)
+        go_less = let l = texts_later s from start (sym e ∙ z) in omega (arith, l.0, l.1)
 
         pub go_on : (nodes₀ nodes : List ℕ) (p : Bytes) (last : ℕ) (new : List ℕ) → last ≡ next_place end (length (start_words (length nodes) p))
             → new ≡ put end (start_words (length nodes) p) sofar → p ≡ take (next - 1 - start) (drop start s)
@@ -170,7 +166,7 @@ module _ (s : Bytes) (words : List ℕ) (at room : ℕ) where
             let c = lc ∙ ap (λ (n : ℕ). put end (start_words n p) sofar) l in
             let w = start_words room p in
             let t : texts_from s from ≡ p ∷ texts_from s next =
-            texts_next s from h start (sym e ∙ z) ∙ ap (λ (n : ℕ). take (n - 1 - start) (drop start s) ∷ texts_from s n) (sym y) ∙ ap (λ (q : Bytes). q ∷ texts_from s next) (sym a) in
+            texts_next s from start (sym e ∙ z) ∙ ap (λ (n : ℕ). take (n - 1 - start) (drop start s) ∷ texts_from s n) (sym y) ∙ ap (λ (q : Bytes). q ∷ texts_from s next) (sym a) in
             let f : rest_words from ≡ w ++ rest_words next = ap (flat_map (start_words room)) t in
             record {
               place = g.place ∙ ap (λ (l : List ℕ). next_place end (length l)) f ∙ ap (next_place end) (length-append w (rest_words next)) ∙ sym (next_then end (length w) (length (rest_words next))) ∙ ap (λ (n : ℕ). next_place n (length (rest_words next))) (sym b);
@@ -178,4 +174,4 @@ module _ (s : Bytes) (words : List ℕ) (at room : ℕ) where
               inside = b ∙ ap (next_place end) (sym (add-zero (length w))) ∙ sym (next_then end (length w) 0) ∙ ap (λ (n : ℕ). next_place n 0) (sym b);
             }
 
-pub ruleset append_laws = (go_start, past_next, past_put, none_next, none_put, go_less, go_within, go_on)
+pub ruleset append_laws = (go_start, none_next, none_put, go_less, go_on)

@@ -1,10 +1,10 @@
 -- The words that `append` puts into the table: of each P the number of its nodes, and the nodes.
-use Rattle.std.specs.Prelude.{ℕ, true, false, take, leb}
+use Rattle.std.specs.Prelude.{ℕ, true, false, take, leb, Result, Ok, Err}
 use mathlib.Core.List.{List, [], ◌∷◌, flat_map}
 use Rattle.model.specs.Bounds.{max_nodes}
 use Rattle.format.specs.Bytes.{Bytes}
-use Rattle.read_words.specs.declared.reading.Words.{Words}
-use Rattle.read_words.specs.declared.reading.Words.TheVariants.{Read, Stray, Full}
+use Rattle.read_words.specs.declared.reading.WordsError.{WordsError}
+use Rattle.read_words.specs.declared.reading.WordsError.TheVariants.{Stray, Full}
 use Rattle.read_words.specs.Read.{answer}
 use Rattle.read_nodes.specs.Nodes.{codes_of}
 use Rattle.read_starts.specs.Texts.{start_texts}
@@ -14,10 +14,10 @@ unfoldable pub counted_words : (n : ℕ) (nodes : List ℕ) → List ℕ
 counted_words n nodes = elim (leb n max_nodes) [ true ↦ n ∷ take n nodes | false ↦ [] ]
 
 -- by what reading its words came to
-unfoldable pub words_by : Words → (codes : List ℕ) → List ℕ
-words_by (Read n) codes = counted_words n codes
-words_by Stray codes = []
-words_by Full codes = []
+unfoldable pub words_by : Result ℕ WordsError → (codes : List ℕ) → List ℕ
+words_by (Ok n) codes = counted_words n codes
+words_by (Err Stray) codes = []
+words_by (Err Full) codes = []
 
 -- with room for so many
 unfoldable pub start_words : (room : ℕ) → Bytes → List ℕ

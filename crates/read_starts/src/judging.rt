@@ -4,20 +4,19 @@ ghost use Rattle.read_predicate.specs.Scratch.{Scratch};
 ghost use Rattle.read_starts.specs.Judged.{sum_up, smaller, one_more, begun, with_start, judged_all};
 
 use crate::parts;
-use model::Model;
-use read_extent::Start;
-use read_nodes::Nodes;
+use model::{Model, Row};
+use read_nodes::NodesError;
 
-// The smallest row that a P breaks, or 0; how many nodes they have, and how many they are, as far as a tree can have so
-// many.
-#[derive(Clone, Copy)]
+// The smallest row that a P breaks; how many nodes they have, and how many they are, as far as a tree can have so many.
+#[derive(Clone, Copy, Debug, PartialEq, Eq)]
 pub struct Judged {
-    pub row: u32,
+    pub row: Option<Row>,
     pub nodes: usize,
     pub count: usize,
 }
 
 // As far as a sheet can have nodes; one more stands for any number above.
+#[tactic(auto, using(crate::proofs::JudgingLaws::sum_laws))]
 fn sum(a: usize, b: usize) -> usize
     ensures { result ≡ sum_up a b }
 {
@@ -28,16 +27,18 @@ fn sum(a: usize, b: usize) -> usize
     }
 }
 
-// Of a row and the smallest so far, where 0 is none, the smaller.
-fn smaller(row: u32, sofar: u32) -> u32
+// Of a row and the smallest so far, if there is one, the smaller.
+#[tactic(auto, using(crate::proofs::JudgingLaws::smaller_laws))]
+fn smaller(row: Row, sofar: Option<Row>) -> Row
     ensures { result ≡ smaller row sofar }
 {
-    if sofar == 0 {
-        return row;
+    match sofar {
+        Some(least) if least.0 < row.0 => least,
+        _ => row,
     }
-    if row <= sofar { row } else { sofar }
 }
 
+#[tactic(auto, using(crate::proofs::JudgingLaws::more_laws))]
 fn one_more(count: usize) -> usize
     ensures { result ≡ one_more count }
 {
@@ -49,36 +50,38 @@ fn one_more(count: usize) -> usize
 }
 
 // Before the first P. The nodes before this line count to row 11 even if none are added.
+#[tactic(auto, using(crate::proofs::JudgingLaws::begun_laws))]
 fn begun(before: usize) -> Judged
     ensures { result ≡ begun before }
 {
-    let row = if Model::NODES < before { 11 } else { 0 };
     Judged {
-        row,
+        row: (Model::NODES < before).then_some(Row(11)),
         nodes: 0,
         count: 0,
     }
 }
 
 // With what was read of one P more.
-fn with_start(j: Judged, read: Nodes) -> Judged
+#[tactic(auto, using(crate::proofs::JudgingLaws::with_laws))]
+fn with_start(j: Judged, read: Result<usize, NodesError>) -> Judged
     ensures { result ≡ with_start j read }
 {
+    let j = Judged {
+        count: one_more(j.count),
+        ..j
+    };
     match read {
-        Nodes::Are(n) => Judged {
-            row: j.row,
+        Ok(n) => Judged {
             nodes: sum(j.nodes, n),
-            count: one_more(j.count),
+            ..j
         },
-        Nodes::Unsound(row) => Judged {
-            row: smaller(row, j.row),
-            nodes: j.nodes,
-            count: one_more(j.count),
+        Err(NodesError::Row(row)) => Judged {
+            row: Some(smaller(row, j.row)),
+            ..j
         },
-        Nodes::Full => Judged {
-            row: smaller(6, j.row),
-            nodes: j.nodes,
-            count: one_more(j.count),
+        Err(NodesError::Full) => Judged {
+            row: Some(smaller(Row(6), j.row)),
+            ..j
         },
     }
 }
@@ -100,10 +103,7 @@ pub fn judge(
 {
     let mut j = begun(before);
     let mut from = 0;
-    while from <= part.len() {
-        let Start::At(at) = read_extent::next(part, from) else {
-            return j;
-        };
+    while let Some(at) = read_extent::next(part, from) {
         let next = read_extent::after(part, at);
         let p = parts::between(part, at, next);
         let sofar = sum(before, j.nodes);

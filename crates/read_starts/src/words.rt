@@ -6,14 +6,12 @@ ghost use Rattle.read_starts.specs.Words.{counted_words, start_words, starts_wor
 
 use crate::parts;
 use model::Model;
-use read_extent::Start;
-use read_words::Words;
 
 // The place itself, or the table's end.
 fn place(at: usize) -> usize
     ensures { result ≡ next_place at 0 }
 {
-    if Model::WORDS < at { Model::WORDS } else { at }
+    at.min(Model::WORDS)
 }
 
 // So many nodes, with their number; more than a sheet can have are left out.
@@ -35,11 +33,9 @@ fn append_one(p: &[u8], words: &mut [u32; Model::WORDS], at: usize, nodes: &mut 
         words.old) }
     ensures scratch { Scratch nodes.old nodes.new }
 {
-    let read = read_words::read(p, nodes);
-    match read {
-        Words::Read(n) => append_counted(words, at, nodes, n),
-        Words::Stray => place(at),
-        Words::Full => place(at),
+    match read_words::read(p, nodes) {
+        Ok(n) => append_counted(words, at, nodes, n),
+        Err(_) => place(at),
     }
 }
 
@@ -51,10 +47,7 @@ pub fn append(part: &[u8], words: &mut [u32; Model::WORDS], at: usize, nodes: &m
 {
     let mut end = place(at);
     let mut from = 0;
-    while from <= part.len() {
-        let Start::At(start) = read_extent::next(part, from) else {
-            return end;
-        };
+    while let Some(start) = read_extent::next(part, from) {
         let next = read_extent::after(part, start);
         let p = parts::between(part, start, next);
         end = append_one(p, words, end, nodes);

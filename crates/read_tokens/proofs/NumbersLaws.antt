@@ -1,7 +1,7 @@
 -- Row 3 over tokens: each way out of the code of src/numbers.rt, and that the kind of the token before is all that counts.
-use Prim.Native.Nat.{ℕ, ◌+◌, ◌-◌, ◌≤◌, ◌<◌}
-use mathlib.Core.Path.{◌≡◌, refl, sym, ◌∙◌, ap}
-use mathlib.Core.Bool.{Bool, true, false, ◌||◌}
+use Prim.Native.Nat.{ℕ, ◌+◌, ◌-◌}
+use mathlib.Core.Path.{◌≡◌, refl, sym, ◌∙◌, ap, ap₂}
+use mathlib.Core.Bool.{Bool, true, false, ◌||◌, ◌&&◌}
 use mathlib.Core.List.{List, [], ◌∷◌}
 use borrow.Author.Tests.{eq-eqb, ne_eqb, not-true, not-false}
 use lib.ListN.{length, take, drop}
@@ -11,7 +11,6 @@ use Rattle.model.specs.Bounds.{max_actions, max_operands, least_number, greatest
 use Rattle.format.specs.Bytes.{Bytes, bytes, parts, comma, space, 'a}
 use Rattle.format.specs.Number.{within}
 use Rattle.format.specs.Tokens.{Numeral, unjudged, bare, lettered, numeral, tokens, number_sound, last_after, sound, sounds}
-use Rattle.text_bytes.specs.Find.{first_from}
 use Rattle.text_bytes.proofs.Places.{take_rest}
 use Rattle.read_tokens.specs.Shape.{shape_of}
 use Rattle.read_tokens.specs.Numbers.{before_of, judged, sound_as, sound_after, sounds_after}
@@ -19,8 +18,9 @@ use Rattle.read_tokens.specs.declared.tokens.Shape.{Shape}
 use Rattle.read_tokens.specs.declared.tokens.Shape.TheVariants.{Bare, Lettered, Plain}
 use Rattle.read_tokens.specs.declared.numbers.Before.{Before}
 use Rattle.read_tokens.specs.declared.numbers.Before.TheVariants.{Count, Items, Other}
-use Rattle.text_bytes.proofs.Parting.{parts_from, from_start, from_past, from_step}
-use Rattle.read_tokens.proofs.ShapeLaws.{from_shape, numeral_is}
+use Rattle.std.specs.List.{list_all}
+use Rattle.text_bytes.proofs.Splits.{split_at, parts_split}
+use Rattle.read_tokens.proofs.ShapeLaws.{from_shape, numeral_is, lettered_long}
 
 -- `kind_of`
 module _ (t : Bytes) (p : Bool) (e : p ≡ same t (bytes "all")) where
@@ -45,27 +45,15 @@ module _ (t : Bytes) (p : Bool) (e : p ≡ same t (bytes "all")) where
 pub ruleset kind_laws = (kind_all, kind_any, kind_syn, kind_other)
 
 -- `list_sound`
-module _ (f : Bytes → Bool) (c : ℕ) (s : Bytes) where
-  pub every_start : every f (parts c s) ≡ every f (parts_from c s 0)
-  every_start = ap (every f) (sym (from_start c s))
+every_list : (f : Bytes → Bool) (l : List Bytes) → list_all f l ≡ every f l
+unfolding every
+every_list f [] = refl
+every_list f (s ∷ l) = ap (λ (v : Bool). f s && v) (every_list f l)
 
-  module _ (at : ℕ) (inv : every f (parts c s) ≡ every f (parts_from c s at)) where
-    pub every_end : length s < at → true ≡ every f (parts c s)
-    unfolding every
-    every_end h = sym (inv ∙ rw (from_past c s at h))
+pub every_part : (f : Bytes → Bool) (c : ℕ) (s : Bytes) → list_all f (split_at c s) ≡ every f (parts c s)
+every_part f c s = every_list f (split_at c s) ∙ ap (every f) (sym (parts_split c s))
 
-    module _ (h : at ≤ length s) (r : ℕ) (e : r ≡ first_from s at c) (p : Bool) (g : p ≡ f (take (r - at) (drop at s))) where
-      pub every_no : p ≡ false → false ≡ every f (parts c s)
-      unfolding every
-      every_no n = sym (inv ∙ rw (from_step c s at r h e, ← g, n))
-
-      pub every_go : p ≡ true → every f (parts c s) ≡ every f (parts_from c s (r + 1))
-      unfolding every
-      every_go y = inv ∙ rw (from_step c s at r h e, ← g, y)
-
-pub ruleset list_laws = (every_start, every_end, every_no, every_go, not-true, not-false)
-
--- `last_after`, `bare_sound`, `lettered_sound`
+-- `last_after`
 pub last_automaton : (b : ℕ) → b ≡ 97 → pos 15 ≡ last_after b
 unfolding last_after
 last_automaton b h = rw (eq-eqb b 'a h, last_after)
@@ -74,35 +62,23 @@ pub last_variable : (b : ℕ) → (b ≡ 97 → ⊥) → pos 47 ≡ last_after b
 unfolding last_after
 last_variable b h = rw (ne_eqb b 'a h, last_after)
 
-module _ (k : Before) (s : Bytes) (r : Bool) where
-  pub bare_count : k ≡ Count → r ≡ within (pos 0) (pos 512) s → r ≡ sound_as k (bare s)
-  unfolding sound_as judged
-  bare_count h e = rw h e
+pub ruleset last_laws = (last_automaton, last_variable)
 
-  pub bare_items : k ≡ Items → r ≡ every (within (pos 0) (pos max_actions)) (parts comma s) → r ≡ sound_as k (bare s)
-  unfolding sound_as judged
-  bare_items h e = rw h e
+-- `judged`
+module _ (k : Before) (s : Bytes) (low high : ℤ) (r : Bool) where
+  pub judged_count : k ≡ Count → r ≡ within (pos 0) (pos 512) s → r ≡ judged k s low high
+  unfolding judged
+  judged_count h e = rw h e
 
-  pub bare_other : k ≡ Other → r ≡ within least_number greatest_number s → r ≡ sound_as k (bare s)
-  unfolding sound_as judged
-  bare_other h e = rw h e
+  pub judged_items : k ≡ Items → r ≡ every (within (pos 0) (pos max_actions)) (parts comma s) → r ≡ judged k s low high
+  unfolding judged
+  judged_items h e = rw h e
 
-  module _ (b : ℕ) where
-    pub lettered_count : k ≡ Count → r ≡ within (pos 0) (pos 512) s → r ≡ sound_as k (lettered b s)
-    unfolding sound_as judged
-    lettered_count h e = rw h e
+  pub judged_other : k ≡ Other → r ≡ within low high s → r ≡ judged k s low high
+  unfolding judged
+  judged_other h e = rw h e
 
-    pub lettered_items : k ≡ Items → r ≡ every (within (pos 0) (pos max_actions)) (parts comma s) → r ≡ sound_as k (lettered b s)
-    unfolding sound_as judged
-    lettered_items h e = rw h e
-
-    pub lettered_other : (high : ℕ) → k ≡ Other → pos high ≡ last_after b → r ≡ within (pos 0) (pos high) s → r ≡ sound_as k (lettered b s)
-    unfolding sound_as judged
-    lettered_other high h l e = rw (h, ← l) e
-
-pub ruleset bare_laws = (bare_count, bare_items, bare_other)
-
-pub ruleset lettered_laws = (lettered_count, lettered_items, lettered_other)
+pub ruleset judged_laws = (judged_count, judged_items, judged_other)
 
 -- `sound`
 module _ (k : Before) (t : Bytes) (x : Shape) (e : x ≡ shape_of t) where
@@ -110,19 +86,19 @@ module _ (k : Before) (t : Bytes) (x : Shape) (e : x ≡ shape_of t) where
   unfolding sound_after
   by_shape y h = ap (sound_as k) (numeral_is t ∙ ap (λ (z : Shape). from_shape z t) (sym e ∙ h))
 
-  pub sound_bare : (r : Bool) → x ≡ Bare → r ≡ sound_as k (bare t) → r ≡ sound_after k t
-  unfolding from_shape
+  pub sound_bare : (r : Bool) → x ≡ Bare → r ≡ judged k t least_number greatest_number → r ≡ sound_after k t
+  unfolding from_shape sound_as
   sound_bare r h g = g ∙ sym (by_shape Bare h)
 
-  pub sound_lettered : (b : ℕ) (r : Bool) → x ≡ Lettered b → r ≡ sound_as k (lettered b (take (length t - 1) (drop 1 t))) → r ≡ sound_after k t
-  unfolding from_shape
-  sound_lettered b r h g = g ∙ ap (λ (s : Bytes). sound_as k (lettered b s)) (take_rest t 1) ∙ sym (by_shape (Lettered b) h)
+  pub sound_lettered : (b : ℕ) (r : Bool) (high : ℤ) → x ≡ Lettered b → high ≡ last_after b → r ≡ judged k (take (length t - 1) (drop 1 t)) (pos 0) high → r ≡ sound_after k t
+  unfolding from_shape sound_as
+  sound_lettered b r high h l g = g ∙ ap₂ (λ (s : Bytes) (z : ℤ). judged k s (pos 0) z) (take_rest t 1) l ∙ sym (by_shape (Lettered b) h)
 
   pub sound_plain : x ≡ Plain → true ≡ sound_after k t
   unfolding from_shape sound_as
   sound_plain h = sym (by_shape Plain h)
 
-pub ruleset sound_laws = (sound_bare, sound_lettered, sound_plain)
+pub ruleset sound_laws = (sound_bare, sound_lettered, sound_plain, lettered_long)
 
 -- the kind of the token before is all that counts
 judged_before : (b s : Bytes) (low high : ℤ) → judged (before_of b) s low high ≡ number_sound b s low high
@@ -165,24 +141,27 @@ sounds_after_lem b (t ∷ ts) = rw (sounds_after, sound_before b t) (go (sound b
     go true ih = ih
     go false ih = refl
 
--- `numbers_sound`
+-- `numbers_sound`: after k tokens, of which the last was of this kind
+abbrev pub Goes : Bytes → Before → (k : ℕ) → Type 0
+Goes s kind k = sounds [] (tokens s) ≡ sounds_after kind (drop k (parts space s))
+
 module _ (s : Bytes) where
-  pub sounds_start : sounds [] (tokens s) ≡ sounds_after Other (parts_from space s 0)
+  pub sounds_start : Goes s Other 0
   unfolding tokens before_of same
-  sounds_start = sym (rw (from_start space s) (sounds_after_lem [] (parts space s)))
+  sounds_start = sym (sounds_after_lem [] (parts space s))
 
-  module _ (k : Before) (at : ℕ) (inv : sounds [] (tokens s) ≡ sounds_after k (parts_from space s at)) where
-    pub sounds_end : length s < at → true ≡ sounds [] (tokens s)
+  module _ (kind : Before) (k : ℕ) (inv : Goes s kind k) where
+    pub sounds_end : drop k (parts space s) ≡ [] → true ≡ sounds [] (tokens s)
     unfolding sounds_after
-    sounds_end h = sym (inv ∙ rw (from_past space s at h))
+    sounds_end h = sym (inv ∙ rw h)
 
-    module _ (h : at ≤ length s) (r : ℕ) (e : r ≡ first_from s at 32) (p : Bool) (g : p ≡ sound_after k (take (r - at) (drop at s))) where
+    module _ (t : Bytes) (h : drop k (parts space s) ≡ t ∷ drop (k + 1) (parts space s)) (p : Bool) (g : p ≡ sound_after kind t) where
       pub sounds_no : p ≡ false → false ≡ sounds [] (tokens s)
       unfolding sounds_after
-      sounds_no n = sym (inv ∙ rw (from_step space s at r h e, ← g, n, sounds_after))
+      sounds_no n = sym (inv ∙ rw (h, ← g, n, sounds_after))
 
-      pub sounds_go : p ≡ true → (j : Before) → j ≡ before_of (take (r - at) (drop at s)) → sounds [] (tokens s) ≡ sounds_after j (parts_from space s (r + 1))
+      pub sounds_go : p ≡ true → (j : Before) → j ≡ before_of t → (l : ℕ) → l ≡ k + 1 → Goes s j l
       unfolding sounds_after
-      sounds_go y j i = inv ∙ rw (from_step space s at r h e, ← g, y, sounds_after, i)
+      sounds_go y j i l e = inv ∙ rw (h, ← g, y, sounds_after, i, e)
 
 pub ruleset numbers_laws = (sounds_start, sounds_end, sounds_no, sounds_go, not-true, not-false)

@@ -5,20 +5,21 @@ ghost use Rattle.model.specs.Bounds.{max_actions};
 ghost use Rattle.format.specs.Bytes.{parts, comma};
 ghost use Rattle.format.specs.Number.{within};
 ghost use Rattle.format.specs.Tokens as T;
-ghost use Rattle.read_tokens.specs.Numbers.{before_of, sound_as, sound_after};
+ghost use Rattle.read_tokens.specs.Numbers.{before_of, judged, sound_after};
 
 use crate::tokens::{self, Shape};
 use model::Model;
 
 // How the token before makes a number be judged: as an operand count, as a list of actions, or by the number's own
 // letter.
-#[derive(Clone, Copy)]
+#[derive(Clone, Copy, Debug, PartialEq, Eq)]
 pub enum Before {
     Count,
     Items,
     Other,
 }
 
+#[tactic(auto, using(crate::proofs::NumbersLaws::kind_laws))]
 fn kind_of(token: &[u8]) -> Before
     ensures { result ≡ before_of token.now }
 {
@@ -38,56 +39,41 @@ fn kind_of(token: &[u8]) -> Before
 pub fn list_sound(part: &[u8]) -> bool
     ensures { result ≡ every (within (pos 0) (pos max_actions)) (parts comma part.now) }
 {
-    let mut at = 0;
-    while at <= part.len() {
-        let end = text_bytes::find(part, at, b',');
-        if !tokens::natural_fits(&part[at..end], Model::ACTIONS) {
-            return false;
-        }
-        at = end + 1;
-    }
-    true
+    part.split(|b| *b == b',')
+        .all(|item| tokens::number_fits(item, 0, Model::ACTIONS as i32))
 }
 
-// A number that is the whole token.
-fn bare_sound(before: Before, s: &[u8]) -> bool
-    ensures { result ≡ sound_as before (T.bare s.now) }
-{
-    match before {
-        Before::Count => tokens::natural_fits(s, Model::OPERANDS),
-        Before::Items => list_sound(s),
-        Before::Other => tokens::number_fits(s),
-    }
-}
-
-fn last_after(letter: u8) -> u32
-    ensures { pos result ≡ T.last_after letter }
+#[tactic(auto, using(crate::proofs::NumbersLaws::last_laws))]
+fn last_after(letter: u8) -> i32
+    ensures { result ≡ T.last_after letter }
 {
     if letter == b'a' {
         15
     } else {
-        Model::LAST_VARIABLE
+        Model::LAST_VARIABLE as i32
     }
 }
 
-// A number that follows a letter.
-fn lettered_sound(before: Before, letter: u8, s: &[u8]) -> bool
-    ensures { result ≡ sound_as before (T.lettered letter s.now) }
+// A number as its kind asks: an operand count, a list of actions, or from `low` to `high`.
+#[tactic(auto, using(crate::proofs::NumbersLaws::judged_laws))]
+fn judged(before: Before, s: &[u8], low: i32, high: i32) -> bool
+    ensures { result ≡ judged before s.now low high }
 {
     match before {
-        Before::Count => tokens::natural_fits(s, Model::OPERANDS),
+        Before::Count => tokens::number_fits(s, 0, Model::OPERANDS as i32),
         Before::Items => list_sound(s),
-        Before::Other => tokens::natural_fits(s, last_after(letter)),
+        Before::Other => tokens::number_fits(s, low, high),
     }
 }
 
+// The number is the whole token, or follows a letter.
+#[tactic(auto, using(crate::proofs::NumbersLaws::sound_laws))]
 fn sound(before: Before, token: &[u8]) -> bool
     ensures { result ≡ sound_after before token.now }
 {
-    let shape = tokens::numeral(token);
-    match shape {
-        Shape::Bare => bare_sound(before, token),
-        Shape::Lettered(b) => lettered_sound(before, b, &token[1..]),
+    match tokens::numeral(token) {
+        Shape::Bare => judged(before, token, Model::LEAST_NUMBER, Model::GREATEST_NUMBER),
+        Shape::Lettered(b) => judged(before, &token[1..], 0, last_after(b)),
         Shape::Plain => true,
     }
 }
@@ -97,15 +83,11 @@ pub fn numbers_sound(part: &[u8]) -> bool
     ensures { result ≡ T.sounds [] (T.tokens part.now) }
 {
     let mut kind = Before::Other;
-    let mut at = 0;
-    while at <= part.len() {
-        let end = text_bytes::find(part, at, b' ');
-        let token = &part[at..end];
+    for token in part.split(|b| *b == b' ') {
         if !sound(kind, token) {
             return false;
         }
         kind = kind_of(token);
-        at = end + 1;
     }
     true
 }

@@ -24,8 +24,9 @@ use Rattle.text_bytes.proofs.FindLaws.{gap_free, gap_within}
 use Rattle.read_words.specs.Codes.{stray_code, word_code, count_code}
 use Rattle.read_words.specs.Read.{is_word, due_after, code_as, codes, count, answer, written, Reads}
 use Rattle.read_words.specs.declared.reading.Due.{Due}
-use Rattle.read_words.specs.declared.reading.Words.{Words}
-use Rattle.read_words.specs.declared.reading.Words.TheVariants.{Read, Stray, Full}
+use Rattle.read_words.specs.declared.reading.WordsError.{WordsError}
+use Rattle.read_words.specs.declared.reading.WordsError.TheVariants.{Stray, Full}
+use Rattle.std.specs.Prelude.{Result, Ok, Err}
 use Rattle.read_words.proofs.Agree.{Agree, done, halt, next, agree}
 use Rattle.text_bytes.proofs.FindLaws.{gap_on}
 use Rattle.read_words.proofs.ReadLaws.{gap_stop, gap_nil}
@@ -58,12 +59,12 @@ agree_stray cs ws (next c w ds vs e n a) l = stack_none w vs (agree_stray ds vs 
 
 -- what an answer says of the codes
 module _ (cs : List ℕ) (room : ℕ) where
-  pub said_read : (n : ℕ) → Read n ≡ answer cs room → (n ≡ gap stray_code cs) × (n ≤ room) × (length cs ≤ n)
+  pub said_read : (n : ℕ) → Ok n ≡ answer cs room → (n ≡ gap stray_code cs) × (n ≤ room) × (length cs ≤ n)
   unfolding answer count
   said_read n e = go (leb (gap stray_code cs) room) refl (ltb (gap stray_code cs) (length cs)) refl e
     where
       go : (u : Bool) → leb (gap stray_code cs) room ≡ u → (v : Bool) → ltb (gap stray_code cs) (length cs) ≡ v
-          → Read n ≡ elim u as (λ x. Words) [ true ↦ elim v as (λ x. Words) [ true ↦ Stray | false ↦ Read (gap stray_code cs) ] | false ↦ Full ]
+          → Ok n ≡ elim u as (λ x. Result ℕ WordsError) [ true ↦ elim v as (λ x. Result ℕ WordsError) [ true ↦ Err Stray | false ↦ Ok (gap stray_code cs) ] | false ↦ Err Full ]
           → (n ≡ gap stray_code cs) × (n ≤ room) × (length cs ≤ n)
       go true h false k z =
           let i : n ≡ gap stray_code cs = cc in
@@ -71,29 +72,29 @@ module _ (cs : List ℕ) (room : ℕ) where
       go true h true k z = absurd (let q : ◌≡◌ {A = ℕ} 0 1 = cc in omega arith)
       go false h v k z = absurd (let q : ◌≡◌ {A = ℕ} 0 1 = cc in omega arith)
 
-  said_stray : Stray ≡ answer cs room → gap stray_code cs < length cs
+  said_stray : Err Stray ≡ answer cs room → gap stray_code cs < length cs
   unfolding answer count
   said_stray e = go (leb (gap stray_code cs) room) (ltb (gap stray_code cs) (length cs)) refl e
     where
       go : (u v : Bool) → ltb (gap stray_code cs) (length cs) ≡ v
-          → Stray ≡ elim u as (λ x. Words) [ true ↦ elim v as (λ x. Words) [ true ↦ Stray | false ↦ Read (gap stray_code cs) ] | false ↦ Full ]
+          → Err Stray ≡ elim u as (λ x. Result ℕ WordsError) [ true ↦ elim v as (λ x. Result ℕ WordsError) [ true ↦ Err Stray | false ↦ Ok (gap stray_code cs) ] | false ↦ Err Full ]
           → gap stray_code cs < length cs
       go true true k z = ltb-true (gap stray_code cs) (length cs) k
       go true false k z = absurd (let q : ◌≡◌ {A = ℕ} 0 1 = cc in omega arith)
       go false v k z = absurd (let q : ◌≡◌ {A = ℕ} 0 1 = cc in omega arith)
 
-  said_full : Full ≡ answer cs room → room < gap stray_code cs
+  said_full : Err Full ≡ answer cs room → room < gap stray_code cs
   unfolding answer count
   said_full e = go (leb (gap stray_code cs) room) refl (ltb (gap stray_code cs) (length cs)) e
     where
       go : (u : Bool) → leb (gap stray_code cs) room ≡ u → (v : Bool)
-          → Full ≡ elim u as (λ x. Words) [ true ↦ elim v as (λ x. Words) [ true ↦ Stray | false ↦ Read (gap stray_code cs) ] | false ↦ Full ]
+          → Err Full ≡ elim u as (λ x. Result ℕ WordsError) [ true ↦ elim v as (λ x. Result ℕ WordsError) [ true ↦ Err Stray | false ↦ Ok (gap stray_code cs) ] | false ↦ Err Full ]
           → room < gap stray_code cs
       go true h true z = absurd (let q : ◌≡◌ {A = ℕ} 0 1 = cc in omega arith)
       go true h false z = absurd (let q : ◌≡◌ {A = ℕ} 0 1 = cc in omega arith)
       go false h v z = leb-false (gap stray_code cs) room h
 
--- Read: no word is stray, and the codes of all stand in front of what was there
+-- Ok: no word is stray, and the codes of all stand in front of what was there
 pub record AllRead (part old new : List ℕ) (n : ℕ) : Type 0 where
   pub free : Free stray (read_words (tokens part))
   pub counts : n ≡ length (read_words (tokens part))
@@ -101,7 +102,7 @@ pub record AllRead (part old new : List ℕ) (n : ℕ) : Type 0 where
   pub whole : new ≡ map code (read_words (tokens part)) ++ drop n old
   pub fits : n ≤ length old
 
-pub read_all_words : (part old new : List ℕ) (n : ℕ) → sounds [] (tokens part) ≡ true → Reads part old new (Read n) → AllRead part old new n
+pub read_all_words : (part old new : List ℕ) (n : ℕ) → sounds [] (tokens part) ≡ true → Reads part old new (Ok n) → AllRead part old new n
 unfolding written count
 read_all_words part old new n h r =
     let cs = codes Due.Word (tokens part) in
@@ -122,7 +123,7 @@ read_all_words part old new n h r =
     }
 
 -- Stray: the words are ill-formed
-pub read_stray_word : (part old new : List ℕ) → sounds [] (tokens part) ≡ true → Reads part old new Stray → read_pred (read_words (tokens part)) ≡ none
+pub read_stray_word : (part old new : List ℕ) → sounds [] (tokens part) ≡ true → Reads part old new (Err Stray) → read_pred (read_words (tokens part)) ≡ none
 unfolding read_pred on_some
 read_stray_word part old new h r =
     rw (agree_stray (codes Due.Word (tokens part)) (read_words (tokens part)) (agree part h) (said_stray (codes Due.Word (tokens part)) (length old) r.answered))
@@ -183,13 +184,13 @@ pub half_as_many : (part : List ℕ) → 2 * gap stray_code (codes Due.Word (tok
 unfolding tokens
 half_as_many part = omega (arith, two_bytes Due.Word (parts space part), spread_parts space part)
 
-pub never_full : (part old new : List ℕ) → length part ≤ 2 * length old → Reads part old new Full → ⊥
+pub never_full : (part old new : List ℕ) → length part ≤ 2 * length old → Reads part old new (Err Full) → ⊥
 never_full part old new l r =
     let i = said_full (codes Due.Word (tokens part)) (length old) r.answered in
     omega (arith, i, half_as_many part)
 
 -- the words that were read, read back from their codes: `well_formed` of them is row 6
-pub words_read : (part old new : List ℕ) (n : ℕ) → sounds [] (tokens part) ≡ true → Reads part old new (Read n) → map word_of (take n new) ≡ read_words (tokens part)
+pub words_read : (part old new : List ℕ) (n : ℕ) → sounds [] (tokens part) ≡ true → Reads part old new (Ok n) → map word_of (take n new) ≡ read_words (tokens part)
 unfolding same
 words_read part old new n h r =
     let i = read_all_words part old new n h r in

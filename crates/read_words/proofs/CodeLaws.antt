@@ -1,17 +1,16 @@
 -- Codes: each way out of the code of src/codes.rt.
-use Prim.Native.Nat.{ℕ, suc, ◌-◌, ◌^◌, ◌≤◌, ◌<◌}
+use Prim.Native.Nat.{ℕ, suc, ◌+◌, ◌-◌, ◌^◌, ◌≤◌, ◌<◌}
 use mathlib.Core.Path.{◌≡◌, refl, sym, ◌∙◌, ap}
-use mathlib.Core.Bool.{Bool, true, false}
+use mathlib.Core.Bool.{Bool, true, false, cond}
 use mathlib.Core.List.{List, [], ◌∷◌}
 use mathlib.Core.Option.{Option, none, some}
 use native.Mathlib.Omega.{arith}
-use borrow.Author.Tests.{eq-eqb, ne_eqb, ltb-true, ltb-false, leb-true, le-ltb}
+use borrow.Author.Tests.{eq-eqb, ne_eqb, ltb-true, leb-true}
 use lib.ListN.{length, take, drop}
 use lib.IntN.{ℤ, pos, negsuc, nat_abs, ◌+ℤ◌}
-use lib.Signed.{lt_z, non_neg}
-use lib.Dec.{T, eqb, leb}
+use lib.Dec.{eqb, leb, ltb}
 use mir.Syntax.{w32, w64}
-use mir.Val.{SFits, Fits, to_z, of_z}
+use mir.Val.{SFits, to_z, of_z}
 use mir.ValLaws.{to_z-of_z}
 use Rattle.model.specs.Basic.{between, same}
 use Rattle.model.specs.Bounds.{least_number, greatest_number, bias}
@@ -21,13 +20,12 @@ use Rattle.model.specs.Table.{code, biased}
 use Rattle.format.specs.Bytes.{Bytes, 'n, 'v}
 use Rattle.format.specs.Number.{within, is_between, natural}
 use Rattle.format.specs.Tokens.{numeral, find, spellings}
-use Rattle.format.proofs.NumberLaws.{false_true}
 use Rattle.arithmetic.proofs.Signed.{widened}
 use Rattle.text_numbers.specs.Number.{integer_in, natural_in, up_to}
-use Rattle.text_numbers.specs.declared.answer.Integer.{Integer}
-use Rattle.text_numbers.specs.declared.answer.Integer.TheVariants as I
-use Rattle.text_numbers.specs.declared.answer.Natural.{Natural}
-use Rattle.text_numbers.specs.declared.answer.Natural.TheVariants as N
+use Rattle.std.specs.Prelude as Std
+use Rattle.std.specs.Prelude.{Some, None, Result, Ok, Err}
+use Rattle.std.specs.Result.{OkIff, result_unwrap_or}
+use Rattle.std.specs.Int.{FitsUnsignedBits}
 use Rattle.text_numbers.proofs.NumberLaws.{natural_in_lem, integer_said, integer_denied, natural_said, natural_denied}
 use Rattle.text_bytes.proofs.Places.{take_rest}
 use Rattle.node_words.specs.declared.Node.{Node}
@@ -40,7 +38,7 @@ use Rattle.read_tokens.specs.Shape.{shape_of}
 use Rattle.read_words.specs.Codes.{word_with, number_code, argument_code, variable_code, word_code, count_code}
 use Rattle.read_tokens.specs.declared.tokens.Shape.{Shape}
 use Rattle.read_tokens.specs.declared.tokens.Shape.TheVariants.{Bare, Lettered, Plain}
-use Rattle.read_tokens.proofs.ShapeLaws.{from_shape, numeral_is}
+use Rattle.read_tokens.proofs.ShapeLaws.{from_shape, numeral_is, lettered_long}
 
 -- `keyword_code`: the words before are not it, and this one is
 module _ (t : Bytes) (n : ℕ) (k : Bytes) (w : Word) (ws : List (Bytes × Word)) (p : Bool) (e : p ≡ same k t) where
@@ -58,68 +56,61 @@ keyword_none t n e = e
 
 pub ruleset keyword_laws = (keyword_here, keyword_on, keyword_none)
 
--- `biased`
-below_least : (z : ℤ) → lt_z z least_number ≡ true → 0 ≡ biased z
+-- `biased`: the sum is read as a number of 32 bits, or as 0
+by_fit : {E : Type 0} (r : Result ℕ E) (n : ℕ) → n < 2 ^ 32 → OkIff r (n < 2 ^ 32) n → result_unwrap_or r 0 ≡ n
+by_fit (Ok x) n l h = h.1
+by_fit (Err e) n l h = absurd (h l)
+
+by_none : {E : Type 0} (r : Result ℕ E) (v : ℕ) → OkIff r ⊥ v → result_unwrap_or r 0 ≡ 0
+by_none (Ok x) v h = absurd h.0
+by_none (Err e) v h = refl
+
+pub biased_by : {E : Type 0} (z : ℤ) (r : Result ℕ E) → SFits w32 z → OkIff r (FitsUnsignedBits 32 (z +ℤ pos bias)) (nat_abs (z +ℤ pos bias)) → result_unwrap_or r 0 ≡ biased z
 unfolding biased
-below_least (pos n) h = absurd (false_true h)
-below_least (negsuc n) h = omega (arith, ltb-true 999999999 n h)
+biased_by (pos n) r f h = by_fit r (n + bias) (omega (arith, f.sfits)) h ∙ omega arith
+biased_by (negsuc n) r f h = go (ltb bias (suc n)) refl h
+  where
+    moved : Bool → ℤ
+    moved v = cond v (negsuc (suc n - suc bias)) (pos (bias - suc n))
 
-moved_up : (z : ℤ) → lt_z z least_number ≡ false → z +ℤ pos bias ≡ pos (biased z)
-unfolding biased
-moved_up (pos n) h = ap pos (omega arith)
-moved_up (negsuc n) h =
-    let l : n ≤ 999999999 = ltb-false 999999999 n h in
-    rw (le-ltb bias (suc n) (omega arith))
+    go : (v : Bool) → ltb bias (suc n) ≡ v → OkIff r (FitsUnsignedBits 32 (moved v)) (nat_abs (moved v)) → result_unwrap_or r 0 ≡ bias - suc n
+    go true e k = by_none r _ k ∙ omega (arith, ltb-true bias (suc n) e)
+    go false e k = by_fit r (bias - suc n) (omega arith) k
 
-biased_fits : (z : ℤ) → SFits w32 z → biased z < 2 ^ 32
-unfolding biased
-biased_fits (pos n) f = omega (arith, f.sfits)
-biased_fits (negsuc n) f = omega arith
+shifted : (z : ℤ) → SFits w32 z → SFits w64 (z +ℤ pos bias)
+shifted (pos n) f = record { sfits = omega (arith, f.sfits) }
+shifted (negsuc n) f = go (ltb bias (suc n))
+  where
+    go : (v : Bool) → SFits w64 (cond v (negsuc (suc n - suc bias)) (pos (bias - suc n)))
+    go true = record { sfits = omega (arith, f.sfits) }
+    go false = record { sfits = omega arith }
 
-module _ (z : ℤ) (f : SFits w32 z) where
-  pub biased_least : lt_z (to_z w32 (of_z w32 z)) least_number ≡ true → 0 ≡ biased z
-  biased_least h = below_least z (rw (to_z-of_z w32 z f) at h)
-
-  module _ (h : lt_z (to_z w32 (of_z w32 z)) least_number ≡ false) where
-    moved : to_z w64 (of_z w64 (to_z w32 (of_z w32 z))) +ℤ pos bias ≡ pos (biased z)
-    moved = rw (widened z f) (moved_up z (rw (to_z-of_z w32 z f) at h))
-
-    pub moved_fits : SFits w64 (to_z w64 (of_z w64 (to_z w32 (of_z w32 z))) +ℤ pos bias)
-    moved_fits = rw moved (record { sfits = omega (arith, biased_fits z f) })
-
-    moved_read : to_z w64 (of_z w64 (to_z w64 (of_z w64 (to_z w32 (of_z w32 z))) +ℤ pos bias)) ≡ pos (biased z)
-    moved_read = to_z-of_z w64 _ moved_fits ∙ moved
-
-    pub moved_cast :
-        T (non_neg (to_z w64 (of_z w64 (to_z w64 (of_z w64 (to_z w32 (of_z w32 z))) +ℤ pos bias)))) ×
-        Fits w32 (nat_abs (to_z w64 (of_z w64 (to_z w64 (of_z w64 (to_z w32 (of_z w32 z))) +ℤ pos bias))))
-    moved_cast = rw moved_read (tt, record { fits = biased_fits z f })
-
-    pub moved_is : nat_abs (to_z w64 (of_z w64 (to_z w64 (of_z w64 (to_z w32 (of_z w32 z))) +ℤ pos bias))) ≡ biased z
-    moved_is = ap nat_abs moved_read
+pub moved_sum : (z : ℤ) → SFits w32 z → (a b : ℤ) → a ≡ to_z w32 (of_z w32 z) → b ≡ pos 1000000000
+    → to_z w64 (of_z w64 (to_z w64 (of_z w64 a) +ℤ to_z w64 (of_z w64 b))) ≡ z +ℤ pos bias
+moved_sum z f a b e g = rw (e, g, widened z f) (to_z-of_z w64 _ (shifted z f))
 
 -- `number_code`
-module _ (s : Bytes) (m : Integer) (e : m ≡ integer_in s least_number greatest_number) where
-  pub number_in : (z : ℤ) → m ≡ I.In z → (b : ℕ) → b ≡ biased z → (r : ℕ) → r ≡ word_for (Number b) → r ≡ number_code s
+module _ (s : Bytes) (m : Std.Option ℤ) (e : m ≡ integer_in s least_number greatest_number) where
+  pub number_in : (z : ℤ) → m ≡ Some z → (b : ℕ) → b ≡ biased z → (r : ℕ) → r ≡ word_for (Number b) → r ≡ number_code s
   unfolding number_code within is_between node_for in_range
   number_in z h b f r g =
       let i = integer_said s least_number greatest_number z (sym e ∙ h) in
       let j : between least_number greatest_number z ≡ true = rw i.2 at i.0 in
       rw (i.0, number_code, i.1) (g ∙ ap (λ (n : ℕ). word_for (Number n)) f ∙ word_for_lem (num_word z) j)
 
-  pub number_out : m ≡ I.Out → (r : ℕ) → r ≡ code stray → r ≡ number_code s
+  pub number_out : m ≡ None → (r : ℕ) → r ≡ code stray → r ≡ number_code s
   unfolding number_code
   number_out h r g = rw (integer_denied s least_number greatest_number (sym e ∙ h), number_code) g
 
 pub ruleset number_laws = (number_in, number_out)
 
 -- `argument_code`
-up_small : (o : Option ℕ) (high k : ℕ) → up_to high o ≡ N.In k → k ≤ high
+up_small : (o : Option ℕ) (high k : ℕ) → up_to high o ≡ Some k → k ≤ high
 unfolding up_to
 up_small none high k e = absurd (let z : ◌≡◌ {A = ℕ} 0 1 = cc in omega arith)
 up_small (some n) high k e = go (leb n high) refl e
   where
-    go : (v : Bool) → leb n high ≡ v → elim v [ true ↦ N.In n | false ↦ N.Out ] ≡ N.In k → k ≤ high
+    go : (v : Bool) → leb n high ≡ v → elim v [ true ↦ Some n | false ↦ None ] ≡ Some k → k ≤ high
     go true h g = let z : n ≡ k = cc in omega (arith, leb-true n high h)
     go false h g = absurd (let z : ◌≡◌ {A = ℕ} 0 1 = cc in omega arith)
 
@@ -131,15 +122,15 @@ with_code C.Any k h = any_held k (omega arith)
 with_code C.Old k h = old_held k (omega arith)
 with_code C.New k h = new_held k (omega arith)
 
-module _ (which : Numbered) (high : ℕ) (s : Bytes) (m : Natural) (e : m ≡ natural_in s high) where
-  pub argument_in : high ≤ 512 → (k : ℕ) → m ≡ N.In k → (n : Node) → n ≡ node_for (word_with which k) → (r : ℕ) → r ≡ word_for n → r ≡ argument_code which high s
+module _ (which : Numbered) (high : ℕ) (s : Bytes) (m : Std.Option ℕ) (e : m ≡ natural_in s high) where
+  pub argument_in : high ≤ 512 → (k : ℕ) → m ≡ Some k → (n : Node) → n ≡ node_for (word_with which k) → (r : ℕ) → r ≡ word_for n → r ≡ argument_code which high s
   unfolding argument_code
   argument_in l k h n f r g =
       let i = natural_said s high k (sym e ∙ h) in
       let u = up_small (natural s) high k (sym (natural_in_lem s high) ∙ sym e ∙ h) in
       rw (i.0, argument_code, i.1) (g ∙ ap word_for f ∙ with_code which k (omega arith))
 
-  pub argument_out : m ≡ N.Out → (r : ℕ) → r ≡ code stray → r ≡ argument_code which high s
+  pub argument_out : m ≡ None → (r : ℕ) → r ≡ code stray → r ≡ argument_code which high s
   unfolding argument_code
   argument_out h r g = rw (natural_denied s high (sym e ∙ h), argument_code) g
 
@@ -212,14 +203,18 @@ module _ (t : Bytes) (x : Shape) (e : x ≡ shape_of t) where
     unfolding count_code from_shape
     count_bare r h g = rw (by_shape Bare h, count_code) g
 
-    pub count_lettered : (b : ℕ) → x ≡ Lettered b → (r : ℕ) → r ≡ code stray → r ≡ count_code which t
+    pub count_other : (x ≡ Bare → ⊥) → (r : ℕ) → r ≡ code stray → r ≡ count_code which t
     unfolding count_code from_shape
-    count_lettered b h r g = rw (by_shape (Lettered b) h, count_code) g
-
-    pub count_plain : x ≡ Plain → (r : ℕ) → r ≡ code stray → r ≡ count_code which t
-    unfolding count_code from_shape
-    count_plain h r g = rw (by_shape Plain h, count_code) g
+    count_other h r g = go x refl
+      where
+        go : (y : Shape) → x ≡ y → r ≡ count_code which t
+        go Bare e = absurd (h e)
+        go (Lettered b) e = rw (by_shape (Lettered b) e, count_code) g
+        go Plain e = rw (by_shape Plain e, count_code) g
 
 pub ruleset word_laws = (word_bare, word_lettered, word_plain)
 
-pub ruleset count_laws = (count_bare, count_lettered, count_plain)
+pub ruleset count_laws = (count_bare, count_other)
+
+-- what follows a letter
+pub ruleset long_laws = (lettered_long)

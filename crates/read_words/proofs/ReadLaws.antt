@@ -1,5 +1,5 @@
 -- `read`: each way out of the code of src/reading.rt.
-use Prim.Native.Nat.{ℕ, ◌+◌, ◌-◌, ◌≤◌, ◌<◌}
+use Prim.Native.Nat.{ℕ, ◌+◌, ◌≤◌, ◌<◌}
 use mathlib.Core.Path.{◌≡◌, refl, sym, ◌∙◌, ap}
 use mathlib.Core.Bool.{Bool, true, false}
 use mathlib.Core.List.{List, [], ◌∷◌, ◌++◌, append-nil, append_assoc}
@@ -10,19 +10,19 @@ use lib.ListN.{length, take, drop, set, length-set, length-append, drop_of_lengt
 use lib.Seq.{take_all, take_at, take-take, length-take-le, take-suc-set, drop-set-lt, drop-drop}
 use lib.Dec.{eqb, leb, ltb}
 use Rattle.model.specs.Basic.{same}
-use Rattle.format.specs.Bytes.{Bytes, bytes, space}
+use Rattle.format.specs.Bytes.{Bytes, bytes, space, parts}
 use Rattle.format.specs.Tokens.{tokens}
 use Rattle.format.proofs.BytesLaws.{Free, free_append}
-use Rattle.text_bytes.specs.Find.{gap, first_from}
+use Rattle.text_bytes.specs.Find.{gap}
 use Rattle.text_bytes.proofs.FindLaws.{gap_on}
 use Rattle.read_words.specs.declared.codes.Numbered.TheVariants as N
 use Rattle.read_words.specs.Codes.{stray_code, word_code, count_code}
 use Rattle.read_words.specs.Read.{is_word, due_after, code_as, codes, count, answer, written, Reads}
 use Rattle.read_words.specs.declared.reading.Due.{Due}
 use Rattle.read_words.specs.declared.reading.Due.TheVariants.{Word, AllCount, AnyCount}
-use Rattle.read_words.specs.declared.reading.Words.{Words}
-use Rattle.read_words.specs.declared.reading.Words.TheVariants.{Read, Stray, Full}
-use Rattle.text_bytes.proofs.Parting.{parts_from, from_start, from_past, from_step}
+use Rattle.read_words.specs.declared.reading.WordsError.{WordsError}
+use Rattle.read_words.specs.declared.reading.WordsError.TheVariants.{Stray, Full}
+use Rattle.std.specs.Prelude.{Result, Ok, Err}
 
 -- the small functions
 module _ (d : Due) where
@@ -30,25 +30,27 @@ module _ (d : Due) where
   unfolding is_word
   is_word_lem h = rw h
 
-  pub is_all : d ≡ AllCount → false ≡ is_word d
+  pub is_count : (d ≡ Word → ⊥) → false ≡ is_word d
   unfolding is_word
-  is_all h = rw h
-
-  pub is_any : d ≡ AnyCount → false ≡ is_word d
-  unfolding is_word
-  is_any h = rw h
+  is_count h = go d h
+    where
+      go : (e : Due) → (e ≡ Word → ⊥) → false ≡ is_word e
+      go Word n = absurd (n refl)
+      go AllCount n = refl
+      go AnyCount n = refl
 
   module _ (t : Bytes) where
     pub after_word : (r : Due) → d ≡ Word → r ≡ due_after Word t → r ≡ due_after d t
     after_word r h e = rw h e
 
-    pub after_all : d ≡ AllCount → Word ≡ due_after d t
+    pub after_count : (d ≡ Word → ⊥) → Word ≡ due_after d t
     unfolding due_after
-    after_all h = rw h
-
-    pub after_any : d ≡ AnyCount → Word ≡ due_after d t
-    unfolding due_after
-    after_any h = rw h
+    after_count h = go d h
+      where
+        go : (e : Due) → (e ≡ Word → ⊥) → Word ≡ due_after e t
+        go Word n = absurd (n refl)
+        go AllCount n = refl
+        go AnyCount n = refl
 
     module _ (r : ℕ) where
       pub as_word : d ≡ Word → r ≡ word_code t → r ≡ code_as d t
@@ -77,11 +79,11 @@ module _ (t : Bytes) (p : Bool) (e : p ≡ same t (bytes "all")) where
     unfolding due_after
     first_word k = rw (← e, h, due_after, ← f, k, due_after)
 
-pub ruleset is_laws = (is_word_lem, is_all, is_any)
+pub ruleset is_laws = (is_word_lem, is_count)
 
 pub ruleset first_laws = (first_all, first_any, first_word)
 
-pub ruleset after_laws = (after_word, after_all, after_any)
+pub ruleset after_laws = (after_word, after_count)
 
 pub ruleset as_laws = (as_word, as_all, as_any)
 
@@ -146,19 +148,19 @@ module _ (old cs more out : List ℕ) (n : ℕ) (k : Front old cs more n out) wh
       let a : length (take n out) ≤ length old = omega (arith, length-take-le n out k.inside, k.long, k.inside) in
       rw (g, front, take_all (length old) (take n out) a, ← k.rest, take-append-drop)
 
-  answered : gap stray_code more ≡ 0 → (v : Bool) → ltb n (length cs) ≡ v → answer cs (length old) ≡ elim v as (λ x. Words) [ true ↦ Stray | false ↦ Read n ]
+  answered : gap stray_code more ≡ 0 → (v : Bool) → ltb n (length cs) ≡ v → answer cs (length old) ≡ elim v as (λ x. Result ℕ WordsError) [ true ↦ Err Stray | false ↦ Ok n ]
   unfolding answer count
   answered z v h =
       let g : gap stray_code cs ≡ n = omega (arith, counted) in
       let l : leb n (length old) ≡ true = le-leb n (length old) (omega (arith, k.long, k.inside)) in
-      ap (λ (x : ℕ). elim (leb x (length old)) as (λ y. Words) [ true ↦ elim (ltb x (length cs)) as (λ y. Words) [ true ↦ Stray | false ↦ Read x ] | false ↦ Full ]) g ∙
-      ap (λ (u : Bool). elim u as (λ y. Words) [ true ↦ elim (ltb n (length cs)) as (λ y. Words) [ true ↦ Stray | false ↦ Read n ] | false ↦ Full ]) l ∙
-      ap (λ (u : Bool). elim u as (λ y. Words) [ true ↦ Stray | false ↦ Read n ]) h
+      ap (λ (x : ℕ). elim (leb x (length old)) as (λ y. Result ℕ WordsError) [ true ↦ elim (ltb x (length cs)) as (λ y. Result ℕ WordsError) [ true ↦ Err Stray | false ↦ Ok x ] | false ↦ Err Full ]) g ∙
+      ap (λ (u : Bool). elim u as (λ y. Result ℕ WordsError) [ true ↦ elim (ltb n (length cs)) as (λ y. Result ℕ WordsError) [ true ↦ Err Stray | false ↦ Ok n ] | false ↦ Err Full ]) l ∙
+      ap (λ (u : Bool). elim u as (λ y. Result ℕ WordsError) [ true ↦ Err Stray | false ↦ Ok n ]) h
 
-  stopped : gap stray_code more ≡ 0 → 0 < length more → answer cs (length old) ≡ Stray
+  stopped : gap stray_code more ≡ 0 → 0 < length more → answer cs (length old) ≡ Err Stray
   stopped z m = answered z true (lt-ltb n (length cs) (omega (arith, sized)))
 
-  ended : gap stray_code more ≡ 0 → length more ≡ 0 → answer cs (length old) ≡ Read n
+  ended : gap stray_code more ≡ 0 → length more ≡ 0 → answer cs (length old) ≡ Ok n
   ended z m = answered z false (le-ltb n (length cs) (omega (arith, sized)))
 
   -- a word comes, and there is no room for it
@@ -171,73 +173,78 @@ module _ (old cs more out : List ℕ) (n : ℕ) (k : Front old cs more n out) wh
         let b : length old ≤ gap stray_code cs = omega arith in
         rw (o, take-take n (gap stray_code cs) cs a, front, take_all n out f, drop_of_length-le old b, append-nil)
 
-    full : answer cs (length old) ≡ Full
+    full : answer cs (length old) ≡ Err Full
     unfolding answer count
     full = rw (lt-leb (gap stray_code cs) (length old) (omega (arith, counted, k.long, k.inside)), answer)
 
--- what the loop keeps
-pub record Reading (s old : List ℕ) (due : Due) (n at : ℕ) (out : List ℕ) : Type 0 where
-  pub stands : Front old (codes Word (tokens s)) (codes due (parts_from space s at)) n out
+-- what the loop keeps: n codes stand, and those of the tokens after the first k are still to come
+pub record Reading (s old : List ℕ) (due : Due) (n k : ℕ) (out : List ℕ) : Type 0 where
+  pub stands : Front old (codes Word (tokens s)) (codes due (drop k (parts space s))) n out
 
 pub read_start : (s old : List ℕ) → Reading s old Word 0 0 old
 unfolding tokens
-read_start s old = record { stands = record { text = rw (from_start space s); inside = omega arith; long = refl; rest = refl; words = tt } }
+read_start s old = record { stands = record { text = refl; inside = omega arith; long = refl; rest = refl; words = tt } }
 
 -- each way out of a turn, and of the loop
-module _ (s old out : List ℕ) (due : Due) (n at : ℕ) (inv : Reading s old due n at out) where
-  module _ (more : List ℕ) (e : codes due (parts_from space s at) ≡ more) where
+module _ (s old out : List ℕ) (due : Due) (n k : ℕ) (inv : Reading s old due n k out) where
+  module _ (more : List ℕ) (e : codes due (drop k (parts space s)) ≡ more) where
     known : Front old (codes Word (tokens s)) more n out
     known = rw e at inv.stands
 
-    stop : gap stray_code more ≡ 0 → 0 < length more → Reads s old out Stray
+    stop : gap stray_code more ≡ 0 → 0 < length more → Reads s old out (Err Stray)
     stop z l = record { answered = sym (stopped _ _ more out n known z l); memory = kept _ _ more out n known z; long = inv.stands.long }
 
-  module _ (h : at ≤ length s) (r : ℕ) (e : r ≡ first_from s at 32) (d : Due) (g : d ≡ due_after due (take (r - at) (drop at s))) (p : Bool) (f : p ≡ is_word d) where
-    pub read_skip : p ≡ false → Reading s old d n (r + 1) out
-    read_skip y = record { stands = known _ (rw (from_step space s at r h e) (codes_skip due d _ (parts_from space s (r + 1)) g (sym f ∙ y))) }
+  module _ (t : Bytes) (h : drop k (parts space s) ≡ t ∷ drop (k + 1) (parts space s)) (d : Due) (g : d ≡ due_after due t) (p : Bool) (f : p ≡ is_word d) where
+    abbrev later : List Bytes
+    later = drop (k + 1) (parts space s)
 
-    module _ (y : p ≡ true) (c : ℕ) (k : c ≡ code_as due (take (r - at) (drop at s))) where
-      coming : codes due (parts_from space s at) ≡ c ∷ codes d (parts_from space s (r + 1))
-      coming = rw (from_step space s at r h e, k) (codes_word due d _ (parts_from space s (r + 1)) g (sym f ∙ y))
+    pub read_skip : p ≡ false → (l : ℕ) → l ≡ k + 1 → Reading s old d n l out
+    read_skip y l m = record { stands = known (codes d (drop l (parts space s))) (rw (h, m) (codes_skip due d t later g (sym f ∙ y))) }
 
-      pub read_stray : (b : Bool) → b ≡ eqb c stray_code → b ≡ true → Reads s old out Stray
+    module _ (y : p ≡ true) (c : ℕ) (q : c ≡ code_as due t) where
+      coming : codes due (drop k (parts space s)) ≡ c ∷ codes d later
+      coming = rw (h, q) (codes_word due d t later g (sym f ∙ y))
+
+      pub read_stray : (b : Bool) → b ≡ eqb c stray_code → b ≡ true → Reads s old out (Err Stray)
       read_stray b eb hb =
           let z = eqb-true c stray_code (sym eb ∙ hb) in
-          let m = codes d (parts_from space s (r + 1)) in
-          stop (stray_code ∷ m) (rw z at coming) (gap_stop stray_code m) (omega arith)
+          stop (stray_code ∷ codes d later) (rw z at coming) (gap_stop stray_code (codes d later)) (omega arith)
 
       module _ (b : Bool) (eb : b ≡ eqb c stray_code) (hb : b ≡ false) where
         z : c ≡ stray_code → ⊥
         z = eqb-false c stray_code (sym eb ∙ hb)
 
-        pub read_full : length out ≤ n → Reads s old out Full
-        read_full l =
-            let m = codes d (parts_from space s (r + 1)) in
-            let u : 0 < gap stray_code (c ∷ m) = omega (arith, gap_on stray_code c m z) in
-            let q = known (c ∷ m) coming in
-            record { answered = sym (full _ _ (c ∷ m) out n q l u); memory = filled _ _ (c ∷ m) out n q l u; long = inv.stands.long }
+        stands : Front old (codes Word (tokens s)) (c ∷ codes d later) n out
+        stands = known (c ∷ codes d later) coming
 
-        pub read_word : n < length out → Reading s old d (n + 1) (r + 1) (set out n c)
-        read_word l =
-            let m = codes d (parts_from space s (r + 1)) in
-            let q = known (c ∷ m) coming in
+        pub read_full : length out ≤ n → Reads s old out (Err Full)
+        read_full l =
+            let u : 0 < gap stray_code (c ∷ codes d later) = omega (arith, gap_on stray_code c (codes d later) z) in
+            record {
+              answered = sym (full _ _ (c ∷ codes d later) out n stands l u);
+              memory = filled _ _ (c ∷ codes d later) out n stands l u;
+              long = inv.stands.long;
+            }
+
+        pub read_word : n < length out → (l : ℕ) → l ≡ k + 1 → Reading s old d (n + 1) l (set out n c)
+        read_word l j e =
             record {
               stands = record {
-                text = q.text ∙ rw (add-one n, take-suc-set out n c l, append_assoc);
+                text = stands.text ∙ rw (e, add-one n, take-suc-set out n c l, append_assoc);
                 inside = rw (length-set out n c) (omega arith);
-                long = length-set out n c ∙ q.long;
-                rest = drop-set-lt (n + 1) out n c (omega arith) ∙ sym (drop-drop 1 n out) ∙ ap (drop 1) q.rest ∙ drop-drop 1 n old;
-                words = rw (add-one n, take-suc-set out n c l) (free_append stray_code (take n out) (c ∷ []) q.words (z, tt));
+                long = length-set out n c ∙ stands.long;
+                rest = drop-set-lt (n + 1) out n c (omega arith) ∙ sym (drop-drop 1 n out) ∙ ap (drop 1) stands.rest ∙ drop-drop 1 n old;
+                words = rw (add-one n, take-suc-set out n c l) (free_append stray_code (take n out) (c ∷ []) stands.words (z, tt));
               };
             }
 
-  module _ (h : length s < at) (p : Bool) (f : p ≡ is_word due) where
-    pub read_done : p ≡ true → Reads s old out (Read n)
+  module _ (h : drop k (parts space s) ≡ []) (p : Bool) (f : p ≡ is_word due) where
+    pub read_done : p ≡ true → Reads s old out (Ok n)
     read_done y =
-        let q = known [] (rw (from_past space s at h) (codes_end due (sym f ∙ y))) in
+        let q = known [] (rw h (codes_end due (sym f ∙ y))) in
         record { answered = sym (ended _ _ [] out n q (gap_nil stray_code) refl); memory = kept _ _ [] out n q (gap_nil stray_code); long = q.long }
 
-    pub read_lacking : p ≡ false → Reads s old out Stray
-    read_lacking y = stop (stray_code ∷ []) (rw (from_past space s at h) (codes_lack due (sym f ∙ y))) (gap_stop stray_code []) (omega arith)
+    pub read_lacking : p ≡ false → Reads s old out (Err Stray)
+    read_lacking y = stop (stray_code ∷ []) (rw h (codes_lack due (sym f ∙ y))) (gap_stop stray_code []) (omega arith)
 
 pub ruleset read_laws = (read_start, read_skip, read_stray, read_full, read_word, read_done, read_lacking, not-true, not-false)

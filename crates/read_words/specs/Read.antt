@@ -7,8 +7,9 @@ use Rattle.format.specs.Tokens.{tokens}
 use Rattle.text_bytes.specs.Find.{gap}
 use Rattle.read_words.specs.declared.reading.Due.{Due}
 use Rattle.read_words.specs.declared.reading.Due.TheVariants.{Word, AllCount, AnyCount}
-use Rattle.read_words.specs.declared.reading.Words.{Words}
-use Rattle.read_words.specs.declared.reading.Words.TheVariants.{Read, Stray, Full}
+use Rattle.read_words.specs.declared.reading.WordsError.{WordsError}
+use Rattle.read_words.specs.declared.reading.WordsError.TheVariants.{Stray, Full}
+use Rattle.std.specs.Prelude.{Result, Ok, Err}
 use Rattle.read_words.specs.declared.codes.Numbered.TheVariants as N
 use Rattle.read_words.specs.Codes.{stray_code, word_code, count_code}
 
@@ -45,18 +46,18 @@ codes due (t ∷ ts) =
 unfoldable pub count : List ℕ → ℕ
 count cs = gap stray_code cs
 
-unfoldable pub answer : List ℕ → (room : ℕ) → Words
+unfoldable pub answer : List ℕ → (room : ℕ) → Result ℕ WordsError
 answer cs room =
     elim (leb (count cs) room) [
-      | true ↦ elim (ltb (count cs) (length cs)) [ true ↦ Stray | false ↦ Read (count cs) ]
-      | false ↦ Full
+      | true ↦ elim (ltb (count cs) (length cs)) [ true ↦ Err Stray | false ↦ Ok (count cs) ]
+      | false ↦ Err Full
     ]
 
 -- these stand in the first places, as far as there is room; the rest is as it was
 unfoldable pub written : List ℕ → (old : List ℕ) → List ℕ
 written cs old = take (length old) (take (count cs) cs) ++ drop (count cs) old
 
-pub record Reads (part old new : List ℕ) (r : Words) : Type 0 where
+pub record Reads (part old new : List ℕ) (r : Result ℕ WordsError) : Type 0 where
   pub answered : r ≡ answer (codes Word (tokens part)) (length old)
   pub memory : new ≡ written (codes Word (tokens part)) old
   pub long : length new ≡ length old

@@ -12,7 +12,7 @@ use node_words::Node;
 use read_tokens::{Shape, numeral};
 
 // The words that have a number of their own: K of `all`, `any`, `vK` and `nK`.
-#[derive(Clone, Copy)]
+#[derive(Clone, Copy, Debug, PartialEq, Eq)]
 pub enum Numbered {
     All,
     Any,
@@ -20,12 +20,14 @@ pub enum Numbered {
     New,
 }
 
+#[tactic(auto, using(crate::proofs::CodeLaws::stray_is))]
 fn stray_code() -> u32
     ensures { result ≡ stray_code }
 {
     node_words::word_of(Node::Stray)
 }
 
+#[tactic(auto, using(crate::proofs::CodeLaws::stray_test))]
 pub fn is_stray(code: u32) -> bool
     ensures { result ≡ eqb code stray_code }
 {
@@ -73,22 +75,20 @@ fn keyword_code(token: &[u8]) -> u32
 pub fn biased(z: i32) -> u32
     ensures { result ≡ Table.biased z }
 {
-    if z < Model::LEAST_NUMBER {
-        return 0;
-    }
-    (z as i64 + Model::BIAS as i64) as u32
+    u32::try_from(i64::from(z) + i64::from(Model::BIAS)).unwrap_or(0)
 }
 
+#[tactic(auto, using(crate::proofs::CodeLaws::number_laws))]
 fn number_code(s: &[u8]) -> u32
     ensures { result ≡ number_code s.now }
 {
-    let m = text_numbers::integer(s, Model::LEAST_NUMBER, Model::GREATEST_NUMBER);
-    match m {
-        text_numbers::Integer::In(z) => node_words::word_of(Node::Number(biased(z))),
-        text_numbers::Integer::Out => stray_code(),
+    match text_numbers::integer(s, Model::LEAST_NUMBER, Model::GREATEST_NUMBER) {
+        Some(z) => node_words::word_of(Node::Number(biased(z))),
+        None => stray_code(),
     }
 }
 
+#[tactic(auto, using(crate::proofs::CodeLaws::with_laws))]
 fn node_with(which: Numbered, k: u32) -> Node
     ensures { result ≡ node_for (word_with which k) }
 {
@@ -101,17 +101,18 @@ fn node_with(which: Numbered, k: u32) -> Node
 }
 
 // A word with an argument from 0 to `high`.
+#[tactic(auto, using(crate::proofs::CodeLaws::argument_laws))]
 fn argument_code(which: Numbered, high: u32, s: &[u8]) -> u32
     requires { high ≤ 512 }
     ensures { result ≡ argument_code which high s.now }
 {
-    let m = text_numbers::natural(s, high);
-    match m {
-        text_numbers::Natural::In(k) => node_words::word_of(node_with(which, k)),
-        text_numbers::Natural::Out => stray_code(),
+    match text_numbers::natural(s, high) {
+        Some(k) => node_words::word_of(node_with(which, k)),
+        None => stray_code(),
     }
 }
 
+#[tactic(auto, using(crate::proofs::CodeLaws::variable_laws))]
 fn variable_code(letter: u8, s: &[u8]) -> u32
     ensures { result ≡ variable_code letter s.now }
 {
@@ -125,11 +126,11 @@ fn variable_code(letter: u8, s: &[u8]) -> u32
 }
 
 // A word that is one token.
+#[tactic(auto, using(crate::proofs::CodeLaws::word_laws, crate::proofs::CodeLaws::long_laws))]
 pub fn word_code(token: &[u8]) -> u32
     ensures { result ≡ word_code token.now }
 {
-    let shape = numeral(token);
-    match shape {
+    match numeral(token) {
         Shape::Bare => number_code(token),
         Shape::Lettered(b) => variable_code(b, &token[1..]),
         Shape::Plain => keyword_code(token),
@@ -137,13 +138,12 @@ pub fn word_code(token: &[u8]) -> u32
 }
 
 // The K after `all` or `any`, with it.
+#[tactic(auto, using(crate::proofs::CodeLaws::count_laws))]
 pub fn count_code(which: Numbered, token: &[u8]) -> u32
     ensures { result ≡ count_code which token.now }
 {
-    let shape = numeral(token);
-    match shape {
+    match numeral(token) {
         Shape::Bare => argument_code(which, Model::OPERANDS, token),
-        Shape::Lettered(_) => stray_code(),
-        Shape::Plain => stray_code(),
+        Shape::Lettered(_) | Shape::Plain => stray_code(),
     }
 }

@@ -5,4 +5,4 @@ mod codes;
 mod reading;
 
 pub use codes::biased;
-pub use reading::{Words, read};
+pub use reading::{WordsError, read};

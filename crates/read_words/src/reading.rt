@@ -5,32 +5,29 @@ ghost use Rattle.read_words.specs.Read.{is_word, due_after, code_as, Reads};
 use crate::codes::{self, Numbered};
 
 // What the next token is read as: a word, or the K after `all` or `any`.
-#[derive(Clone, Copy)]
+#[derive(Clone, Copy, Debug, PartialEq, Eq)]
 pub enum Due {
     Word,
     AllCount,
     AnyCount,
 }
 
-// Read has the number of words. Stray: a token spells no word. Full: there is no room for the next.
-#[derive(Clone, Copy)]
-pub enum Words {
-    Read(usize),
+// Stray: a token spells no word. Full: there is no room for the next.
+#[derive(Clone, Copy, Debug, PartialEq, Eq)]
+pub enum WordsError {
     Stray,
     Full,
 }
 
+#[tactic(auto, using(crate::proofs::ReadLaws::is_laws))]
 fn is_word(due: Due) -> bool
     ensures { result ≡ is_word due }
 {
-    match due {
-        Due::Word => true,
-        Due::AllCount => false,
-        Due::AnyCount => false,
-    }
+    matches!(due, Due::Word)
 }
 
 // What the token after a first one is read as.
+#[tactic(auto, using(crate::proofs::ReadLaws::first_laws))]
 fn due_after_first(token: &[u8]) -> Due
     ensures { result ≡ due_after Due.Word token.now }
 {
@@ -43,16 +40,17 @@ fn due_after_first(token: &[u8]) -> Due
     Due::Word
 }
 
+#[tactic(auto, using(crate::proofs::ReadLaws::after_laws))]
 fn due_after(due: Due, token: &[u8]) -> Due
     ensures { result ≡ due_after due token.now }
 {
     match due {
         Due::Word => due_after_first(token),
-        Due::AllCount => Due::Word,
-        Due::AnyCount => Due::Word,
+        Due::AllCount | Due::AnyCount => Due::Word,
     }
 }
 
+#[tactic(auto, using(crate::proofs::ReadLaws::as_laws))]
 fn code_as(due: Due, token: &[u8]) -> u32
     ensures { result ≡ code_as due token.now }
 {
@@ -63,36 +61,32 @@ fn code_as(due: Due, token: &[u8]) -> u32
     }
 }
 
-// The codes of the words, from the front of `out` on, up to the first token that spells none. Row 3 is tested before: a
-// number out of its range is read as no word.
-pub fn read(part: &[u8], out: &mut [u32]) -> Words
+// The codes of the words, from the front of `out` on, up to the first token that spells none, and their number. Row 3
+// is tested before: a number out of its range is read as no word.
+pub fn read(part: &[u8], out: &mut [u32]) -> Result<usize, WordsError>
     ensures { Reads part.now out.old out.new result }
 {
     let mut due = Due::Word;
     let mut n = 0;
-    let mut at = 0;
-    while at <= part.len() {
-        let end = text_bytes::find(part, at, b' ');
-        let token = &part[at..end];
+    for token in part.split(|b| *b == b' ') {
         let read_as = due;
         due = due_after(read_as, token);
-        at = end + 1;
         if !is_word(due) {
             continue;
         }
         let code = code_as(read_as, token);
         if codes::is_stray(code) {
-            return Words::Stray;
+            return Err(WordsError::Stray);
         }
         if out.len() <= n {
-            return Words::Full;
+            return Err(WordsError::Full);
         }
         out[n] = code;
         n += 1;
     }
     if is_word(due) {
-        Words::Read(n)
+        Ok(n)
     } else {
-        Words::Stray
+        Err(WordsError::Stray)
     }
 }

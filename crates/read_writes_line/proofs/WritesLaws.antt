@@ -14,8 +14,10 @@ use Rattle.table_writes.specs.Sets.{all_variables}
 use Rattle.read_list.specs.declared.Asked.{Asked}
 use Rattle.read_list.specs.declared.Listed.{Listed}
 use Rattle.read_list.specs.Items.{items_of}
-use Rattle.read_writes_line.specs.declared.WritesRead.{WritesRead}
-use Rattle.read_writes_line.specs.declared.WritesRead.TheVariants.{Sound, Fault}
+use Rattle.std.specs.Prelude.{Result, Ok, Err}
+use Rattle.model.specs.declared.Row.{Row}
+use Rattle.model.specs.Row.{row}
+use Rattle.read_form.specs.Outcome.{answered}
 use Rattle.read_writes_line.specs.Writes.{writes_name, asked_of, list_row, writes_row, told}
 
 -- `asked`
@@ -27,18 +29,18 @@ pub ruleset asked_laws = (asked_is)
 
 -- `judged`
 module _ (l : Listed) (rest : ℕ) where
-  pub list_unsound : not l.sound ≡ true → Fault 3 ≡ told (list_row l rest)
-  unfolding list_row told
+  pub list_unsound : not l.sound ≡ true → Err (row 3) ≡ told (list_row l rest)
+  unfolding list_row told answered
   list_unsound a = sym (ap told (is_broken 3 _ _ a))
 
   module _ (a : not l.sound ≡ false) where
-    pub list_falls : not l.rising ≡ true → Fault 5 ≡ told (list_row l rest)
-    unfolding list_row told
+    pub list_falls : not l.rising ≡ true → Err (row 5) ≡ told (list_row l rest)
+    unfolding list_row told answered
     list_falls b = sym (ap told (not_broken 3 _ _ a ∙ is_broken 5 _ _ b))
 
     module _ (b : not l.rising ≡ false) where
-      pub list_outside : l.outside ≡ true → Fault 7 ≡ told (list_row l rest)
-      unfolding list_row told
+      pub list_outside : l.outside ≡ true → Err (row 7) ≡ told (list_row l rest)
+      unfolding list_row told answered
       list_outside c = sym (ap told (not_broken 3 _ _ a ∙ not_broken 5 _ _ b ∙ is_broken 7 _ _ c))
 
       module _ (c : l.outside ≡ false) where
@@ -46,23 +48,23 @@ module _ (l : Listed) (rest : ℕ) where
         unfolding list_row
         rows = not_broken 3 _ _ a ∙ not_broken 5 _ _ b ∙ not_broken 7 _ _ c
 
-        pub list_other : (l.rest ≡ rest → ⊥) → Fault 44 ≡ told (list_row l rest)
-        unfolding told
+        pub list_other : (l.rest ≡ rest → ⊥) → Err (row 44) ≡ told (list_row l rest)
+        unfolding told answered
         list_other d = sym (ap told (rows ∙ is_broken 44 _ _ (ap not (ne_eqb l.rest rest d))))
 
-        pub list_same : l.rest ≡ rest → Sound ≡ told (list_row l rest)
-        unfolding told
+        pub list_same : l.rest ≡ rest → Ok tt ≡ told (list_row l rest)
+        unfolding told answered
         list_same d = sym (ap told (rows ∙ not_broken 44 _ none (ap not (eq-eqb l.rest rest d))))
 
 pub ruleset judged_laws = (list_unsound, list_falls, list_outside, list_other, list_same)
 
 -- `read`
 module _ (s : Bytes) (ended : Bool) (variables rest : ℕ) (p : Bool) (hp : p ≡ misformed writes_name 0 s ended) where
-  pub read_misformed : p ≡ true → Fault 2 ≡ told (writes_row s ended variables rest)
-  unfolding writes_row told
+  pub read_misformed : p ≡ true → Err (row 2) ≡ told (writes_row s ended variables rest)
+  unfolding writes_row told answered
   read_misformed h = sym (ap told (is_broken 2 _ _ (sym hp ∙ h)))
 
-  pub read_list : p ≡ false → (q : Asked) → q ≡ asked_of variables → (v : Bytes) → v ≡ value_after writes_name s → (l : Listed) → l ≡ items_of q (list_items v) → (r : WritesRead) → r ≡ told (list_row l rest)
+  pub read_list : p ≡ false → (q : Asked) → q ≡ asked_of variables → (v : Bytes) → v ≡ value_after writes_name s → (l : Listed) → l ≡ items_of q (list_items v) → (r : Result (Unit {0}) Row) → r ≡ told (list_row l rest)
       → r ≡ told (writes_row s ended variables rest)
   unfolding writes_row
   read_list h q hq v hv l hl r hr =

@@ -1,18 +1,18 @@
 -- The line `writes=LIST` as the code reads it. Where `rest` has the variables that the edge does not mention, it breaks
 -- the rows of `writes_fault` but row 51, which asks who owns the variables: the law writes_rows.
-use Rattle.std.specs.Prelude.{ℕ, Bool, not, eqb}
-use Rattle.std.proofs.Math.Option.{Option, none, some}
+use Rattle.std.specs.Prelude.{ℕ, Bool, not, eqb, Result}
+use Rattle.std.proofs.Math.Option.{Option, none}
+use Rattle.model.specs.declared.Row.{Row}
 use Rattle.model.specs.Bounds.{last_variable}
 use Rattle.model.specs.Limits.{broken}
 use Rattle.format.specs.Bytes.{Bytes, bytes}
 use Rattle.format.specs.Rows.{list_items}
 use Rattle.read_form.specs.Form.{value_after, misformed}
+use Rattle.read_form.specs.Outcome.{answered}
 use Rattle.table_writes.specs.Sets.{all_variables}
 use Rattle.read_list.specs.declared.Asked.{Asked}
 use Rattle.read_list.specs.declared.Listed.{Listed}
 use Rattle.read_list.specs.Items.{items_of}
-use Rattle.read_writes_line.specs.declared.WritesRead.{WritesRead}
-use Rattle.read_writes_line.specs.declared.WritesRead.TheVariants.{Sound, Fault}
 
 abbrev pub writes_name : Bytes
 writes_name = bytes "writes="
@@ -35,6 +35,5 @@ writes_row s ended variables rest =
     (list_row (items_of (asked_of variables) (list_items (value_after writes_name s))) rest)
 
 -- the answer
-unfoldable pub told : Option ℕ → WritesRead
-told none = Sound
-told (some row) = Fault row
+unfoldable pub told : Option ℕ → Result (Unit {0}) Row
+told o = answered o tt

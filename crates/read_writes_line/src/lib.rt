@@ -5,15 +5,8 @@
 ghost use Rattle.std.specs.Prelude.{◌≡◌};
 ghost use Rattle.read_writes_line.specs.Writes.{asked_of, list_row, told, writes_row};
 
-use model::Model;
+use model::{Model, Row};
 use read_list::{Asked, Listed};
-
-// Fault has the smallest row that the line breaks.
-#[derive(Clone, Copy)]
-pub enum WritesRead {
-    Sound,
-    Fault(u32),
-}
 
 // What is asked of a list of variables, where the model has so many.
 fn asked(variables: usize) -> Asked
@@ -28,31 +21,31 @@ fn asked(variables: usize) -> Asked
 }
 
 // Rows 3, 5, 7 and 44 of a list, where the edge leaves `rest` alone.
-fn judged(list: Listed, rest: u64) -> WritesRead
+fn judged(list: Listed, rest: u64) -> Result<(), Row>
     ensures { result ≡ told (list_row list rest) }
 {
     if !list.sound {
-        return WritesRead::Fault(3);
+        return Err(Row(3));
     }
     if !list.rising {
-        return WritesRead::Fault(5);
+        return Err(Row(5));
     }
     if list.outside {
-        return WritesRead::Fault(7);
+        return Err(Row(7));
     }
     if list.rest != rest {
-        return WritesRead::Fault(44);
+        return Err(Row(44));
     }
-    WritesRead::Sound
+    Ok(())
 }
 
 // The line's bytes without the LF, and whether an LF ended it; the model has so many variables, and the edge names the
-// new values of all but the set `rest`.
-pub fn read(line: &[u8], ended: bool, variables: usize, rest: usize) -> WritesRead
+// new values of all but the set `rest`. An error is the smallest row that the line breaks.
+pub fn read(line: &[u8], ended: bool, variables: usize, rest: usize) -> Result<(), Row>
     ensures { result ≡ told (writes_row line.now ended variables rest) }
 {
     if read_form::misformed(line, ended, b"writes=", 0) {
-        return WritesRead::Fault(2);
+        return Err(Row(2));
     }
     let q = asked(variables);
     let list = read_list::read(read_form::value(line, b"writes="), q);

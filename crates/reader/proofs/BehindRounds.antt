@@ -38,16 +38,15 @@ use Rattle.format.proofs.OwnersLaws.{owner_formed}
 use Rattle.format.proofs.WritesLaws.{writes_formed}
 use Rattle.text_bytes.proofs.FindLaws.{lines_none}
 use Rattle.read_form.specs.Form.{line_of}
-use Rattle.read_owner_line.specs.declared.OwnerRead.{OwnerRead}
+use Rattle.std.specs.Prelude.{Result, Ok, Err}
+use Rattle.read_form.specs.Outcome.{answered}
+use Rattle.model.specs.declared.Row.{Row}
 use Rattle.read_owner_line.specs.Owner.{owner_read}
 use Rattle.read_owner_line.proofs.Meaning.{owner_faulty, owner_told}
 use Rattle.read_writes_line.specs.Writes.{told, writes_row}
 use Rattle.read_writes_line.proofs.Meaning.{writes_broken, writes_due, writes_owned}
-use Rattle.reader.specs.declared.ReadAnswer.TheVariants.{Refused}
 use Rattle.reader.specs.declared.Place.{Place}
-use Rattle.reader.specs.declared.Round.{Round}
-use Rattle.reader.specs.declared.Round.TheVariants.{Done, On}
-use Rattle.reader.specs.Read.{place_behind, last_set, writes_others, Outcome, stop_at, line_at, on_owner, owner_round, on_owner_after, owner_round_after, on_list, list_round, round_at, round_after, read_from}
+use Rattle.reader.specs.Read.{Round, refusal, going, done, place_behind, last_set, writes_others, Outcome, stop_at, line_at, on_owner, owner_round, on_owner_after, owner_round_after, on_list, list_round, round_at, round_after, read_from}
 use Rattle.reader.proofs.SheetLaws.{set_there, round_lacking, round_ended, round_owner, round_owned, round_list, round_as_was}
 use Rattle.reader.proofs.Filling.{filled, next_in, set_filled}
 use Rattle.reader.proofs.Standing.{few_count, Due-list, Due-owner, Stand, owned, variable_last, owned_last, Ends, declared_on, declared_in, lines_here, stop_on, round_ends, round_goes, ends_refused, ends_list, ends_owner, read_no_list, read_no_owner}
@@ -68,18 +67,18 @@ module _ (text : Bytes) (r : Reading) (n : ℕ) (p : Place) (words stream : List
       let none_left = lines_none (drop p.byte text) (omega (arith, length-drop p.byte text)) in
       let off : (is_end p.due.key && not (p.owner || p.list)) ≡ false = and_no_right (is_end p.due.key) _ (ap not (or_left p.list h.waits.marked)) in
       goal text owner r n p words stream left [] _ none_left
-      (round_ends text left (n + 1) p words words (sym (round_ended text (n + 1) p words _ refl l)) _ (sym (round_lacking text (n + 1) p words _ refl l off)))
+      (round_ends text left (n + 1) p words words (sym (round_ended text (n + 1) p words _ refl l)) (Err (refusal 2 (n + 1))) (sym (round_lacking text (n + 1) p words _ refl l off)))
       (ends_refused owner r (keys_due p.due) (n + 1) [] 2 stream words (read_no_owner r (keys_due p.due) (n + 1)))
 
   module _ (l : p.byte < length text) where
     abbrev owner_line : Line
     owner_line = line_of (line_at text p) (ltb (stop_at text p) (length text))
 
-    said_round : (x : OwnerRead) → owner_read (line_at text p) (ltb (stop_at text p) (length text)) ≡ x → round_at text (n + 1) p words ≡ on_owner text (n + 1) p x
+    said_round : (x : Result ℕ Row) → owner_read (line_at text p) (ltb (stop_at text p) (length text)) ≡ x → round_at text (n + 1) p words ≡ on_owner text (n + 1) p x
     unfolding owner_round
     said_round x e = sym (round_owner text (n + 1) p words _ refl l h.waits.marked _ refl) ∙ ap (on_owner text (n + 1) p) e
 
-    said_after : (x : OwnerRead) → owner_read (line_at text p) (ltb (stop_at text p) (length text)) ≡ x → round_after text p words ≡ on_owner_after text p words x
+    said_after : (x : Result ℕ Row) → owner_read (line_at text p) (ltb (stop_at text p) (length text)) ≡ x → round_after text p words ≡ on_owner_after text p words x
     unfolding owner_round_after
     said_after x e = sym (round_owned text (n + 1) p words _ refl l h.waits.marked _ refl) ∙ ap (on_owner_after text p words) e
 
@@ -88,7 +87,7 @@ module _ (text : Bytes) (r : Reading) (n : ℕ) (p : Place) (words stream : List
     faulty_owner row f =
         let said = owner_faulty (line_at text p) (ltb (stop_at text p) (length text)) row f in
         goal text owner r n p words stream left _ _ (lines_here text p l)
-        (round_ends text left (n + 1) p words words (said_after _ said) (Refused row (n + 1)) (said_round _ said))
+        (round_ends text left (n + 1) p words words (said_after _ said) (Err (refusal row (n + 1))) (said_round _ said))
         (ends_refused owner r (keys_due p.due) (n + 1) _ row stream words (owner_case r (keys_due p.due) (n + 1) owner_line _ (some row) f))
 
     module _ (f : owner_fault owner_line ≡ none) where
@@ -206,7 +205,7 @@ module _ (text : Bytes) (due : List ℕ) (r : Reading) (n : ℕ) (p : Place) (bu
       let none_left = lines_none (drop p.byte text) (omega (arith, length-drop p.byte text)) in
       let off : (is_end p.due.key && not (p.owner || p.list)) ≡ false = and_no_right (is_end p.due.key) _ (ap not (or_right p.owner h.waits.marked)) in
       goal text (list due) r n p buffer stream left [] _ none_left
-      (round_ends text left (n + 1) p buffer buffer (sym (round_ended text (n + 1) p buffer _ refl l)) _ (sym (round_lacking text (n + 1) p buffer _ refl l off)))
+      (round_ends text left (n + 1) p buffer buffer (sym (round_ended text (n + 1) p buffer _ refl l)) (Err (refusal 2 (n + 1))) (sym (round_lacking text (n + 1) p buffer _ refl l off)))
       (ends_refused (list due) r (keys_due p.due) (n + 1) [] 2 stream buffer (read_no_list r due (keys_due p.due) (n + 1)))
 
   module _ (l : p.byte < length text) where
@@ -247,23 +246,23 @@ module _ (text : Bytes) (due : List ℕ) (r : Reading) (n : ℕ) (p : Place) (bu
     unfolding list_round
     said_list x e = sym (round_list text (n + 1) p buffer _ refl l h.waits.unowned h.waits.marked _ refl) ∙ ap (λ (y : Option ℕ). on_list text (n + 1) p buffer (told y)) e
 
-    refused_list : (row : ℕ) → writes_fault r due list_line ≡ some row → round_at text (n + 1) p buffer ≡ Done (Refused row (n + 1)) → Goal text (list due) r n p buffer stream left
+    refused_list : (row : ℕ) → writes_fault r due list_line ≡ some row → round_at text (n + 1) p buffer ≡ done (Err (refusal row (n + 1))) → Goal text (list due) r n p buffer stream left
     refused_list row f e =
         goal text (list due) r n p buffer stream left _ _ (lines_here text p l)
-        (round_ends text left (n + 1) p buffer buffer kept (Refused row (n + 1)) e)
+        (round_ends text left (n + 1) p buffer buffer kept (Err (refusal row (n + 1))) e)
         (ends_refused (list due) r (keys_due p.due) (n + 1) _ row stream buffer (list_case r due (keys_due p.due) (n + 1) list_line _ (some row) f))
 
     pub faulty_list : (row : ℕ) → row_read ≡ some row → Goal text (list due) r n p buffer stream left
-    unfolding on_list told
+    unfolding on_list told answered
     faulty_list row e = refused_list row (list_row row e) (said_list (some row) e)
 
     module _ (e : row_read ≡ none) where
       others : writes_others p buffer ≡ is_foreign r due
       others = others_is r p buffer due h.going.counted (declared_in text (list due) r n p buffer stream h) h.waits
 
-      clear_round : (b : Bool) → is_foreign r due ≡ b → round_at text (n + 1) p buffer ≡ elim b as (λ x. Round) [ true ↦ Done (Refused 51 (n + 1)) | false ↦ On (place_behind p (stop_at text p)) ]
-      unfolding on_list told
-      clear_round b f = said_list none e ∙ ap (λ (x : Bool). elim x as (λ y. Round) [ true ↦ Done (Refused 51 (n + 1)) | false ↦ On (place_behind p (stop_at text p)) ]) (others ∙ f)
+      clear_round : (b : Bool) → is_foreign r due ≡ b → round_at text (n + 1) p buffer ≡ elim b as (λ x. Round) [ true ↦ done (Err (refusal 51 (n + 1))) | false ↦ going (place_behind p (stop_at text p)) ]
+      unfolding on_list told answered
+      clear_round b f = said_list none e ∙ ap (λ (x : Bool). elim x as (λ y. Round) [ true ↦ done (Err (refusal 51 (n + 1))) | false ↦ going (place_behind p (stop_at text p)) ]) (others ∙ f)
 
       pub foreign_list : is_foreign r due ≡ true → Goal text (list due) r n p buffer stream left
       unfolding broken

@@ -19,9 +19,8 @@ use Rattle.format.specs.Reader.{accepted, refused, lines_of, row1, read_answer, 
 use Rattle.format.proofs.Exact.{accepted_then, answer_reads}
 use Rattle.read_line.specs.Exact.{ReadsLines}
 use Rattle.read_line.specs.Line.{line_read, line_after}
-use Rattle.reader.specs.declared.ReadAnswer.{ReadAnswer}
-use Rattle.reader.specs.declared.ReadAnswer.TheVariants.{Refused}
-use Rattle.reader.specs.Read.{read_of, stored, stored_if, sheet_read, blank, read_to, read_after}
+use Rattle.std.specs.Prelude.{Err}
+use Rattle.reader.specs.Read.{ReadAnswer, refusal, read_of, stored, stored_if, sheet_read, blank, read_to, read_after}
 use Rattle.reader.proofs.ReadExact.{sheet_ends, sheet_table}
 
 module _ (exact : ReadsLines line_read line_after) (text : Bytes) (table : List ℕ) where
@@ -31,7 +30,7 @@ module _ (exact : ReadsLines line_read line_after) (text : Bytes) (table : List 
   answer_exact = go (ltb (length table) table_words) refl (ltb max_bytes (length text)) refl
     where
       go : (a : Bool) → ltb (length table) table_words ≡ a → (b : Bool) → ltb max_bytes (length text) ≡ b
-          → elim a as (λ x. ReadAnswer) [ true ↦ Refused 18 0 | false ↦ elim b as (λ x. ReadAnswer) [ true ↦ Refused 1 0 | false ↦ (sheet_read text blank).answer ] ]
+          → elim a as (λ x. ReadAnswer) [ true ↦ Err (refusal 18 0) | false ↦ elim b as (λ x. ReadAnswer) [ true ↦ Err (refusal 1 0) | false ↦ (sheet_read text blank).answer ] ]
           ≡ read_of (elim a as (λ x. Reader.ReadAnswer) [ true ↦ refused 18 0 | false ↦ elim b as (λ x. Reader.ReadAnswer) [ true ↦ refused 1 0 | false ↦ Reader.read nothing at_first due_at_first 1 (lines_of text) ] ])
       go true e b f = refl
       go false e true f = refl

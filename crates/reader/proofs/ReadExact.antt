@@ -49,10 +49,9 @@ use Rattle.read_form.specs.Form.{line_of}
 use Rattle.read_line.specs.Exact.{number_told, ReadsLines}
 use Rattle.read_line.specs.Line.{line_read, line_after}
 use Rattle.read_writes_line.specs.Writes.{writes_row}
-use Rattle.reader.specs.declared.ReadAnswer.TheVariants.{Accepted, Refused}
+use Rattle.std.specs.Prelude.{Ok, Err}
 use Rattle.reader.specs.declared.Place.{Place}
-use Rattle.reader.specs.declared.Round.TheVariants.{Done, On}
-use Rattle.reader.specs.Read.{place_first, place_after, place_behind, Outcome, stop_at, line_at, on_line, line_round, line_round_after, round_at, round_after, read_from, sheet_read, blank}
+use Rattle.reader.specs.Read.{refusal, going, done, place_first, place_after, place_behind, Outcome, stop_at, line_at, on_line, line_round, line_round_after, round_at, round_after, read_from, sheet_read, blank}
 use Rattle.reader.proofs.SheetLaws.{round_done, round_lacking, round_ended, round_extra, round_stays, round_line, round_words}
 use Rattle.reader.proofs.Filling.{filled, filled_nil, filled_fits, next_in, next_next, put_filled}
 use Rattle.reader.proofs.Standing.{Few, few_after, room_after, Waits, scan_of, Stand, Ends, declared_on, declared_in, lines_here, stop_on, line_ended, end_is, line_short, round_ends, round_goes, ends_accepted, ends_refused, ends_line, read_lacking, read_extra}
@@ -173,20 +172,20 @@ module _ (text : Bytes) (r : Reading) (n : ℕ) (p : Place) (words stream : List
       let none_left = lines_none (drop p.byte text) (omega (arith, length-drop p.byte text)) in
       let on = sym (ap is_end e ∙ end_is) in
       let stop = sym (round_done text (n + 1) p words true on l (ap not (or_none h.waits.0 h.waits.1))) in
-      goal [] [] _ (end_due p.due e) none_left (round_ends text left (n + 1) p words words (sym (round_ended text (n + 1) p words true on l)) Accepted stop)
+      goal [] [] _ (end_due p.due e) none_left (round_ends text left (n + 1) p words words (sym (round_ended text (n + 1) p words true on l)) (Ok tt) stop)
       (ends_accepted r (n + 1) stream words h.full)
   no_line l (inr k) =
       let none_left = lines_none (drop p.byte text) (omega (arith, length-drop p.byte text)) in
       let off = sym (ap is_end k.1 ∙ no_end k.0) in
       goal (k.0 ∷ later_due p.due) [] _ (due_line p.due k.0 k.1) none_left
-      (round_ends text left (n + 1) p words words (sym (round_ended text (n + 1) p words false off l)) _ (sym (round_lacking text (n + 1) p words false off l refl)))
+      (round_ends text left (n + 1) p words words (sym (round_ended text (n + 1) p words false off l)) (Err (refusal 2 (n + 1))) (sym (round_lacking text (n + 1) p words false off l refl)))
       (ends_refused nothing r (k.0 ∷ later_due p.due) (n + 1) [] 2 stream words (read_lacking r k.0 (later_due p.due) (n + 1)))
 
   extra_line : p.byte < length text → p.due.key ≡ End → Goal
   extra_line l e =
       let on = sym (ap is_end e ∙ end_is) in
       goal [] _ _ (end_due p.due e) (lines_here text p l)
-      (round_ends text left (n + 1) p words words (sym (round_stays text (n + 1) p words true on l h.waits.0 h.waits.1 refl)) _ (sym (round_extra text (n + 1) p words true on l h.waits.0 h.waits.1 refl)))
+      (round_ends text left (n + 1) p words words (sym (round_stays text (n + 1) p words true on l h.waits.0 h.waits.1 refl)) (Err (refusal 2 (n + 1))) (sym (round_extra text (n + 1) p words true on l h.waits.0 h.waits.1 refl)))
       (ends_refused nothing r [] (n + 1) _ 2 stream words (read_extra r (n + 1) _ _))
 
   -- a line that is due; `onward` is what the rounds after it come to
@@ -208,10 +207,10 @@ module _ (text : Bytes) (r : Reading) (n : ℕ) (p : Place) (words stream : List
     faulty_line row f =
         let said = exact.faulty r p.counts words p.at k (line_at text p) (ltb (stop_at text p) (length text)) row h.going.counted (declared_in text nothing r n p words stream h) (line_short text p short) f in
         let ks = later_due p.due in
-        let round : line_round text (n + 1) p words ≡ Done (Refused row (n + 1)) =
+        let round : line_round text (n + 1) p words ≡ done (Err (refusal row (n + 1))) =
         ap (on_line text (n + 1) p) (ap (λ (j : Key). line_read (line_at text p) (ltb (stop_at text p) (length text)) j p.counts words p.at) key ∙ said) in
         goal (k ∷ ks) _ _ (due_line p.due k key) (lines_here text p l)
-        (round_ends text left (n + 1) p words (line_round_after text p words) line_words_lem _ (line_round_lem ∙ round))
+        (round_ends text left (n + 1) p words (line_round_after text p words) line_words_lem (Err (refusal row (n + 1))) (line_round_lem ∙ round))
         (ends_refused nothing r (k ∷ ks) (n + 1) _ row stream _ (read_case r k ks (n + 1) line _ (some row) f))
 
     module _ (f : fault r k line ≡ none) where
@@ -270,9 +269,9 @@ module _ (text : Bytes) (r : Reading) (n : ℕ) (p : Place) (words stream : List
           let said = exact.sound r p.counts words p.at k (line_at text p) (ltb (stop_at text p) (length text)) h.going.counted (declared_in text nothing r n p words stream h) (line_short text p short) f in
           let new = line_round_after text p words in
           let put_there : new ≡ put p.at (line_words e) words = ap (λ (j : Key). line_after (line_at text p) (ltb (stop_at text p) (length text)) j p.counts words p.at) key ∙ said.1 in
-          let round : line_round text (n + 1) p words ≡ On after =
+          let round : line_round text (n + 1) p words ≡ going after =
           ap (on_line text (n + 1) p) (ap (λ (j : Key). line_read (line_at text p) (ltb (stop_at text p) (length text)) j p.counts words p.at) key ∙ said.0) ∙
-          ap On (told_place p e (next_place p.at (length (line_words e))) (stop_at text p) key_of_lem) in
+          ap going (told_place p e (next_place p.at (length (line_words e))) (stop_at text p) key_of_lem) in
           let later = onward new (stand_after new put_there) in
           let number : n + 1 + 1 ≡ suc (n + 1) = omega arith in
           let goes = round_goes text left (n + 1) p words new line_words_lem after (line_round_lem ∙ round) in

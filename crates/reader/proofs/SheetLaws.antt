@@ -22,16 +22,13 @@ use Rattle.read_line.specs.Line.{line_read, line_after}
 use Rattle.read_line.proofs.Kept.{line_kept}
 use Rattle.table_line.specs.Line.{ranges_in}
 use Rattle.table_owners.specs.Owners.{foreign_in}
-use Rattle.read_owner_line.specs.declared.OwnerRead.{OwnerRead}
+use Rattle.std.specs.Prelude.{Option, Some, None, Result, Ok, Err}
+use Rattle.model.specs.declared.Row.{Row}
+use Rattle.reader.specs.declared.Refusal.{Refusal}
 use Rattle.read_owner_line.specs.Owner.{owner_read}
-use Rattle.read_writes_line.specs.declared.WritesRead.{WritesRead}
 use Rattle.read_writes_line.specs.Writes.{told, writes_row}
-use Rattle.reader.specs.declared.ReadAnswer.{ReadAnswer}
-use Rattle.reader.specs.declared.ReadAnswer.TheVariants.{Accepted, Refused}
 use Rattle.reader.specs.declared.Place.{Place}
-use Rattle.reader.specs.declared.Round.{Round}
-use Rattle.reader.specs.declared.Round.TheVariants.{Done, On}
-use Rattle.reader.specs.Read.{place_first, place_after, place_behind, last_set, writes_others, Outcome, stop_at, line_at, on_line, line_round, line_round_after, on_owner, owner_round, on_owner_after, owner_round_after, on_list, list_round, round_at, round_after, on_round, read_from, sheet_read}
+use Rattle.reader.specs.Read.{ReadAnswer, Round, refusal, place_first, place_after, place_behind, last_set, writes_others, Outcome, stop_at, line_at, on_line, line_round, line_round_after, on_owner, owner_round, on_owner_after, owner_round_after, on_list, list_round, round_at, round_after, on_round, read_from, sheet_read}
 
 -- `Place::first` and `Place::after`
 pub first_by : (d : Due) (k : Counts) → d ≡ due_first → k ≡ counts_none → ◌≡◌ {A = Place} (record { due = d; counts = k; at = 0; byte = 0; owner = false; list = false; rest = 0 }) place_first
@@ -55,18 +52,18 @@ stop_after text at r e h = let f = first_is text at LF (omega arith) in omega (a
 
 -- `line`
 module _ (text : Bytes) (n : ℕ) (p : Place) (words : List ℕ) (stop : ℕ) (hs : stop ≡ first_from text p.byte LF) where
-  module _ (r : LineRead) (hr : r ≡ line_read (take (stop - p.byte) (drop p.byte text)) (ltb stop (length text)) p.due.key p.counts words p.at) where
+  module _ (r : Result LineRead Row) (hr : r ≡ line_read (take (stop - p.byte) (drop p.byte text)) (ltb stop (length text)) p.due.key p.counts words p.at) where
     by_line : on_line text n p r ≡ line_round text n p words
     unfolding line_round stop_at line_at
     by_line = rw (hr, hs)
 
-    pub line_fault : (row : ℕ) → r ≡ LineRead.Fault row → Done (Refused row n) ≡ line_round text n p words
+    pub line_fault : (w : Row) → r ≡ Err w → Err (record { row = w; line = n }) ≡ line_round text n p words
     unfolding on_line
-    line_fault row h = rw h at by_line
+    line_fault w h = rw h at by_line
 
-    pub line_on : (number nodes next : ℕ) → r ≡ LineRead.Sound number nodes next → (q : Place) → q ≡ place_after p number nodes next stop → On q ≡ line_round text n p words
+    pub line_on : (x : LineRead) → r ≡ Ok x → (q : Place) → q ≡ place_after p x.number x.nodes x.next stop → Ok (Some q) ≡ line_round text n p words
     unfolding on_line stop_at
-    line_on number nodes next h q hq = rw (hq, hs) (rw h at by_line)
+    line_on x h q hq = rw (hq, hs) (rw h at by_line)
 
   pub line_words_lem : (new : List ℕ) → new ≡ line_after (take (stop - p.byte) (drop p.byte text)) (ltb stop (length text)) p.due.key p.counts words p.at → new ≡ line_round_after text p words
   unfolding line_round_after stop_at line_at
@@ -92,7 +89,7 @@ module _ (at word : ℕ) (old : List ℕ) where
 pub ruleset set_laws = (set_first, set_beyond, set_there)
 
 -- `owner`
-module _ (text : Bytes) (n : ℕ) (p : Place) (words : List ℕ) (stop : ℕ) (hs : stop ≡ first_from text p.byte LF) (r : OwnerRead)
+module _ (text : Bytes) (n : ℕ) (p : Place) (words : List ℕ) (stop : ℕ) (hs : stop ≡ first_from text p.byte LF) (r : Result ℕ Row)
     (hr : r ≡ owner_read (take (stop - p.byte) (drop p.byte text)) (ltb stop (length text))) where
   by_owner : on_owner text n p r ≡ owner_round text n p
   unfolding owner_round stop_at line_at
@@ -102,8 +99,8 @@ module _ (text : Bytes) (n : ℕ) (p : Place) (words : List ℕ) (stop : ℕ) (h
   unfolding owner_round_after stop_at line_at
   by_owner_after = rw (hr, hs)
 
-  module _ (row : ℕ) (h : r ≡ OwnerRead.Fault row) where
-    pub owner_fault_lem : Done (Refused row n) ≡ owner_round text n p
+  module _ (w : Row) (h : r ≡ Err w) where
+    pub owner_fault_lem : Err (record { row = w; line = n }) ≡ owner_round text n p
     unfolding on_owner
     owner_fault_lem = rw h at by_owner
 
@@ -111,8 +108,8 @@ module _ (text : Bytes) (n : ℕ) (p : Place) (words : List ℕ) (stop : ℕ) (h
     unfolding on_owner_after
     owner_stays = rw h at by_owner_after
 
-  module _ (word : ℕ) (h : r ≡ OwnerRead.Sound word) where
-    pub owner_on : (q : Place) → q ≡ place_behind p stop → On q ≡ owner_round text n p
+  module _ (word : ℕ) (h : r ≡ Ok word) where
+    pub owner_on : (q : Place) → q ≡ place_behind p stop → Ok (Some q) ≡ owner_round text n p
     unfolding on_owner stop_at
     owner_on q hq = rw (hq, hs) (rw h at by_owner)
 
@@ -137,38 +134,38 @@ module _ (p : Place) (words : List ℕ) where
 pub ruleset others_laws = (others_early, others_late)
 
 -- `list`
-module _ (text : Bytes) (n : ℕ) (p : Place) (words : List ℕ) (stop : ℕ) (hs : stop ≡ first_from text p.byte LF) (r : WritesRead)
+module _ (text : Bytes) (n : ℕ) (p : Place) (words : List ℕ) (stop : ℕ) (hs : stop ≡ first_from text p.byte LF) (r : Result (Unit {0}) Row)
     (hr : r ≡ told (writes_row (take (stop - p.byte) (drop p.byte text)) (ltb stop (length text)) p.counts.variables p.rest)) where
   by_list : on_list text n p words r ≡ list_round text n p words
   unfolding list_round stop_at line_at
   by_list = rw (hr, hs)
 
-  pub list_fault : (row : ℕ) → r ≡ WritesRead.Fault row → Done (Refused row n) ≡ list_round text n p words
+  pub list_fault : (w : Row) → r ≡ Err w → Err (record { row = w; line = n }) ≡ list_round text n p words
   unfolding on_list
-  list_fault row h = rw h at by_list
+  list_fault w h = rw h at by_list
 
-  module _ (h : r ≡ WritesRead.Sound) (b : Bool) (hb : b ≡ writes_others p words) where
-    sound_list : list_round text n p words ≡ elim b as (λ x. Round) [ true ↦ Done (Refused 51 n) | false ↦ On (place_behind p (stop_at text p)) ]
+  module _ (h : r ≡ Ok tt) (b : Bool) (hb : b ≡ writes_others p words) where
+    sound_list : list_round text n p words ≡ elim b as (λ x. Round) [ true ↦ Err (refusal 51 n) | false ↦ Ok (Some (place_behind p (stop_at text p))) ]
     unfolding on_list
-    sound_list = sym (rw h at by_list) ∙ ap (λ (x : Bool). elim x as (λ y. Round) [ true ↦ Done (Refused 51 n) | false ↦ On (place_behind p (stop_at text p)) ]) (sym hb)
+    sound_list = sym (rw h at by_list) ∙ ap (λ (x : Bool). elim x as (λ y. Round) [ true ↦ Err (refusal 51 n) | false ↦ Ok (Some (place_behind p (stop_at text p))) ]) (sym hb)
 
-    pub list_others : b ≡ true → Done (Refused 51 n) ≡ list_round text n p words
-    list_others e = sym (sound_list ∙ ap (λ (x : Bool). elim x as (λ y. Round) [ true ↦ Done (Refused 51 n) | false ↦ On (place_behind p (stop_at text p)) ]) e)
+    pub list_others : b ≡ true → Err (refusal 51 n) ≡ list_round text n p words
+    list_others e = sym (sound_list ∙ ap (λ (x : Bool). elim x as (λ y. Round) [ true ↦ Err (refusal 51 n) | false ↦ Ok (Some (place_behind p (stop_at text p))) ]) e)
 
-    pub list_on : b ≡ false → (q : Place) → q ≡ place_behind p stop → On q ≡ list_round text n p words
+    pub list_on : b ≡ false → (q : Place) → q ≡ place_behind p stop → Ok (Some q) ≡ list_round text n p words
     unfolding stop_at
-    list_on e q hq = rw (hq, hs) (sym (sound_list ∙ ap (λ (x : Bool). elim x as (λ y. Round) [ true ↦ Done (Refused 51 n) | false ↦ On (place_behind p (stop_at text p)) ]) e))
+    list_on e q hq = rw (hq, hs) (sym (sound_list ∙ ap (λ (x : Bool). elim x as (λ y. Round) [ true ↦ Err (refusal 51 n) | false ↦ Ok (Some (place_behind p (stop_at text p))) ]) e))
 
 pub ruleset list_laws = (list_fault, list_others, list_on)
 
 -- `round`
 module _ (text : Bytes) (n : ℕ) (p : Place) (words : List ℕ) (e : Bool) (he : e ≡ is_end p.due.key) where
   module _ (h : length text ≤ p.byte) where
-    pub round_done : (e && not (p.owner || p.list)) ≡ true → Done Accepted ≡ round_at text n p words
+    pub round_done : (e && not (p.owner || p.list)) ≡ true → Ok None ≡ round_at text n p words
     unfolding round_at
     round_done b = rw (le-leb (length text) p.byte h, ap (λ (x : Bool). x && not (p.owner || p.list)) (sym he) ∙ b, round_at)
 
-    pub round_lacking : (e && not (p.owner || p.list)) ≡ false → Done (Refused 2 n) ≡ round_at text n p words
+    pub round_lacking : (e && not (p.owner || p.list)) ≡ false → Err (refusal 2 n) ≡ round_at text n p words
     unfolding round_at
     round_lacking b = rw (le-leb (length text) p.byte h, ap (λ (x : Bool). x && not (p.owner || p.list)) (sym he) ∙ b, round_at)
 
@@ -179,7 +176,7 @@ module _ (text : Bytes) (n : ℕ) (p : Place) (words : List ℕ) (e : Bool) (he 
   module _ (h : p.byte < length text) where
     -- what is due decides
     abbrev on_key : Bool → Round
-    on_key b = elim b as (λ x. Round) [ true ↦ Done (Refused 2 n) | false ↦ line_round text n p words ]
+    on_key b = elim b as (λ x. Round) [ true ↦ Err (refusal 2 n) | false ↦ line_round text n p words ]
 
     abbrev on_behind : (owner list : Bool) → Round
     on_behind o l = elim o as (λ x. Round) [ true ↦ owner_round text n p | false ↦ elim l as (λ x. Round) [ true ↦ list_round text n p words | false ↦ on_key (is_end p.due.key) ] ]
@@ -220,7 +217,7 @@ module _ (text : Bytes) (n : ℕ) (p : Place) (words : List ℕ) (e : Bool) (he 
         no_list : round_at text n p words ≡ on_key e
         no_list = no_owner ∙ ap (on_behind false) d ∙ ap on_key (sym he)
 
-        pub round_extra : e ≡ true → Done (Refused 2 n) ≡ round_at text n p words
+        pub round_extra : e ≡ true → Err (refusal 2 n) ≡ round_at text n p words
         round_extra b = sym (no_list ∙ ap on_key b)
 
         pub round_stays : e ≡ true → words ≡ round_after text p words
@@ -240,37 +237,47 @@ module _ (text : Bytes) where
   unfolding sheet_read
   sheet_first words p h = ap (λ (x : Place). read_from text (max_bytes + 1) 1 x words) h
 
-  module _ (left n : ℕ) (p : Place) (words : List ℕ) (whole : Outcome) (inv : read_from text left n p words ≡ whole) where
-    pub spent_answer : left ≡ 0 → Refused 2 0 ≡ whole.answer
+  module _ (n : ℕ) (p : Place) (words : List ℕ) (whole : Outcome) (inv : read_from text (65538 - n) n p words ≡ whole) where
+    pub spent_answer : 65538 ≤ n → Err (refusal 2 0) ≡ whole.answer
     unfolding read_from
-    spent_answer z = ap (λ (o : Outcome). o.answer) (rw z at inv)
+    spent_answer z =
+        let e : 65538 - n ≡ 0 = omega arith in
+        ap (λ (o : Outcome). o.answer) (rw e at inv)
 
-    pub spent_words : left ≡ 0 → words ≡ whole.words
+    pub spent_words : 65538 ≤ n → words ≡ whole.words
     unfolding read_from
-    spent_words z = ap (λ (o : Outcome). o.words) (rw z at inv)
+    spent_words z =
+        let e : 65538 - n ≡ 0 = omega arith in
+        ap (λ (o : Outcome). o.words) (rw e at inv)
 
-    module _ (z : left ≡ 0 → ⊥) (r : Round) (hr : r ≡ round_at text n p words) (new : List ℕ) (hn : new ≡ round_after text p words) where
-      on : on_round text (read_from text (left - 1) (n + 1)) r new ≡ whole
+    module _ (z : n < 65538) (new : List ℕ) (hn : new ≡ round_after text p words) where
+      on : (r : Round) → r ≡ round_at text n p words → on_round text (read_from text (65538 - (n + 1)) (n + 1)) r new ≡ whole
       unfolding read_from
-      on = go left z inv
-        where
-          go : (m : ℕ) → (m ≡ 0 → ⊥) → read_from text m n p words ≡ whole → on_round text (read_from text (m - 1) (n + 1)) r new ≡ whole
-          go zero u i = absurd (u refl)
-          go (suc m) u i = rw (sub-one (suc m), hr, hn) i
+      on r hr =
+          let e : 65538 - n ≡ suc (65538 - (n + 1)) = omega arith in
+          rw (hr, hn) (rw e at inv)
 
-      pub done_answer : (a : ReadAnswer) → r ≡ Done a → a ≡ whole.answer
+      pub broken_answer : (e : Refusal) → Err e ≡ round_at text n p words → Err e ≡ whole.answer
       unfolding on_round
-      done_answer a h = ap (λ (o : Outcome). o.answer) (rw h at on)
+      broken_answer e h = ap (λ (o : Outcome). o.answer) (on (Err e) h)
 
-      pub done_words : (a : ReadAnswer) → r ≡ Done a → new ≡ whole.words
+      pub broken_words : (e : Refusal) → Err e ≡ round_at text n p words → new ≡ whole.words
       unfolding on_round
-      done_words a h = ap (λ (o : Outcome). o.words) (rw h at on)
+      broken_words e h = ap (λ (o : Outcome). o.words) (on (Err e) h)
 
-      pub sheet_on : (q : Place) → r ≡ On q → read_from text (left - 1) (n + 1) q new ≡ whole
+      pub done_answer : Ok None ≡ round_at text n p words → Ok tt ≡ whole.answer
       unfolding on_round
-      sheet_on q h = rw h at on
+      done_answer h = ap (λ (o : Outcome). o.answer) (on (Ok None) h)
 
-pub ruleset sheet_laws = (sheet_first, spent_answer, spent_words, done_answer, done_words, sheet_on)
+      pub done_words : Ok None ≡ round_at text n p words → new ≡ whole.words
+      unfolding on_round
+      done_words h = ap (λ (o : Outcome). o.words) (on (Ok None) h)
+
+      pub sheet_on : (q : Place) → Ok (Some q) ≡ round_at text n p words → read_from text (65538 - (n + 1)) (n + 1) q new ≡ whole
+      unfolding on_round
+      sheet_on q h = on (Ok (Some q)) h
+
+pub ruleset sheet_laws = (sheet_first, spent_answer, spent_words)
 
 -- the buffer keeps its length
 line_round_kept : (text : Bytes) (p : Place) (words : List ℕ) → length (line_round_after text p words) ≡ length words
@@ -290,9 +297,9 @@ owner_round_kept : (text : Bytes) (p : Place) (words : List ℕ) → length (own
 unfolding owner_round_after on_owner_after
 owner_round_kept text p words = go (owner_read (line_at text p) (ltb (stop_at text p) (length text)))
   where
-    go : (r : OwnerRead) → length (on_owner_after text p words r) ≡ length words
-    go (OwnerRead.Fault row) = refl
-    go (OwnerRead.Sound word) = last_kept p.at word words
+    go : (r : Result ℕ Row) → length (on_owner_after text p words r) ≡ length words
+    go (Err w) = refl
+    go (Ok word) = last_kept p.at word words
 
 round_kept : (text : Bytes) (p : Place) (words : List ℕ) → length (round_after text p words) ≡ length words
 unfolding round_after
@@ -307,8 +314,9 @@ round_kept text p words = go (leb (length text) p.byte) p.owner (is_end p.due.ke
 
 on_kept : (text : Bytes) (go : Place → List ℕ → Outcome) → ((q : Place) (ws : List ℕ) → length (go q ws).words ≡ length ws) → (r : Round) (new : List ℕ) → length (on_round text go r new).words ≡ length new
 unfolding on_round
-on_kept text go h (Done a) new = refl
-on_kept text go h (On q) new = h q new
+on_kept text go h (Ok None) new = refl
+on_kept text go h (Ok (Some q)) new = h q new
+on_kept text go h (Err e) new = refl
 
 read_kept : (text : Bytes) (left n : ℕ) (p : Place) (words : List ℕ) → length (read_from text left n p words).words ≡ length words
 unfolding read_from

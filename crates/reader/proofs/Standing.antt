@@ -42,11 +42,9 @@ use Rattle.text_bytes.specs.Find.{first_from}
 use Rattle.text_bytes.proofs.FindLaws.{find_after, lines_found, lines_ended, lines_none}
 use Rattle.table_append.specs.Append.{next_place}
 use Rattle.read_form.specs.Form.{line_of}
-use Rattle.reader.specs.declared.ReadAnswer.{ReadAnswer}
-use Rattle.reader.specs.declared.ReadAnswer.TheVariants.{Accepted, Refused}
+use Rattle.std.specs.Prelude.{Ok, Err}
 use Rattle.reader.specs.declared.Place.{Place}
-use Rattle.reader.specs.declared.Round.TheVariants.{Done, On}
-use Rattle.reader.specs.Read.{read_of, Outcome, outcome, stop_at, line_at, round_at, round_after, on_round, read_from}
+use Rattle.reader.specs.Read.{ReadAnswer, refusal, going, done, read_of, Outcome, outcome, stop_at, line_at, round_at, round_after, on_round, read_from}
 use Rattle.reader.proofs.Filling.{filled, filled_length, filled_first}
 
 -- so many variables are declared, and at a variable's line more are to come, but not too many
@@ -257,11 +255,12 @@ end_is = refl
 
 -- a round that ends, and one that goes on
 module _ (text : Bytes) (left n : ℕ) (p : Place) (words new : List ℕ) (w : round_after text p words ≡ new) where
-  pub round_ends : (a : ReadAnswer) → round_at text n p words ≡ Done a → read_from text (suc left) n p words ≡ outcome a new
+  pub round_ends : (a : ReadAnswer) → round_at text n p words ≡ done a → read_from text (suc left) n p words ≡ outcome a new
   unfolding read_from on_round
-  round_ends a h = rw (h, w)
+  round_ends (Ok t) h = rw (h, w)
+  round_ends (Err e) h = rw (h, w)
 
-  pub round_goes : (q : Place) → round_at text n p words ≡ On q → read_from text (suc left) n p words ≡ read_from text left (n + 1) q new
+  pub round_goes : (q : Place) → round_at text n p words ≡ going q → read_from text (suc left) n p words ≡ read_from text left (n + 1) q new
   unfolding read_from on_round
   round_goes q h = rw (h, w)
 
@@ -271,12 +270,12 @@ unfolding line_at
 line_short text p h = omega (arith, length-take (stop_at text p - p.byte) (drop p.byte text), length-drop p.byte text)
 
 -- what the rounds come to where nothing more is read
-pub ends_accepted : (r : Reading) (n : ℕ) (stream words : List ℕ) → words ≡ filled stream → Ends nothing r [] n [] stream (outcome Accepted words)
+pub ends_accepted : (r : Reading) (n : ℕ) (stream words : List ℕ) → words ≡ filled stream → Ends nothing r [] n [] stream (outcome (Ok tt) words)
 unfolding Reader.read read_of flat_map
 ends_accepted r n stream words f =
     record { answer = refl; words = λ m h. let e : r.model ≡ m = cc in ([], e, f ∙ ap filled (sym (append-nil stream))) }
 
-pub ends_refused : (b : Behind) (r : Reading) (ks : List LineKey) (n : ℕ) (ls : List Line) (row : ℕ) (stream words : List ℕ) → Reader.read b r ks n ls ≡ refused row n → Ends b r ks n ls stream (outcome (Refused row n) words)
+pub ends_refused : (b : Behind) (r : Reading) (ks : List LineKey) (n : ℕ) (ls : List Line) (row : ℕ) (stream words : List ℕ) → Reader.read b r ks n ls ≡ refused row n → Ends b r ks n ls stream (outcome (Err (refusal row n)) words)
 unfolding read_of
 ends_refused b r ks n ls row stream words e =
     record { answer = ap read_of (sym e); words = λ m h. absurd (no_refusal row n m (sym e ∙ h)) }

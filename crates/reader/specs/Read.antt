@@ -1,7 +1,9 @@
 -- What the reader answers, line by line, and what it leaves in the lent table. It is what `read_answer` and
 -- `table_after` say: the laws answer_exact and after_exact.
 use Rattle.std.specs.Prelude.{ℕ, zero, suc, ◌+◌, ◌-◌, Bool, true, false, not, ◌&&◌, ◌||◌, List, ◌++◌, length, take}
-use Rattle.std.specs.Prelude.{drop, set, replicate, eqb, leb, ltb}
+use Rattle.std.specs.Prelude.{drop, set, replicate, eqb, leb, ltb, Option, Some, None, Result, Ok, Err}
+use Rattle.model.specs.declared.Row.{Row}
+use Rattle.model.specs.Row.{row}
 use Rattle.model.specs.Bounds.{max_bytes, table_words, owners_format}
 use Rattle.model.specs.Table.{row18}
 use Rattle.line_order.specs.Due.{is_end, is_listed, is_owned, due_first, due_after}
@@ -14,20 +16,22 @@ use Rattle.table_line.specs.Line.{ranges_in}
 use Rattle.table_owners.specs.Owners.{foreign_in}
 use Rattle.read_form.specs.declared.LineRead.{LineRead}
 use Rattle.read_line.specs.Line.{line_read, line_after}
-use Rattle.read_owner_line.specs.declared.OwnerRead.{OwnerRead}
 use Rattle.read_owner_line.specs.Owner.{owner_read}
-use Rattle.read_writes_line.specs.declared.WritesRead.{WritesRead}
 use Rattle.read_writes_line.specs.Writes.{told, writes_row}
-use Rattle.reader.specs.declared.ReadAnswer.{ReadAnswer}
-use Rattle.reader.specs.declared.ReadAnswer.TheVariants.{Accepted, Refused}
+use Rattle.reader.specs.declared.Refusal.{Refusal}
 use Rattle.reader.specs.declared.Place.{Place}
-use Rattle.reader.specs.declared.Round.{Round}
-use Rattle.reader.specs.declared.Round.TheVariants.{Done, On}
+
+-- what reading a text answers
+abbrev pub ReadAnswer : Type 0
+ReadAnswer = Result (Unit {0}) Refusal
+
+abbrev pub refusal : (n line : ℕ) → Refusal
+refusal n line = record { row = row n; line = line }
 
 -- what each answer of the definitions is as the function gives it
 unfoldable pub read_of : Reader.ReadAnswer → ReadAnswer
-read_of (Reader.refused row line) = Refused row line
-read_of (Reader.accepted m) = Accepted
+read_of (Reader.refused n line) = Err (refusal n line)
+read_of (Reader.accepted m) = Ok tt
 
 unfoldable pub place_first : Place
 place_first = record { due = due_first; counts = counts_none; at = 0; byte = 0; owner = false; list = false; rest = 0 }
@@ -66,6 +70,17 @@ writes_others p words =
       | false ↦ foreign_in (ranges_in words p.counts.variables) p.counts.automata p.rest
     ]
 
+-- what a round comes to: the place to read on from, or none where all was read; or why the text is refused
+abbrev pub Round : Type 0
+Round = Result (Option Place) Refusal
+
+abbrev pub going : Place → Round
+going p = Ok (Some p)
+
+abbrev pub done : ReadAnswer → Round
+done (Ok t) = Ok None
+done (Err e) = Err e
+
 -- the answer, and the buffer with the words of the lines so far
 pub record Outcome : Type 0 where
   pub answer : ReadAnswer
@@ -83,9 +98,9 @@ module _ (text : Bytes) where
   line_at p = take (stop_at p - p.byte) (drop p.byte text)
 
   -- what the line at a place comes to, by its number, and the buffer then
-  unfoldable pub on_line : (line : ℕ) → Place → LineRead → Round
-  on_line line p (LineRead.Fault row) = Done (Refused row line)
-  on_line line p (LineRead.Sound number nodes next) = On (place_after p number nodes next (stop_at p))
+  unfoldable pub on_line : (line : ℕ) → Place → Result LineRead Row → Round
+  on_line line p (Err r) = Err (record { row = r; line = line })
+  on_line line p (Ok x) = going (place_after p x.number x.nodes x.next (stop_at p))
 
   unfoldable pub line_round : (line : ℕ) → Place → List ℕ → Round
   line_round line p words =
@@ -95,25 +110,25 @@ module _ (text : Bytes) where
   line_round_after p words = line_after (line_at p) (ltb (stop_at p) (length text)) p.due.key p.counts words p.at
 
   -- what the owner at a place comes to, and the buffer then
-  unfoldable pub on_owner : (line : ℕ) → Place → OwnerRead → Round
-  on_owner line p (OwnerRead.Fault row) = Done (Refused row line)
-  on_owner line p (OwnerRead.Sound word) = On (place_behind p (stop_at p))
+  unfoldable pub on_owner : (line : ℕ) → Place → Result ℕ Row → Round
+  on_owner line p (Err r) = Err (record { row = r; line = line })
+  on_owner line p (Ok word) = going (place_behind p (stop_at p))
 
   unfoldable pub owner_round : (line : ℕ) → Place → Round
   owner_round line p = on_owner line p (owner_read (line_at p) (ltb (stop_at p) (length text)))
 
-  unfoldable pub on_owner_after : Place → List ℕ → OwnerRead → List ℕ
-  on_owner_after p words (OwnerRead.Fault row) = words
-  on_owner_after p words (OwnerRead.Sound word) = last_set p.at word words
+  unfoldable pub on_owner_after : Place → List ℕ → Result ℕ Row → List ℕ
+  on_owner_after p words (Err r) = words
+  on_owner_after p words (Ok word) = last_set p.at word words
 
   unfoldable pub owner_round_after : Place → List ℕ → List ℕ
   owner_round_after p words = on_owner_after p words (owner_read (line_at p) (ltb (stop_at p) (length text)))
 
   -- what the list at a place comes to: its own rows, and then row 51
-  unfoldable pub on_list : (line : ℕ) → Place → List ℕ → WritesRead → Round
-  on_list line p words (WritesRead.Fault row) = Done (Refused row line)
-  on_list line p words WritesRead.Sound =
-      elim (writes_others p words) [ true ↦ Done (Refused 51 line) | false ↦ On (place_behind p (stop_at p)) ]
+  unfoldable pub on_list : (line : ℕ) → Place → List ℕ → Result (Unit {0}) Row → Round
+  on_list line p words (Err r) = Err (record { row = r; line = line })
+  on_list line p words (Ok t) =
+      elim (writes_others p words) [ true ↦ Err (refusal 51 line) | false ↦ going (place_behind p (stop_at p)) ]
 
   unfoldable pub list_round : (line : ℕ) → Place → List ℕ → Round
   list_round line p words =
@@ -126,8 +141,8 @@ module _ (text : Bytes) where
       elim (leb (length text) p.byte) [
         | true ↦
             elim (is_end p.due.key && not (p.owner || p.list)) [
-              | true ↦ Done Accepted
-              | false ↦ Done (Refused 2 line)
+              | true ↦ Ok None
+              | false ↦ Err (refusal 2 line)
             ]
         | false ↦
             elim p.owner [
@@ -136,7 +151,7 @@ module _ (text : Bytes) where
                   elim p.list [
                     | true ↦ list_round line p words
                     | false ↦
-                        elim (is_end p.due.key) [ true ↦ Done (Refused 2 line) | false ↦ line_round line p words ]
+                        elim (is_end p.due.key) [ true ↦ Err (refusal 2 line) | false ↦ line_round line p words ]
                   ]
             ]
       ]
@@ -154,11 +169,12 @@ module _ (text : Bytes) where
 
   -- from a place on, at most so many rounds; `go` reads on
   unfoldable pub on_round : (go : Place → List ℕ → Outcome) → Round → List ℕ → Outcome
-  on_round go (Done a) words = outcome a words
-  on_round go (On q) words = go q words
+  on_round go (Ok None) words = outcome (Ok tt) words
+  on_round go (Ok (Some q)) words = go q words
+  on_round go (Err e) words = outcome (Err e) words
 
   unfoldable pub read_from : (left line : ℕ) → Place → List ℕ → Outcome
-  read_from zero line p words = outcome (Refused 2 0) words
+  read_from zero line p words = outcome (Err (refusal 2 0)) words
   read_from (suc n) line p words =
       on_round (λ q ws. read_from n (line + 1) q ws) (round_at line p words) (round_after p words)
 
@@ -172,7 +188,7 @@ stored words table =
     elim (leb (length words) (length table)) [ true ↦ words ++ drop (length words) table | false ↦ table ]
 
 unfoldable pub stored_if : Outcome → List ℕ → List ℕ
-stored_if o table = elim o.answer [ Accepted ↦ stored o.words table | Refused row line ↦ table ]
+stored_if o table = elim o.answer [ Ok t ↦ stored o.words table | Err e ↦ table ]
 
 -- the table that reading begins with
 abbrev pub blank : List ℕ
@@ -181,8 +197,8 @@ blank = replicate table_words 0
 unfoldable pub read_to : Bytes → List ℕ → ReadAnswer
 read_to text table =
     elim (row18 (length table)) [
-      | true ↦ Refused 18 0
-      | false ↦ elim (row1 text) [ true ↦ Refused 1 0 | false ↦ (sheet_read text blank).answer ]
+      | true ↦ Err (refusal 18 0)
+      | false ↦ elim (row1 text) [ true ↦ Err (refusal 1 0) | false ↦ (sheet_read text blank).answer ]
     ]
 
 unfoldable pub read_after : Bytes → List ℕ → List ℕ

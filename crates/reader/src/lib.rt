@@ -8,14 +8,21 @@ ghost use Rattle.std.specs.Prelude.{◌≡◌, length};
 ghost use Rattle.format.specs.Reader.{read_answer, table_after};
 ghost use Rattle.reader.specs.Read.{read_of};
 
-use model::Model;
-pub use writer::{WriteAnswer, write};
+use model::{Model, Row};
+use std::fmt;
+pub use writer::write;
 
-// Refused has the row and the line; the line is 0 where the row is 18 or 1.
-#[derive(Clone, Copy)]
-pub enum ReadAnswer {
-    Accepted,
-    Refused(u32, usize),
+// Why a text is refused: the row, and the line, which is 0 where the row is 18 or 1.
+#[derive(Clone, Copy, Debug, PartialEq, Eq)]
+pub struct Refusal {
+    pub row: Row,
+    pub line: usize,
+}
+
+impl fmt::Display for Refusal {
+    fn fmt<W: fmt::Write>(&self, f: &mut fmt::Formatter<W>) -> fmt::Result {
+        write!(f, "{}, line {}", self.row, self.line)
+    }
 }
 
 // Where the reader stands: the key that is due with what comes after it, what was counted, the place of the next word
@@ -33,31 +40,25 @@ pub struct Place {
     pub rest: usize,
 }
 
-// After a round: the answer, or where to read on.
-#[derive(Clone, Copy)]
-pub enum Round {
-    Done(ReadAnswer),
-    On(Place),
-}
-
 // Reads a text into the table's first words. A refused text leaves the table as it was.
-pub fn read(text: &[u8], table: &mut [u32]) -> ReadAnswer
+pub fn read(text: &[u8], table: &mut [u32]) -> Result<(), Refusal>
     ensures { (result ≡ read_of (read_answer text.now (length table.old)))
         × (table.new ≡ table_after text.now table.old) }
 {
     if table.len() < Model::WORDS {
-        return ReadAnswer::Refused(18, 0);
+        return Err(Refusal {
+            row: Row(18),
+            line: 0,
+        });
     }
     if Model::BYTES < text.len() {
-        return ReadAnswer::Refused(1, 0);
+        return Err(Refusal {
+            row: Row(1),
+            line: 0,
+        });
     }
     let mut words = [0u32; Model::WORDS];
-    let answer = sheet::sheet(text, &mut words);
-    match answer {
-        ReadAnswer::Accepted => {
-            store::store(&words, table);
-            ReadAnswer::Accepted
-        }
-        ReadAnswer::Refused(row, line) => ReadAnswer::Refused(row, line),
-    }
+    sheet::sheet(text, &mut words)?;
+    store::store(&words, table);
+    Ok(())
 }

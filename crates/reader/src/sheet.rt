@@ -5,14 +5,23 @@ ghost use Rattle.format.specs.Bytes.{LF};
 ghost use Rattle.text_bytes.specs.Find.{first_from};
 ghost use Rattle.reader.specs.Read.{place_first, place_after, place_behind, line_round, line_round_after, last_set};
 ghost use Rattle.reader.specs.Read.{owner_round, owner_round_after, writes_others, list_round, round_at, round_after};
-ghost use Rattle.reader.specs.Read.{sheet_read};
+ghost use Rattle.reader.specs.Read.{sheet_read, refusal};
 
-use crate::{Place, ReadAnswer, Round};
+use crate::{Place, Refusal};
 use line_order::{Counts, Due};
-use model::Model;
-use read_line::LineRead;
-use read_owner_line::OwnerRead;
-use read_writes_line::WritesRead;
+use model::{Model, Row};
+
+// After a round: where to read on, or nothing where all was read; or why the text is refused.
+type Round = Result<Option<Place>, Refusal>;
+
+fn refused(row: u32, line: usize) -> Round
+    ensures { result ≡ Err (refusal row line) }
+{
+    Err(Refusal {
+        row: Row(row),
+        line,
+    })
+}
 
 impl Place {
     fn first() -> Place
@@ -53,17 +62,12 @@ impl Place {
         requires { stop ≤ max_bytes }
         ensures { result ≡ place_behind self stop }
     {
-        let due = self.due;
-        let counts = self.counts;
-        let at = self.at;
         Place {
-            due,
-            counts,
-            at,
             byte: stop + 1,
             owner: false,
             list: false,
             rest: 0,
+            ..self
         }
     }
 }
@@ -89,10 +93,9 @@ fn line(text: &[u8], number: usize, place: Place, words: &mut [u32; Model::WORDS
     let key = due.key;
     let stop = stop_from(text, byte);
     let ended = stop < text.len();
-    let read = read_line::read(&text[byte..stop], ended, key, counts, words, at);
-    match read {
-        LineRead::Fault(row) => Round::Done(ReadAnswer::Refused(row, number)),
-        LineRead::Sound(count, nodes, next) => Round::On(place.after(count, nodes, next, stop)),
+    match read_line::read(&text[byte..stop], ended, key, counts, words, at) {
+        Ok(line) => Ok(Some(place.after(line.number, line.nodes, line.next, stop))),
+        Err(row) => Err(Refusal { row, line: number }),
     }
 }
 
@@ -120,13 +123,12 @@ fn owner(text: &[u8], number: usize, place: Place, words: &mut [u32; Model::WORD
     let at = place.at;
     let stop = stop_from(text, byte);
     let ended = stop < text.len();
-    let read = read_owner_line::read(&text[byte..stop], ended);
-    match read {
-        OwnerRead::Fault(row) => Round::Done(ReadAnswer::Refused(row, number)),
-        OwnerRead::Sound(word) => {
+    match read_owner_line::read(&text[byte..stop], ended) {
+        Ok(word) => {
             set_last(words, at, word);
-            Round::On(place.behind(stop))
+            Ok(Some(place.behind(stop)))
         }
+        Err(row) => Err(Refusal { row, line: number }),
     }
 }
 
@@ -156,14 +158,13 @@ fn list(text: &[u8], number: usize, place: Place, words: &[u32; Model::WORDS]) -
     let variables = counts.variables;
     let stop = stop_from(text, byte);
     let ended = stop < text.len();
-    let read = read_writes_line::read(&text[byte..stop], ended, variables, rest);
-    if let WritesRead::Fault(row) = read {
-        return Round::Done(ReadAnswer::Refused(row, number));
+    if let Err(row) = read_writes_line::read(&text[byte..stop], ended, variables, rest) {
+        return Err(Refusal { row, line: number });
     }
     if writes_others(place, words) {
-        return Round::Done(ReadAnswer::Refused(51, number));
+        return refused(51, number);
     }
-    Round::On(place.behind(stop))
+    Ok(Some(place.behind(stop)))
 }
 
 // One round: no line is left, or none is due, or an owner, a list or a line is read.
@@ -180,9 +181,9 @@ fn round(text: &[u8], number: usize, place: Place, words: &mut [u32; Model::WORD
     let listed = place.list;
     if text.len() <= byte {
         if end & !(owned | listed) {
-            return Round::Done(ReadAnswer::Accepted);
+            return Ok(None);
         }
-        return Round::Done(ReadAnswer::Refused(2, number));
+        return refused(2, number);
     }
     if owned {
         return owner(text, number, place, words);
@@ -191,33 +192,27 @@ fn round(text: &[u8], number: usize, place: Place, words: &mut [u32; Model::WORD
         return list(text, number, place, words);
     }
     if end {
-        return Round::Done(ReadAnswer::Refused(2, number));
+        return refused(2, number);
     }
     line(text, number, place, words)
 }
 
 // The text's lines into `words`, one after the other.
-pub(crate) fn sheet(text: &[u8], words: &mut [u32; Model::WORDS]) -> ReadAnswer
+pub(crate) fn sheet(text: &[u8], words: &mut [u32; Model::WORDS]) -> Result<(), Refusal>
     requires { length text.now ≤ max_bytes }
     ensures { (result ≡ (sheet_read text.now words.old).answer)
         × (words.new ≡ (sheet_read text.now words.old).words) }
 {
     let mut place = Place::first();
     // Each line takes a byte at least, so the text has been read before the rounds are over; the last finds the end.
-    let mut left = Model::BYTES + 1;
-    let mut number: usize = 1;
-    while left != 0 {
-        let next = round(text, number, place, words);
-        match next {
-            Round::Done(answer) => {
-                return answer;
-            }
-            Round::On(later) => {
-                place = later;
-            }
+    for number in 1..Model::BYTES + 2 {
+        match round(text, number, place, words)? {
+            Some(later) => place = later,
+            None => return Ok(()),
         }
-        left -= 1;
-        number += 1;
     }
-    ReadAnswer::Refused(2, 0)
+    Err(Refusal {
+        row: Row(2),
+        line: 0,
+    })
 }

@@ -9,9 +9,5 @@ pub(crate) fn store(words: &[u32], table: &mut [u32])
     if table.len() < words.len() {
         return;
     }
-    let mut i = 0;
-    while i < words.len() {
-        table[i] = words[i];
-        i += 1;
-    }
+    table[..words.len()].copy_from_slice(words);
 }

@@ -1,13 +1,11 @@
--- Each way out of the code of src/append.rt.
-use Prim.Native.Nat.{ℕ, ◌+◌, ◌-◌, ◌≤◌, ◌<◌}
-use mathlib.Core.Path.{◌≡◌, refl, sym, ◌∙◌, ap}
+-- Words put into a buffer, and the place after them.
+use Prim.Native.Nat.{ℕ, ◌+◌, ◌≤◌, ◌<◌}
+use mathlib.Core.Path.{◌≡◌, refl, ◌∙◌}
 use mathlib.Core.Bool.{Bool, true, false}
 use mathlib.Core.List.{List, [], ◌∷◌}
 use native.Mathlib.Omega.{arith}
-use native.Mathlib.Numerals.{add-one}
 use borrow.Author.Tests.{le-leb, lt-leb, lt-ltb, le-ltb, leb-true}
-use lib.ListN.{length, get_or, take, drop, set, length-set, length-take, drop_of_length-le}
-use lib.Seq.{drop-cons, get_or-take}
+use lib.ListN.{length, set, length-set}
 use lib.Dec.{leb, ltb}
 use Rattle.model.specs.Bounds.{table_words}
 use Rattle.table_append.specs.Append.{next_place, put}
@@ -53,50 +51,3 @@ unfolding put
 one_put at w old h = rw (lt-ltb at table_words h, put)
 
 pub ruleset one_laws = (put_past, next_past, one_next, one_put)
-
--- `append`: what is left of the words goes into the buffer as it is now
-module _ (from : List ℕ) (n at i : ℕ) (now whole : List ℕ) (inv : put (at + i) (drop i (take n from)) now ≡ whole) (low : i ≤ n) (have : i ≤ length from) (room : at + i ≤ table_words) where
-  size : length (take n from) ≤ n
-  size = omega (arith, length-take n from)
-
-  module _ (end : length from ≤ i) where
-    pub from_out : now ≡ whole
-    unfolding put
-    from_out = rw (drop_of_length-le (take n from) {i = i} (omega (arith, length-take n from))) at inv
-
-    pub from_next : at + i ≡ next_place at (length (take n from))
-    from_next = let e : length (take n from) ≡ i = omega (arith, length-take n from) in rw e (next_in at i room)
-
-  module _ (end : n ≤ i) where
-    pub count_out : now ≡ whole
-    unfolding put
-    count_out = rw (drop_of_length-le (take n from) {i = i} (omega (arith, length-take n from))) at inv
-
-    pub count_next : at + i ≡ next_place at (length (take n from))
-    count_next = let e : length (take n from) ≡ i = omega (arith, length-take n from) in rw e (next_in at i room)
-
-  module _ (more : i < n) (there : i < length from) where
-    front : drop i (take n from) ≡ get_or from i 0 ∷ drop (i + 1) (take n from)
-    front = drop-cons (take n from) i 0 (omega (arith, length-take n from)) ∙ rw (get_or-take n from i 0 more, add-one i)
-
-    module _ (full : table_words - at ≤ i) where
-      pub room_out : now ≡ whole
-      room_out = put_past (drop i (take n from)) (at + i) now (omega arith) ∙ inv
-
-      pub room_next : table_words ≡ next_place at (length (take n from))
-      room_next = next_over at (length (take n from)) (omega (arith, length-take n from))
-
-    module _ (free : i < table_words - at) where
-      pub append_on : put (at + (i + 1)) (drop (i + 1) (take n from)) (set now (at + i) (get_or from i 0)) ≡ whole
-      unfolding put
-      append_on =
-          let z : at + i + 1 ≡ at + (i + 1) = omega arith in
-          let k : at + i < table_words = omega arith in
-          let step : put (at + i) (get_or from i 0 ∷ drop (i + 1) (take n from)) now ≡ put (at + (i + 1)) (drop (i + 1) (take n from)) (set now (at + i) (get_or from i 0)) =
-          rw (lt-ltb (at + i) table_words k, z, put) in
-          sym step ∙ ap (λ (l : List ℕ). put (at + i) l now) (sym front) ∙ inv
-
-pub append_first : (from : List ℕ) (n at : ℕ) (old : List ℕ) → put (at + 0) (drop 0 (take n from)) old ≡ put at (take n from) old
-append_first from n at old = let z : at + 0 ≡ at = omega arith in rw z
-
-pub ruleset append_laws = (put_past, next_past, from_out, from_next, count_out, count_next, room_out, room_next, append_on, append_first)

@@ -7,6 +7,7 @@ ghost use Rattle.table_append.specs.Append.{next_place, put};
 use model::Model;
 
 // One word.
+#[tactic(auto, using(crate::proofs::AppendLaws::one_laws))]
 pub fn append_one(words: &mut [u32; Model::WORDS], at: usize, word: u32) -> usize
     ensures { (result ≡ next_place at 1) × (words.new ≡ put at (word ∷ []) words.old) }
 {
@@ -18,6 +19,7 @@ pub fn append_one(words: &mut [u32; Model::WORDS], at: usize, word: u32) -> usiz
 }
 
 // Two words.
+#[tactic(auto, using(crate::proofs::Joined::two_laws))]
 pub fn append_two(words: &mut [u32; Model::WORDS], at: usize, first: u32, second: u32) -> usize
     ensures { (result ≡ next_place at 2) × (words.new ≡ put at (first ∷ second ∷ []) words.old) }
 {
@@ -30,19 +32,8 @@ pub fn append(words: &mut [u32; Model::WORDS], at: usize, from: &[u32], n: usize
     ensures { (result ≡ next_place at (length (take n from.now)))
         × (words.new ≡ put at (take n from.now) words.old) }
 {
-    if Model::WORDS <= at {
-        return Model::WORDS;
-    }
-    let mut i = 0;
-    while i < n {
-        if from.len() <= i {
-            return at + i;
-        }
-        if Model::WORDS - at <= i {
-            return Model::WORDS;
-        }
-        words[at + i] = from[i];
-        i += 1;
-    }
-    at + i
+    let at = at.min(Model::WORDS);
+    let n = n.min(from.len()).min(Model::WORDS - at);
+    words[at..at + n].copy_from_slice(&from[..n]);
+    at + n
 }

@@ -39,7 +39,8 @@ use Rattle.line_order.proofs.KeyLaws.{named, no_end}
 use Rattle.line_order.proofs.DueLaws.{due_first_lem, format_first, format_after, due_key, due_line, due_end, end_due, due_after_lem}
 use Rattle.line_order.proofs.CountsLaws.{paced_first, paced_after, paced_room, counted_first, counted_after, begun_first, begun_at, begun_after}
 use Rattle.table_line.specs.declared.Line.{Line}
-use Rattle.table_line.specs.declared.Line.TheVariants.{Sound, Bad}
+use Rattle.std.specs.Prelude.{Option as Choice, Some, None}
+use Rattle.table_line.specs.Line.{a_line}
 use Rattle.table_check.specs.declared.Scan.{Scan}
 use Rattle.table_line.specs.Exact.{Declared, LineAt, LineExact}
 use Rattle.table_check.specs.Scan.{scan_first, scan_after, zeros_from, scanned, scanned_sheet}
@@ -58,16 +59,16 @@ are_zeros zero = refl
 are_zeros (suc n) = are_zeros n
 
 -- a round of the scan: at the end, after a sound line, after a bad one
-module _ (line : ℕ → Key → Counts → Line) (fuel : ℕ) (s : Scan) where
+module _ (line : ℕ → Key → Counts → Choice Line) (fuel : ℕ) (s : Scan) where
   pub scanned_end : is_end s.due.key ≡ true → scanned line (suc fuel) s ≡ some s.at
   unfolding scanned
   scanned_end h = rw (h, scanned)
 
-  pub scanned_sound : (number nodes next : ℕ) → is_end s.due.key ≡ false → line s.at s.due.key s.counts ≡ Sound number nodes next → scanned line (suc fuel) s ≡ scanned line fuel (scan_after s number nodes next)
+  pub scanned_sound : (number nodes next : ℕ) → is_end s.due.key ≡ false → line s.at s.due.key s.counts ≡ a_line number nodes next → scanned line (suc fuel) s ≡ scanned line fuel (scan_after s number nodes next)
   unfolding scanned
   scanned_sound number nodes next h e = rw (h, e, scanned)
 
-  pub scanned_bad : is_end s.due.key ≡ false → line s.at s.due.key s.counts ≡ Bad → scanned line (suc fuel) s ≡ none
+  pub scanned_bad : is_end s.due.key ≡ false → line s.at s.due.key s.counts ≡ None → scanned line (suc fuel) s ≡ none
   unfolding scanned
   scanned_bad h e = rw (h, e, scanned)
 
@@ -303,7 +304,7 @@ found_line t r k ks at number nodes next to a f =
       words = a.words ∙ ap (λ (l : List ℕ). line_words a.entry ++ l) f.words ∙ sym (append_assoc (line_words a.entry) (flat_map line_words f.entries) (drop to t));
     }
 
-module _ (t : List ℕ) (line : ℕ → Key → Counts → Line) (exact : LineExact t line) where
+module _ (t : List ℕ) (line : ℕ → Key → Counts → Choice Line) (exact : LineExact t line) where
   -- what the scan passes is there
   scan_sound : (fuel n : ℕ) (s : Scan) (r : Reading) (to : ℕ) → n + fuel ≤ most_count → Going t n s r → scanned line fuel s ≡ some to → Found t r (keys_due s.due) s.at to
   unfolding is_end scan_after
@@ -313,9 +314,12 @@ module _ (t : List ℕ) (line : ℕ → Key → Counts → Line) (exact : LineEx
       Onward : Type 0
       Onward = (s' : Scan) (r' : Reading) → Going t (n + 1) s' r' → scanned line fuel s' ≡ some to → Found t r' (keys_due s'.due) s'.at to
 
-      by_line : (k : LineKey) → s.due.key ≡ code_of k → Onward → (answer : Line) → line s.at s.due.key s.counts ≡ answer → Found t r (keys_due s.due) s.at to
-      by_line k key on Bad e = absurd (none_some to (sym (scanned_bad line fuel s (ap is_end key ∙ no_end k) e) ∙ h))
-      by_line k key on (Sound number nodes next) e =
+      by_line : (k : LineKey) → s.due.key ≡ code_of k → Onward → (answer : Choice Line) → line s.at s.due.key s.counts ≡ answer → Found t r (keys_due s.due) s.at to
+      by_line k key on None e = absurd (none_some to (sym (scanned_bad line fuel s (ap is_end key ∙ no_end k) e) ∙ h))
+      by_line k key on (Some read) e =
+          let number = read.number in
+          let nodes = read.nodes in
+          let next = read.next in
           let a = exact.sound r s.counts s.at k number nodes next g.counted g.declared g.inside (rw key at e) in
           let x = a.entry in
           let d = s.due in
@@ -385,7 +389,7 @@ module _ (t : List ℕ) (line : ℕ → Key → Counts → Line) (exact : LineEx
           scanned_gives (some c.0) c.1 ∙ ap (every (λ w. eqb w 0)) c.2 ∙ are_zeros zeros
 
 -- and so it passes the first 16,384 words of a table exactly if row 19 does not refuse the table
-pub check_exact_by : (u : List ℕ) (line : ℕ → Key → Counts → Line) → table_words ≤ length u → LineExact (take table_words u) line → (scanned_sheet line (take table_words u) ≡ true) ↔ (row19 u ≡ false)
+pub check_exact_by : (u : List ℕ) (line : ℕ → Key → Counts → Choice Line) → table_words ≤ length u → LineExact (take table_words u) line → (scanned_sheet line (take table_words u) ≡ true) ↔ (row19 u ≡ false)
 check_exact_by u line l exact =
     let e = scan_exact (take table_words u) line exact (length-take-le table_words u l) in
     let g = table_given u in

@@ -9,7 +9,7 @@ use Rattle.line_order.specs.declared.Counts.{Counts}
 use Rattle.line_order.specs.Due.{is_end, due_first, due_after}
 use Rattle.line_order.specs.Counts.{counts_none, counts_after}
 use Rattle.table_line.specs.declared.Line.{Line}
-use Rattle.table_line.specs.declared.Line.TheVariants.{Sound, Bad}
+use Rattle.std.specs.Prelude.{Option as Choice, Some, None}
 use Rattle.table_check.specs.declared.Scan.{Scan}
 
 unfoldable pub scan_first : Scan
@@ -23,7 +23,7 @@ scan_after s number nodes next =
 unfoldable pub zeros_from : List ℕ → ℕ → Bool
 zeros_from t at = every (λ w. eqb w 0) (drop at t)
 
-module _ (line : ℕ → Key → Counts → Line) where
+module _ (line : ℕ → Key → Counts → Choice Line) where
   -- the index after the last line, if every line is sound; the fuel bounds the rounds, of which the last only finds the
   -- end
   unfoldable pub scanned : (fuel : ℕ) → Scan → Option ℕ
@@ -32,8 +32,8 @@ module _ (line : ℕ → Key → Counts → Line) where
       elim (is_end s.due.key) [
         | true ↦ some s.at
         | false ↦ elim (line s.at s.due.key s.counts) [
-          | Sound number nodes next ↦ scanned fuel (scan_after s number nodes next)
-          | Bad ↦ none
+          | Some read ↦ scanned fuel (scan_after s read.number read.nodes read.next)
+          | None ↦ none
         ]
       ]
 

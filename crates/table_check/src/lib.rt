@@ -8,7 +8,7 @@ ghost use Rattle.model.specs.Table.{open_table};
 ghost use Rattle.table_check.specs.Check.{answered};
 
 use line_order::{Counts, Due};
-use model::{Checked, Model};
+use model::{Model, Row};
 
 // Where a scan over the lines stands: what is due, what was counted, and the index of the next word.
 #[derive(Clone, Copy)]
@@ -19,16 +19,16 @@ pub struct Scan {
 }
 
 // The table's first words, as many as a table has; what stands after them is not read.
-pub fn check(table: &[u32]) -> Checked
+pub fn check(table: &[u32]) -> Result<(), Row>
     ensures { result ≡ answered (open_table table.now) }
 {
     if table.len() < Model::WORDS {
-        return Checked::Refused(18);
+        return Err(Row(18));
     }
     let words = &table[..Model::WORDS];
     if sheet::sheet(words) {
-        Checked::Good
+        Ok(())
     } else {
-        Checked::Refused(19)
+        Err(Row(19))
     }
 }

@@ -13,15 +13,14 @@ fn zeros(t: &[u32], at: usize) -> bool
     ensures { result ≡ zeros_from t.now at }
 {
     let mut all = true;
-    let mut i = at;
-    while i < t.len() {
-        all = all & (t[i] == 0);
-        i += 1;
+    for word in &t[at.min(t.len())..] {
+        all &= *word == 0;
     }
     all
 }
 
 impl Scan {
+    #[tactic(auto, unfolding(crate::specs::Scan::scan_first))]
     fn first() -> Scan
         ensures { result ≡ scan_first }
     {
@@ -32,17 +31,15 @@ impl Scan {
         }
     }
 
-    // After a line with this number and so many nodes, which ends before `next`.
-    fn after(self, number: usize, nodes: usize, next: usize) -> Scan
-        ensures { result ≡ scan_after self number nodes next }
+    // After a line.
+    #[tactic(auto, unfolding(crate::specs::Scan::scan_after))]
+    fn after(self, line: Line) -> Scan
+        ensures { result ≡ scan_after self line.number line.nodes line.next }
     {
-        let due = self.due;
-        let counts = self.counts;
-        let key = due.key;
         Scan {
-            due: due.after(number),
-            counts: counts.after(key, number, nodes),
-            at: next,
+            due: self.due.after(line.number),
+            counts: self.counts.after(self.due.key, line.number, line.nodes),
+            at: line.next,
         }
     }
 }
@@ -53,20 +50,14 @@ pub(crate) fn sheet(t: &[u32]) -> bool
 {
     let mut scan = Scan::first();
     // Each line takes a word at least, so a table has been read before the rounds are over; the last finds the end.
-    let mut left = Model::WORDS + 1;
-    while left != 0 {
-        let at = scan.at;
-        let due = scan.due;
-        let counts = scan.counts;
-        let key = due.key;
-        if line_order::end(key) {
-            return zeros(t, at);
+    for _ in 0..=Model::WORDS {
+        if line_order::end(scan.due.key) {
+            return zeros(t, scan.at);
         }
-        let Line::Sound(number, nodes, next) = table_line::read(t, at, key, counts) else {
+        let Some(line) = table_line::read(t, scan.at, scan.due.key, scan.counts) else {
             return false;
         };
-        scan = scan.after(number, nodes, next);
-        left -= 1;
+        scan = scan.after(line);
     }
     false
 }

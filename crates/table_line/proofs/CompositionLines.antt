@@ -28,16 +28,17 @@ use Rattle.line_order.specs.Due.{number_of}
 use Rattle.line_order.specs.Counts.{with_nodes as count_nodes, nodes_of, Counted, capped}
 use Rattle.line_order.proofs.CountsLaws.{add_fits}
 use Rattle.line_order.proofs.CappedLaws.{capped_few, rises_capped}
-use Rattle.table_tree.specs.declared.checked.TreeCheck.{TreeCheck}
+use Rattle.table_tree.specs.declared.checked.TreeEnd.{TreeEnd}
 use Rattle.table_tree.specs.Nodes.{tree_words}
-use Rattle.table_tree.specs.Checked.{tree_check}
+use Rattle.table_tree.specs.Checked.{tree_end, tree_check}
 use Rattle.table_tree.proofs.NodeLaws.{later}
-use Rattle.table_tree.proofs.Sound.{tree_check_of, tree_check_back}
+use Rattle.table_tree.proofs.Sound.{next_in as end_in, tree_check_of, tree_check_back}
 use Rattle.table_tree.proofs.Given.{regiven}
 use Rattle.table_line.specs.declared.Line.{Line}
-use Rattle.table_line.specs.declared.Line.TheVariants.{Sound, Bad}
 use Rattle.table_line.specs.Exact.{Declared, LineAt}
-use Rattle.table_line.specs.Line.{word, location_at, behind_pred, starts_from, starts_at, of_tree, compose_at}
+use Rattle.std.specs.Prelude.{Option, Some, None}
+use Rattle.table_line.proofs.PredicateCode.{number_in, nodes_in, next_in}
+use Rattle.table_line.specs.Line.{a_line, word, location_at, behind_pred, starts_from, starts_at, of_tree, compose_at}
 use Rattle.table_line.proofs.NumberLines.{when_sound, when_true, first_of, head_of, line_at_lem}
 use Rattle.table_line.proofs.PredicateLines.{location_back, location_of}
 
@@ -106,21 +107,21 @@ module _ (t : List ℕ) (r : Reading) (c : Counts) (k : Counted r c) (d : Declar
     lawful : (p : Pred) → Memᴰ p ps → LawfulStart r.model.variables p
     few : r.nodes + nodes ≤ max_nodes
     there : drop at t ≡ flat_map pred_words ps ++ drop next t
-    said : Sound 0 (total + length (flat_map words ps)) (at + length (flat_map pred_words ps)) ≡ Sound number nodes next
+    said : a_line 0 (total + length (flat_map words ps)) (at + length (flat_map pred_words ps)) ≡ a_line number nodes next
 
   abbrev SomeStarts : (count at total number nodes next : ℕ) → Type 0
   SomeStarts count at total number nodes next = (ps : List Pred) × (length ps ≡ count) × StartsAt ps at total number nodes next
 
-  no_starts_lem : (at total number nodes next : ℕ) → c.nodes + total ≤ max_nodes → Sound 0 total at ≡ Sound number nodes next → StartsAt [] at total number nodes next
+  no_starts_lem : (at total number nodes next : ℕ) → c.nodes + total ≤ max_nodes → a_line 0 total at ≡ a_line number nodes next → StartsAt [] at total number nodes next
   unfolding flat_map
   no_starts_lem at total number nodes next l h =
-      let size : total ≡ nodes = cc in
-      let end : at ≡ next = cc in
+      let size : total ≡ nodes = ap nodes_in h in
+      let end : at ≡ next = ap next_in h in
       record {
         lawful = λ p i. absurd (Memᴰ.not-nil i);
         few = omega (arith, k.nodes);
         there = ap (λ (n : ℕ). drop n t) end;
-        said = ap₂ (λ (m n : ℕ). Sound 0 m n) (omega arith) (omega arith) ∙ h;
+        said = ap₂ (λ (m n : ℕ). a_line 0 m n) (omega arith) (omega arith) ∙ h;
       }
 
   -- one more in front of others, which is as an init line has it
@@ -132,7 +133,7 @@ module _ (t : List ℕ) (r : Reading) (c : Counts) (k : Counted r c) (d : Declar
         few = s.few;
         there = w ∙ ap (λ (x : List ℕ). pred_words p ++ x) s.there ∙ sym (append_assoc (pred_words p) (flat_map pred_words ps) (drop next t));
         said =
-            ap₂ (λ (x y : ℕ). Sound 0 x y) (omega (arith, length-append (words p) (flat_map words ps))) (omega (arith, length-append (pred_words p) (flat_map pred_words ps)))
+            ap₂ (λ (x y : ℕ). a_line 0 x y) (omega (arith, length-append (words p) (flat_map words ps))) (omega (arith, length-append (pred_words p) (flat_map pred_words ps)))
             ∙ s.said;
       }
     where
@@ -140,35 +141,35 @@ module _ (t : List ℕ) (r : Reading) (c : Counts) (k : Counted r c) (d : Declar
       either q (Memᴰ.head e) = rw e l
       either q (Memᴰ.tail i) = s.lawful q i
 
-  starts_back : (count at total number nodes next : ℕ) → c.nodes + total ≤ max_nodes → starts_from t c count at total ≡ Sound number nodes next → SomeStarts count at total number nodes next
+  starts_back : (count at total number nodes next : ℕ) → c.nodes + total ≤ max_nodes → starts_from t c count at total ≡ a_line number nodes next → SomeStarts count at total number nodes next
   unfolding starts_from behind_pred with_nodes
   starts_back zero at total number nodes next l h = ([], refl, no_starts_lem at total number nodes next l h)
   starts_back (suc count) at total number nodes next l h = go (starts_back count) (location_at t at (count_nodes c total)) refl h
     where
-      go : ((at total number nodes next : ℕ) → c.nodes + total ≤ max_nodes → starts_from t c count at total ≡ Sound number nodes next → SomeStarts count at total number nodes next)
-          → (line : Line) → location_at t at (count_nodes c total) ≡ line → behind_pred (λ m n. starts_from t c count n (total + m)) line ≡ Sound number nodes next → SomeStarts (suc count) at total number nodes next
-      go ih Bad e h = let z : ◌≡◌ {A = ℕ} 0 1 = cc in absurd (omega arith)
-      go ih (Sound x m n) e h =
-          let a = location_back t (with_nodes r total) (count_nodes c total) (counted_with total l) (declared_with total) at x m n e in
+      go : ((at total number nodes next : ℕ) → c.nodes + total ≤ max_nodes → starts_from t c count at total ≡ a_line number nodes next → SomeStarts count at total number nodes next)
+          → (line : Option Line) → location_at t at (count_nodes c total) ≡ line → behind_pred (λ m n. starts_from t c count n (total + m)) line ≡ a_line number nodes next → SomeStarts (suc count) at total number nodes next
+      go ih None e h = let z : ◌≡◌ {A = ℕ} 0 1 = cc in absurd (omega arith)
+      go ih (Some x) e h =
+          let a = location_back t (with_nodes r total) (count_nodes c total) (counted_with total l) (declared_with total) at x.number x.nodes x.next e in
           let p = a.pred in
-          let size : node_count p ≡ m = cc in
-          let end : at + length (pred_words p) ≡ n = cc in
-          let s = ih n (total + node_count p) number nodes next (omega (arith, k.nodes, a.few)) (rw size h) in
-          (p ∷ s.0, ap suc s.1, more_starts p s.0 at total n number nodes next a.lawful end a.there s.2)
+          let size : node_count p ≡ x.nodes = ap nodes_in a.said in
+          let end : at + length (pred_words p) ≡ x.next = ap next_in a.said in
+          let s = ih x.next (total + node_count p) number nodes next (omega (arith, k.nodes, a.few)) (rw size h) in
+          (p ∷ s.0, ap suc s.1, more_starts p s.0 at total x.next number nodes next a.lawful end a.there s.2)
 
-  starts_of : (ps : List Pred) (at total : ℕ) (rest : List ℕ) → ((p : Pred) → Memᴰ p ps → LawfulStart r.model.variables p) → r.nodes + total + length (flat_map words ps) ≤ max_nodes → drop at t ≡ flat_map pred_words ps ++ rest → starts_from t c (length ps) at total ≡ Sound 0 (total + length (flat_map words ps)) (at + length (flat_map pred_words ps))
+  starts_of : (ps : List Pred) (at total : ℕ) (rest : List ℕ) → ((p : Pred) → Memᴰ p ps → LawfulStart r.model.variables p) → r.nodes + total + length (flat_map words ps) ≤ max_nodes → drop at t ≡ flat_map pred_words ps ++ rest → starts_from t c (length ps) at total ≡ a_line 0 (total + length (flat_map words ps)) (at + length (flat_map pred_words ps))
   unfolding starts_from behind_pred flat_map with_nodes node_count
-  starts_of [] at total rest lawful few e = ap₂ (λ (m n : ℕ). Sound 0 m n) (omega arith) (omega arith)
+  starts_of [] at total rest lawful few e = ap₂ (λ (m n : ℕ). a_line 0 m n) (omega arith) (omega arith)
   starts_of (p ∷ ps) at total rest lawful few e =
       let long = length-append (words p) (flat_map words ps) in
       let wide = length-append (pred_words p) (flat_map pred_words ps) in
       let e' = e ∙ append_assoc (pred_words p) (flat_map pred_words ps) rest in
       let first = location_of t (with_nodes r total) (count_nodes c total) (counted_with total (omega (arith, k.nodes))) (declared_with total) at p (flat_map pred_words ps ++ rest) (lawful p (Memᴰ.head refl)) (omega arith) e' in
       let others = starts_of ps (at + length (pred_words p)) (total + length (words p)) rest (λ q i. lawful q (Memᴰ.tail i)) (omega arith) (later t (pred_words p) at (length (pred_words p)) (flat_map pred_words ps ++ rest) e' refl) in
-      ap (behind_pred (λ m n. starts_from t c (length ps) n (total + m))) first ∙ others ∙ ap₂ (λ (m n : ℕ). Sound 0 m n) (omega arith) (omega arith)
+      ap (behind_pred (λ m n. starts_from t c (length ps) n (total + m))) first ∙ others ∙ ap₂ (λ (m n : ℕ). a_line 0 m n) (omega arith) (omega arith)
 
   -- the number of `ini` before them
-  behind_back : (at inis number nodes next : ℕ) → c.nodes ≤ max_nodes → starts_at t c at inis ≡ Sound number nodes next → SomeStarts inis (at + 1) 0 number nodes next × (drop at t ≡ inis ∷ drop (at + 1) t)
+  behind_back : (at inis number nodes next : ℕ) → c.nodes ≤ max_nodes → starts_at t c at inis ≡ a_line number nodes next → SomeStarts inis (at + 1) 0 number nodes next × (drop at t ≡ inis ∷ drop (at + 1) t)
   unfolding starts_at
   behind_back at inis number nodes next l h =
       let s = when_sound _ _ number nodes next h in
@@ -176,18 +177,18 @@ module _ (t : List ℕ) (r : Reading) (c : Counts) (k : Counted r c) (d : Declar
       let is = eqb-true (word t at) inis (and_right (ltb at (length t)) (eqb (word t at) inis) s.0) in
       (starts_back inis (at + 1) 0 number nodes next (omega arith) s.1, head_of t at below ∙ ap (λ (n : ℕ). n ∷ drop (at + 1) t) is)
 
-  behind_of : (ps : List Pred) (at : ℕ) (rest : List ℕ) → ((p : Pred) → Memᴰ p ps → LawfulStart r.model.variables p) → r.nodes + length (flat_map words ps) ≤ max_nodes → drop at t ≡ length ps ∷ (flat_map pred_words ps ++ rest) → starts_at t c at (length ps) ≡ Sound 0 (length (flat_map words ps)) (at + 1 + length (flat_map pred_words ps))
+  behind_of : (ps : List Pred) (at : ℕ) (rest : List ℕ) → ((p : Pred) → Memᴰ p ps → LawfulStart r.model.variables p) → r.nodes + length (flat_map words ps) ≤ max_nodes → drop at t ≡ length ps ∷ (flat_map pred_words ps ++ rest) → starts_at t c at (length ps) ≡ a_line 0 (length (flat_map words ps)) (at + 1 + length (flat_map pred_words ps))
   unfolding starts_at
   behind_of ps at rest lawful few e =
       let f = first_of t at (length ps) (flat_map pred_words ps ++ rest) e in
       when_true _ (and_intro (lt-ltb at (length t) f.below) (eq-eqb (word t at) (length ps) f.is))
       ∙ starts_of ps (at + 1) 0 rest lawful (omega arith) f.then
-      ∙ ap (λ (n : ℕ). Sound 0 n (at + 1 + length (flat_map pred_words ps))) (omega arith)
+      ∙ ap (λ (n : ℕ). a_line 0 n (at + 1 + length (flat_map pred_words ps))) (omega arith)
 
-  tree_sound : (o : TreeCheck) (number nodes next : ℕ) → of_tree t c o ≡ Sound number nodes next → (end inis : ℕ) × (o ≡ TreeCheck.Sound end inis) × (starts_at t c end inis ≡ Sound number nodes next)
+  tree_sound : (o : Option TreeEnd) (number nodes next : ℕ) → of_tree t c o ≡ a_line number nodes next → (end inis : ℕ) × (o ≡ tree_end end inis) × (starts_at t c end inis ≡ a_line number nodes next)
   unfolding of_tree
-  tree_sound (TreeCheck.Sound end inis) number nodes next h = (end, inis, refl, h)
-  tree_sound TreeCheck.Bad number nodes next h = let z : ◌≡◌ {A = ℕ} 0 1 = cc in absurd (omega arith)
+  tree_sound (Some x) number nodes next h = (x.next, x.inis, refl, h)
+  tree_sound None number nodes next h = let z : ◌≡◌ {A = ℕ} 0 1 = cc in absurd (omega arith)
 
   abbrev A : ℕ
   A = capped c.actions
@@ -220,15 +221,15 @@ module _ (t : List ℕ) (r : Reading) (c : Counts) (k : Counted r c) (d : Declar
     abbrev TreeAt : Tree → ℕ → Type 0
     TreeAt tree end = (drop at t ≡ tree_size tree ∷ (tree_words tree ++ drop end t)) × (end ≡ at + 1 + length (tree_words tree))
 
-    tree_back : every (λ w. ltb w 4294967296) t ≡ true → (end inis : ℕ) → tree_check t at A N ≡ TreeCheck.Sound end inis → (bare : Tree) × LawfulTree A N bare × (length (starts bare) ≡ inis) × TreeAt bare end
+    tree_back : every (λ w. ltb w 4294967296) t ≡ true → (end inis : ℕ) → tree_check t at A N ≡ tree_end end inis → (bare : Tree) × LawfulTree A N bare × (length (starts bare) ≡ inis) × TreeAt bare end
     tree_back fit end inis h =
         let b = tree_check_back t at A N end inis fit h in
         let words = tree_size b.0 ∷ tree_words b.0 in
         let rest = drop (end - at) (drop at t) in
         let there : drop at t ≡ words ++ rest = sym (take-append-drop (end - at) (drop at t)) ∙ ap (λ (x : List ℕ). x ++ rest) b.2 in
         let again = tree_check_of t A N at b.0 (capped_few c.actions) b.1 (ap (take (length words)) there ∙ take_at words rest (length words) refl) in
-        let both : TreeCheck.Sound end inis ≡ TreeCheck.Sound (at + 1 + length (tree_words b.0)) (length (starts b.0)) = sym h ∙ again in
-        let ends : end ≡ at + 1 + length (tree_words b.0) = cc in
+        let both : tree_end end inis ≡ tree_end (at + 1 + length (tree_words b.0)) (length (starts b.0)) = sym h ∙ again in
+        let ends : end ≡ at + 1 + length (tree_words b.0) = ap end_in both in
         let place : at + (end - at) ≡ end = omega arith in
         (b.0, b.1, b.3, (there ∙ ap (λ (x : List ℕ). words ++ x) (drop-drop (end - at) at t ∙ ap (λ (n : ℕ). drop n t) place), ends))
 
@@ -238,14 +239,14 @@ module _ (t : List ℕ) (r : Reading) (c : Counts) (k : Counted r c) (d : Declar
     composed tree end number nodes next few l w v s =
         let front = tree_words tree in
         let behind = length (starts tree) ∷ flat_map pred_words (starts tree) in
-        let size : 0 + length (flat_map words (starts tree)) ≡ nodes = cc in
+        let size : 0 + length (flat_map words (starts tree)) ≡ nodes = ap nodes_in s.said in
         let there : drop end t ≡ behind ++ drop next t = v ∙ ap (λ (x : List ℕ). length (starts tree) ∷ x) s.there in
         line_at_lem t r (compose_line tree) at number nodes next (drop next t)
         (none_lacks _ ((compose_rows tree few).1 (l, (s.lawful, omega (arith, s.few)))))
         (w.0 ∙ ap (λ (x : List ℕ). tree_size tree ∷ (front ++ x)) there ∙ ap (λ (x : List ℕ). tree_size tree ∷ x) (sym (append_assoc front behind (drop next t))))
-        (ap₂ (λ (m n : ℕ). Sound 0 m n) (omega arith) (omega (arith, length-append front behind, w.1)) ∙ s.said)
+        (ap₂ (λ (m n : ℕ). a_line 0 m n) (omega arith) (omega (arith, length-append front behind, w.1)) ∙ s.said)
 
-    pub compose_sound : every (λ w. ltb w 4294967296) t ≡ true → (number nodes next : ℕ) → compose_at t at c ≡ Sound number nodes next → LineAt t r compose at number nodes next
+    pub compose_sound : every (λ w. ltb w 4294967296) t ≡ true → (number nodes next : ℕ) → compose_at t at c ≡ a_line number nodes next → LineAt t r compose at number nodes next
     unfolding compose_at
     compose_sound fit number nodes next h =
         let s = when_sound _ _ number nodes next h in
@@ -257,7 +258,7 @@ module _ (t : List ℕ) (r : Reading) (c : Counts) (k : Counted r c) (d : Declar
         let g = regiven A N b.0 v.0.0 (v.0.1 ∙ sym b.2) b.1 in
         composed g.0 o.0 number nodes next few g.1 (rw (g.3, g.4) b.3) (v.1 ∙ rw (g.2, v.0.1)) (rw g.2 v.0.2)
 
-    pub compose_of : (tree : Tree) (rest : List ℕ) → fault_of r (compose_line tree) ≡ none → drop at t ≡ line_words (compose_line tree) ++ rest → compose_at t at c ≡ Sound 0 (start_nodes tree) (at + length (line_words (compose_line tree)))
+    pub compose_of : (tree : Tree) (rest : List ℕ) → fault_of r (compose_line tree) ≡ none → drop at t ≡ line_words (compose_line tree) ++ rest → compose_at t at c ≡ a_line 0 (start_nodes tree) (at + length (line_words (compose_line tree)))
     unfolding compose_at of_tree line_words start_words start_nodes lacks
     compose_of tree rest g e =
         let few = compose_few tree g in
@@ -272,4 +273,4 @@ module _ (t : List ℕ) (r : Reading) (c : Counts) (k : Counted r c) (d : Declar
         when_true _ (and_intro (le-leb N max_automata few) (le-leb c.nodes max_nodes (omega (arith, k.nodes, l.1.1))))
         ∙ ap (of_tree t c) found
         ∙ behind_of (starts tree) end rest l.1.0 l.1.1 next
-        ∙ ap (λ (n : ℕ). Sound 0 (length (flat_map words (starts tree))) n) (omega (arith, length-append (tree_words tree) behind))
+        ∙ ap (λ (n : ℕ). a_line 0 (length (flat_map words (starts tree))) n) (omega (arith, length-append (tree_words tree) behind))

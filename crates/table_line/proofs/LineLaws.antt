@@ -17,9 +17,8 @@ use Rattle.model.proofs.LimitLines.{format_line_lem, actions_line_lem, variables
 use Rattle.line_order.specs.declared.Counts.{Counts}
 use Rattle.line_order.specs.Due.{code_of, number_of}
 use Rattle.line_order.specs.Counts.{nodes_of, Counted}
-use Rattle.table_line.specs.declared.Line.TheVariants.{Sound}
 use Rattle.table_line.specs.Exact.{Declared, LineAt, LineExact}
-use Rattle.table_line.specs.Line.{word, line_at}
+use Rattle.table_line.specs.Line.{a_line, word, line_at}
 use Rattle.table_line.proofs.NumberLines.{head_of, line_at_lem, number_sound, number_of_lem, edges_sound, edges_of, variable_sound_lem, variable_of, automata_sound, automata_of, sync_sound, sync_of}
 use Rattle.table_line.proofs.PredicateLines.{init_sound, inv_sound, state_of, edge_sound, edge_of}
 use Rattle.table_line.proofs.CompositionLines.{compose_sound, compose_of}
@@ -27,7 +26,7 @@ use Rattle.table_line.proofs.CompositionLines.{compose_sound, compose_of}
 module _ (t : List ℕ) where
   -- each line
   module _ (fit : every (λ w. ltb w 4294967296) t ≡ true) (r : Reading) (c : Counts) (k : Counted r c) (d : Declared t r) (at : ℕ) where
-    sound_line : (key : LineKey) (number nodes next : ℕ) → line_at t at (code_of key) c ≡ Sound number nodes next → LineAt t r key at number nodes next
+    sound_line : (key : LineKey) (number nodes next : ℕ) → line_at t at (code_of key) c ≡ a_line number nodes next → LineAt t r key at number nodes next
     unfolding line_at code_of key_of number_of nodes_of line_words
     sound_line format number nodes next h =
         let s = number_sound t at first_format last_format number nodes next h in
@@ -50,7 +49,7 @@ module _ (t : List ℕ) where
     sound_line edge number nodes next h = edge_sound t r c k d at number nodes next h
     sound_line compose number nodes next h = compose_sound t r c k d at fit number nodes next h
 
-    complete_line : (e : Entry) (rest : List ℕ) → fault_of r e ≡ none → drop at t ≡ line_words e ++ rest → line_at t at (code_of (key_of e)) c ≡ Sound (number_of e) (nodes_of e) (at + length (line_words e))
+    complete_line : (e : Entry) (rest : List ℕ) → fault_of r e ≡ none → drop at t ≡ line_words e ++ rest → line_at t at (code_of (key_of e)) c ≡ a_line (number_of e) (nodes_of e) (at + length (line_words e))
     unfolding line_at code_of key_of number_of nodes_of line_words set_words lacks
     complete_line (format_line n) rest g w = let l = (format_line_lem r n).0 (ap lacks g) in number_of_lem t at first_format last_format n rest w l.0 l.1
     complete_line (actions_line n) rest g w = number_of_lem t at 0 max_actions n rest w (omega arith) ((actions_line_lem r n).0 (ap lacks g))

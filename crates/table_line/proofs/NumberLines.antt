@@ -3,7 +3,7 @@ use Prim.Native.Nat.{ℕ, zero, suc, ◌+◌, ◌-◌, ◌≤◌, ◌<◌}
 use mathlib.Core.Path.{◌≡◌, refl, sym, ap, ◌∙◌}
 use mathlib.Core.Bool.{Bool, true, false, not, ◌&&◌, true≢false}
 use mathlib.Core.List.{List, [], ◌∷◌, ◌++◌}
-use mathlib.Core.Option.{Option, none, some}
+use mathlib.Core.Option.{Option as Choice, none, some}
 use native.Mathlib.Omega.{arith}
 use native.Mathlib.Numerals.{add-one}
 use borrow.Author.Tests.{leb-true, leb-false, le-leb, lt-leb, lt-ltb, ltb-true, ne_eqb, not-true, not-false}
@@ -32,24 +32,25 @@ use Rattle.table_tree.proofs.NodeLaws.{later}
 use Rattle.line_order.specs.Counts.{capped}
 use Rattle.line_order.proofs.CappedLaws.{capped_few, rises_capped}
 use Rattle.table_line.specs.declared.Line.{Line}
-use Rattle.table_line.specs.declared.Line.TheVariants.{Sound}
 use Rattle.table_line.specs.Exact.{Declared, LineAt}
 use Rattle.table_owners.specs.Owners.{beyond_in}
 use Rattle.table_owners.proofs.OwnerLaws.{beyond_is}
-use Rattle.table_line.specs.Line.{when, word, number_at, variable_at, sync_at, edges_at, owner_sound, variable_sound, ranges_in, automata_at}
+use Rattle.std.specs.Prelude.{Option, Some, None}
+use Rattle.table_line.proofs.PredicateCode.{number_in, nodes_in, next_in}
+use Rattle.table_line.specs.Line.{a_line, when, word, number_at, variable_at, sync_at, edges_at, owner_sound, variable_sound, ranges_in, automata_at}
 
 -- a line that is sound if a test holds
-pub when_sound : (b : Bool) (l : Line) (number nodes next : ℕ) → when b l ≡ Sound number nodes next → (b ≡ true) × (l ≡ Sound number nodes next)
+pub when_sound : (b : Bool) (l : Option Line) (number nodes next : ℕ) → when b l ≡ a_line number nodes next → (b ≡ true) × (l ≡ a_line number nodes next)
 unfolding when
 when_sound true l number nodes next h = (refl, h)
 when_sound false l number nodes next h = let z : ◌≡◌ {A = ℕ} 0 1 = cc in absurd (omega arith)
 
-pub when_true : {b : Bool} (l : Line) → b ≡ true → when b l ≡ l
+pub when_true : {b : Bool} (l : Option Line) → b ≡ true → when b l ≡ l
 unfolding when
 when_true l h = rw h
 
 -- a row that is not broken, before others that are not
-pub mended : (row : ℕ) {b : Bool} {rest : Option ℕ} → b ≡ false → rest ≡ none → broken row b rest ≡ none
+pub mended : (row : ℕ) {b : Bool} {rest : Choice ℕ} → b ≡ false → rest ≡ none → broken row b rest ≡ none
 unfolding broken
 mended row p q = rw (p, q)
 
@@ -70,14 +71,14 @@ module _ (t : List ℕ) where
       record { below = below; is = cc; then = cc }
 
   -- an entry's words stand at a place
-  pub line_at_lem : (r : Reading) (e : Entry) (at number nodes next : ℕ) (rest : List ℕ) → fault_of r e ≡ none → drop at t ≡ line_words e ++ rest → Sound (number_of e) (nodes_of e) (at + length (line_words e)) ≡ Sound number nodes next → LineAt t r (key_of e) at number nodes next
+  pub line_at_lem : (r : Reading) (e : Entry) (at number nodes next : ℕ) (rest : List ℕ) → fault_of r e ≡ none → drop at t ≡ line_words e ++ rest → a_line (number_of e) (nodes_of e) (at + length (line_words e)) ≡ a_line number nodes next → LineAt t r (key_of e) at number nodes next
   line_at_lem r e at number nodes next rest f w q =
-      let ends : next ≡ at + length (line_words e) = cc in
+      let ends : next ≡ at + length (line_words e) = sym (ap next_in q) in
       record {
         entry = e;
         keyed = refl;
-        numbered = cc;
-        counted = cc;
+        numbered = ap number_in q;
+        counted = ap nodes_in q;
         unbroken = f;
         words = w ∙ ap (λ (l : List ℕ). line_words e ++ l) (sym (ap (λ (n : ℕ). drop n t) ends ∙ later t (line_words e) at (length (line_words e)) rest w refl));
         ends = ends;
@@ -85,7 +86,7 @@ module _ (t : List ℕ) where
 
   -- numbers
   module _ (at least most : ℕ) where
-    pub number_sound : (number nodes next : ℕ) → number_at t at least most ≡ Sound number nodes next → (at < length t) × (least ≤ word t at) × (word t at ≤ most) × (Sound (word t at) 0 (at + 1) ≡ Sound number nodes next)
+    pub number_sound : (number nodes next : ℕ) → number_at t at least most ≡ a_line number nodes next → (at < length t) × (least ≤ word t at) × (word t at ≤ most) × (a_line (word t at) 0 (at + 1) ≡ a_line number nodes next)
     unfolding number_at
     number_sound number nodes next h =
         let s = when_sound _ _ number nodes next h in
@@ -96,14 +97,14 @@ module _ (t : List ℕ) where
           s.1,
         )
 
-    pub number_of_lem : (n : ℕ) (rest : List ℕ) → drop at t ≡ n ∷ rest → least ≤ n → n ≤ most → number_at t at least most ≡ Sound n 0 (at + 1)
+    pub number_of_lem : (n : ℕ) (rest : List ℕ) → drop at t ≡ n ∷ rest → least ≤ n → n ≤ most → number_at t at least most ≡ a_line n 0 (at + 1)
     unfolding number_at
     number_of_lem n rest e l u =
         let f = first_of at n rest e in
         rw f.is (when_true _ (and_intro (lt-ltb at (length t) f.below) (and_intro (le-leb least n l) (le-leb n most u))))
 
   -- row 15
-  pub edges_sound : (r : Reading) (c : Counts) (at number nodes next : ℕ) → Counted r c → edges_at t at c ≡ Sound number nodes next → LineAt t r (key_of (edges_line (word t at))) at number nodes next
+  pub edges_sound : (r : Reading) (c : Counts) (at number nodes next : ℕ) → Counted r c → edges_at t at c ≡ a_line number nodes next → LineAt t r (key_of (edges_line (word t at))) at number nodes next
   unfolding edges_at number_of nodes_of line_words
   edges_sound r c at number nodes next k h =
       let n = word t at in
@@ -112,7 +113,7 @@ module _ (t : List ℕ) where
       let few = leb-true (c.edges + n) max_edges (and_right (ltb at (length t)) (leb (c.edges + n) max_edges) s.0) in
       line_at_lem r (edges_line n) at number nodes next (drop (at + 1) t) (none_lacks _ ((edges_line_lem r n).1 (omega (arith, k.edges)))) (head_of at below) s.1
 
-  pub edges_of : (r : Reading) (c : Counts) (at n : ℕ) (rest : List ℕ) → Counted r c → fault_of r (edges_line n) ≡ none → drop at t ≡ n ∷ rest → edges_at t at c ≡ Sound n 0 (at + 1)
+  pub edges_of : (r : Reading) (c : Counts) (at n : ℕ) (rest : List ℕ) → Counted r c → fault_of r (edges_line n) ≡ none → drop at t ≡ n ∷ rest → edges_at t at c ≡ a_line n 0 (at + 1)
   unfolding edges_at lacks
   edges_of r c at n rest k g e =
       let f = first_of at n rest e in
@@ -165,7 +166,7 @@ owner_said f (suc j) h =
     let late = leb-true owners_format f (or_other (and_right (leb (suc j) max_automata) _ h) (ne_eqb (suc j) 0 (λ e. absurd (omega arith)))) in
     ((le-leb j last_automaton (omega arith), lt-leb (suc f) owners_format (omega arith)), refl)
 
-said_owner : (f : ℕ) (o : Option ℕ) → Said f o → owner_sound f (owner_word o) ≡ true
+said_owner : (f : ℕ) (o : Choice ℕ) → Said f o → owner_sound f (owner_word o) ≡ true
 unfolding owner_sound owner_word owner_in_range is_early
 said_owner f none h = refl
 said_owner f (some j) h =
@@ -175,7 +176,7 @@ said_owner f (some j) h =
 
 module _ (t : List ℕ) (r : Reading) (c : Counts) (k : Counted r c) (at : ℕ) where
   -- a range and an owner
-  pub variable_sound_lem : (number nodes next : ℕ) → variable_at t at c.format ≡ Sound number nodes next → LineAt t r (key_of (variable_line (range (unbiased (word t at)) (unbiased (word t (at + 1)))) (owner_from (word t (at + 2))))) at number nodes next
+  pub variable_sound_lem : (number nodes next : ℕ) → variable_at t at c.format ≡ a_line number nodes next → LineAt t r (key_of (variable_line (range (unbiased (word t at)) (unbiased (word t (at + 1)))) (owner_from (word t (at + 2))))) at number nodes next
   unfolding variable_at variable_sound number_of nodes_of line_words range
   variable_sound_lem number nodes next h =
       let a = word t at in
@@ -193,7 +194,7 @@ module _ (t : List ℕ) (r : Reading) (c : Counts) (k : Counted r c) (at : ℕ) 
       let lawful : LawfulRange (range (unbiased a) (unbiased b)) = record { low = low.1; high = high.1; ordered = unbiased_le a b up } in
       line_at_lem t r (variable_line (range (unbiased a) (unbiased b)) (owner_from w)) at number nodes next (drop (at + 3) t) (none_lacks _ ((variable_line_lem r _ _).1 (lawful, owner.0))) (three_there t at inside ∙ rw (low.0, high.0, owner.1)) s.1
 
-  pub variable_of : (x : Range) (o : Option ℕ) (rest : List ℕ) → fault_of r (variable_line x o) ≡ none → drop at t ≡ biased x.low ∷ biased x.high ∷ owner_word o ∷ rest → variable_at t at c.format ≡ Sound 0 0 (at + 3)
+  pub variable_of : (x : Range) (o : Choice ℕ) (rest : List ℕ) → fault_of r (variable_line x o) ≡ none → drop at t ≡ biased x.low ∷ biased x.high ∷ owner_word o ∷ rest → variable_at t at c.format ≡ a_line 0 0 (at + 3)
   unfolding variable_at variable_sound lacks
   variable_of x o rest g e =
       let l = (variable_line_lem r x o).0 (ap lacks g) in
@@ -212,7 +213,7 @@ module _ (t : List ℕ) (r : Reading) (c : Counts) (k : Counted r c) (at : ℕ) 
     unfolding ranges_in
     beyond_read n = rw (k.variables, d.words) (beyond_is r.model.variables r.model.owners d.owners_are n)
 
-    pub automata_sound : (number nodes next : ℕ) → automata_at t at c ≡ Sound number nodes next → LineAt t r (key_of (automata_line (word t at))) at number nodes next
+    pub automata_sound : (number nodes next : ℕ) → automata_at t at c ≡ a_line number nodes next → LineAt t r (key_of (automata_line (word t at))) at number nodes next
     unfolding automata_at number_of nodes_of line_words
     automata_sound number nodes next h =
         let b = when_sound _ _ number nodes next h in
@@ -220,7 +221,7 @@ module _ (t : List ℕ) (r : Reading) (c : Counts) (k : Counted r c) (at : ℕ) 
         let none-beyond = sym (beyond_read (word t at)) ∙ not-true _ b.0 in
         line_at_lem t r (automata_line (word t at)) at number nodes next _ (none_lacks _ ((automata_line_lem r _).1 (s.1, s.2, none-beyond))) (head_of t at s.0) s.3
 
-    pub automata_of : (n : ℕ) (rest : List ℕ) → fault_of r (automata_line n) ≡ none → drop at t ≡ n ∷ rest → automata_at t at c ≡ Sound n 0 (at + 1)
+    pub automata_of : (n : ℕ) (rest : List ℕ) → fault_of r (automata_line n) ≡ none → drop at t ≡ n ∷ rest → automata_at t at c ≡ a_line n 0 (at + 1)
     unfolding automata_at lacks
     automata_of n rest g e =
         let l = (automata_line_lem r n).0 (ap lacks g) in
@@ -235,7 +236,7 @@ rises_few r A list few h =
 
 module _ (t : List ℕ) (r : Reading) (c : Counts) (k : Counted r c) (at : ℕ) where
   -- a set
-  pub sync_sound : every (λ w. ltb w 4294967296) t ≡ true → (number nodes next : ℕ) → sync_at t at c.actions ≡ Sound number nodes next → LineAt t r (key_of (sync_line (set_of (word t at) (word t (at + 1))))) at number nodes next
+  pub sync_sound : every (λ w. ltb w 4294967296) t ≡ true → (number nodes next : ℕ) → sync_at t at c.actions ≡ a_line number nodes next → LineAt t r (key_of (sync_line (set_of (word t at) (word t (at + 1))))) at number nodes next
   unfolding sync_at number_of nodes_of line_words fault_of numbers_in_range content_fault set_words
   sync_sound fit number nodes next h =
       let a = word t at in
@@ -251,7 +252,7 @@ module _ (t : List ℕ) (r : Reading) (c : Counts) (k : Counted r c) (at : ℕ) 
       let words : set_words list ≡ a ∷ b ∷ [] = words_back a b a-fits b-fits in
       line_at_lem t r (sync_line list) at number nodes next (drop (at + 1 + 1) t) (mended 3 (ap not few) (mended 5 (ap not rising) refl)) (two_there t at inside ∙ ap (λ (l : List ℕ). l ++ drop (at + 1 + 1) t) (sym words)) s.1
 
-  pub sync_of : (list rest : List ℕ) → fault_of r (sync_line list) ≡ none → drop at t ≡ set_words list ++ rest → sync_at t at c.actions ≡ Sound 0 0 (at + 2)
+  pub sync_of : (list rest : List ℕ) → fault_of r (sync_line list) ≡ none → drop at t ≡ set_words list ++ rest → sync_at t at c.actions ≡ a_line 0 0 (at + 2)
   unfolding sync_at set_words fault_of numbers_in_range content_fault
   sync_of list rest g e =
       let row3 = unbroken 3 _ _ g in

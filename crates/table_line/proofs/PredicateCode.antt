@@ -18,14 +18,27 @@ use Rattle.table_predicate.specs.declared.Walked.{Walked}
 use Rattle.table_predicate.specs.Walk.{walk_at}
 use Rattle.table_predicate.specs.Scan.{is_coded}
 use Rattle.table_line.specs.declared.Line.{Line}
-use Rattle.table_line.specs.declared.Line.TheVariants.{Sound, Bad}
-use Rattle.table_line.specs.Line.{when, ranges_in, walked_to, nodes_sound, predicate_at, location_at}
+use Rattle.std.specs.Prelude.{Option, Some, None}
+use Rattle.table_line.specs.Line.{a_line, when, ranges_in, walked_to, nodes_sound, predicate_at, location_at}
 
-pub when_true : (b : Bool) (l : Line) → b ≡ true → l ≡ when b l
+-- what a line says
+abbrev pub number_in : Option Line → ℕ
+number_in (Some x) = x.number
+number_in None = 0
+
+abbrev pub nodes_in : Option Line → ℕ
+nodes_in (Some x) = x.nodes
+nodes_in None = 0
+
+abbrev pub next_in : Option Line → ℕ
+next_in (Some x) = x.next
+next_in None = 0
+
+pub when_true : (b : Bool) (l : Option Line) → b ≡ true → l ≡ when b l
 unfolding when
 when_true b l h = rw h
 
-pub when_false : (b : Bool) (l : Line) → b ≡ false → Bad ≡ when b l
+pub when_false : (b : Bool) (l : Option Line) → b ≡ false → None ≡ when b l
 unfolding when
 when_false b l h = rw h
 
@@ -123,12 +136,12 @@ module _ (t : List ℕ) (at : ℕ) (c : Counts) where
   abbrev rest : Bool
   rest = leb (get_or t at 0) (length t - (at + 1)) && nodes_sound t c (at + 1) (get_or t at 0)
 
-  pub predicate_end : length t ≤ at → Bad ≡ predicate_at t at c
+  pub predicate_end : length t ≤ at → None ≡ predicate_at t at c
   unfolding predicate_at
   predicate_end h = when_false _ _ (no_left (ltb at (length t)) rest (le-ltb at (length t) h))
 
   module _ (n : ℕ) (e : n ≡ get_or t at 0) where
-    pub predicate_short : length t - (at + 1) < n → Bad ≡ predicate_at t at c
+    pub predicate_short : length t - (at + 1) < n → None ≡ predicate_at t at c
     unfolding predicate_at
     predicate_short l = when_false _ _ (and_no_right (ltb at (length t)) rest (no_left (leb (get_or t at 0) (length t - (at + 1))) (nodes_sound t c (at + 1) (get_or t at 0)) (lt-leb (get_or t at 0) (length t - (at + 1)) (omega arith))))
 
@@ -136,24 +149,24 @@ module _ (t : List ℕ) (at : ℕ) (c : Counts) where
       same_nodes : nodes_sound t c (at + 1) (get_or t at 0) ≡ r
       same_nodes = ap (λ (x : ℕ). nodes_sound t c (at + 1) x) (sym e) ∙ sym hr
 
-      pub predicate_bad : r ≡ false → Bad ≡ predicate_at t at c
+      pub predicate_bad : r ≡ false → None ≡ predicate_at t at c
       unfolding predicate_at
       predicate_bad h = when_false _ _ (and_no_right (ltb at (length t)) rest (and_no_right (leb (get_or t at 0) (length t - (at + 1))) (nodes_sound t c (at + 1) (get_or t at 0)) (same_nodes ∙ h)))
 
-      pub predicate_good : at < length t → n ≤ length t - (at + 1) → r ≡ true → Sound 0 n (at + 1 + n) ≡ predicate_at t at c
+      pub predicate_good : at < length t → n ≤ length t - (at + 1) → r ≡ true → a_line 0 n (at + 1 + n) ≡ predicate_at t at c
       unfolding predicate_at
-      predicate_good h l g = ap (λ (x : ℕ). Sound 0 x (at + 1 + x)) e ∙ when_true (ltb at (length t) && rest) (Sound 0 (get_or t at 0) (at + 1 + get_or t at 0)) (and_intro (lt-ltb at (length t) h) (and_intro (le-leb (get_or t at 0) (length t - (at + 1)) (omega arith)) (same_nodes ∙ g)))
+      predicate_good h l g = ap (λ (x : ℕ). a_line 0 x (at + 1 + x)) e ∙ when_true (ltb at (length t) && rest) (a_line 0 (get_or t at 0) (at + 1 + get_or t at 0)) (and_intro (lt-ltb at (length t) h) (and_intro (le-leb (get_or t at 0) (length t - (at + 1)) (omega arith)) (same_nodes ∙ g)))
 
 pub ruleset predicate_laws = (predicate_end, predicate_short, predicate_bad, predicate_good)
 
 -- `location`
 module _ (t : List ℕ) (at : ℕ) (c : Counts) where
-  when_bad : (b : Bool) (l : Line) → Bad ≡ l → Bad ≡ when b l
+  when_bad : (b : Bool) (l : Option Line) → None ≡ l → None ≡ when b l
   unfolding when
   when_bad true l h = h
   when_bad false l h = refl
 
-  pub location_end : length t ≤ at → Bad ≡ location_at t at c
+  pub location_end : length t ≤ at → None ≡ location_at t at c
   unfolding location_at
   location_end h = when_bad _ _ (predicate_end t at c h)
 
@@ -161,11 +174,11 @@ module _ (t : List ℕ) (at : ℕ) (c : Counts) where
     same_new : names_new (map word_of (take (get_or t at 0) (drop (at + 1) t))) ≡ q
     same_new = ap (λ (x : ℕ). names_new (map word_of (take x (drop (at + 1) t)))) (sym e) ∙ sym hq
 
-    pub location_new : q ≡ true → Bad ≡ location_at t at c
+    pub location_new : q ≡ true → None ≡ location_at t at c
     unfolding location_at
     location_new h = when_false _ _ (ap not (same_new ∙ h))
 
-    pub location_good : q ≡ false → (r : Line) → r ≡ predicate_at t at c → r ≡ location_at t at c
+    pub location_good : q ≡ false → (r : Option Line) → r ≡ predicate_at t at c → r ≡ location_at t at c
     unfolding location_at
     location_good h r hr = hr ∙ when_true _ _ (ap not (same_new ∙ h))
 

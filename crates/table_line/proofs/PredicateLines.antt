@@ -28,13 +28,14 @@ use Rattle.table_predicate.specs.Walk.{declared_of, walk_at}
 use Rattle.table_predicate.specs.Scan.{is_coded}
 use Rattle.table_predicate.proofs.ScanLaws.{coded_words, words_coded}
 use Rattle.table_predicate.proofs.WalkLaws.{declared_back, walk_of, walk_back}
-use Rattle.table_line.specs.declared.Line.TheVariants.{Sound, Bad}
 use Rattle.table_line.specs.declared.Line.{Line}
 use Rattle.table_writes.specs.Sets.{all_variables, rest_of}
 use Rattle.table_owners.specs.Owners.{foreign_in}
 use Rattle.table_owners.proofs.OwnerLaws.{foreign_is}
 use Rattle.table_line.specs.Exact.{Declared, LineAt}
-use Rattle.table_line.specs.Line.{word, ranges_in, walked_to, nodes_sound, predicate_at, location_at, ends_sound, owns_at, owning, edge_at}
+use Rattle.std.specs.Prelude.{Option, Some, None}
+use Rattle.table_line.proofs.PredicateCode.{number_in, nodes_in, next_in}
+use Rattle.table_line.specs.Line.{a_line, word, ranges_in, walked_to, nodes_sound, predicate_at, location_at, ends_sound, owns_at, owning, edge_at}
 use Rattle.table_line.proofs.NumberLines.{when_sound, when_true, mended, first_of, head_of, two_of, two_there, line_at_lem}
 
 module _ (t : List ℕ) (r : Reading) (c : Counts) (k : Counted r c) (d : Declared t r) where
@@ -111,7 +112,7 @@ module _ (t : List ℕ) (r : Reading) (c : Counts) (k : Counted r c) (d : Declar
       nodes : NodesAt (at + 1) (word t at)
       there : drop at t ≡ pred_words nodes.pred ++ drop (at + 1 + word t at) t
 
-    predicate_back : (number nodes next : ℕ) → predicate_at t at c ≡ Sound number nodes next → PredAt × (Sound 0 (word t at) (at + 1 + word t at) ≡ Sound number nodes next)
+    predicate_back : (number nodes next : ℕ) → predicate_at t at c ≡ a_line number nodes next → PredAt × (a_line 0 (word t at) (at + 1 + word t at) ≡ a_line number nodes next)
     unfolding predicate_at pred_words
     predicate_back number nodes next h =
         let n = word t at in
@@ -130,7 +131,7 @@ module _ (t : List ℕ) (r : Reading) (c : Counts) (k : Counted r c) (d : Declar
 
     -- the same, of a predicate that is given
     record Said (p : Pred) : Type 0 where
-      sound : predicate_at t at c ≡ Sound 0 (node_count p) (at + 1 + node_count p)
+      sound : predicate_at t at c ≡ a_line 0 (node_count p) (at + 1 + node_count p)
       words_are : map word_of (take (word t at) (drop (at + 1) t)) ≡ words p
 
     predicate_of : (p : Pred) (rest : List ℕ) → LawfulPred r.model.variables p → r.nodes + node_count p ≤ max_nodes → drop at t ≡ pred_words p ++ rest → Said p
@@ -159,47 +160,47 @@ module _ (t : List ℕ) (r : Reading) (c : Counts) (k : Counted r c) (d : Declar
       pub lawful : LawfulStart r.model.variables pred
       pub few : r.nodes + node_count pred ≤ max_nodes
       pub there : drop at t ≡ pred_words pred ++ drop next t
-      pub said : Sound 0 (node_count pred) (at + length (pred_words pred)) ≡ Sound number nodes next
+      pub said : a_line 0 (node_count pred) (at + length (pred_words pred)) ≡ a_line number nodes next
 
-    pub location_back : (number nodes next : ℕ) → location_at t at c ≡ Sound number nodes next → StateAt number nodes next
+    pub location_back : (number nodes next : ℕ) → location_at t at c ≡ a_line number nodes next → StateAt number nodes next
     unfolding location_at
     location_back number nodes next h =
         let s = when_sound _ _ number nodes next h in
         let b = predicate_back number nodes next s.1 in
         let p = b.0.nodes.pred in
         let size = b.0.nodes.count in
-        let end : at + 1 + word t at ≡ next = cc in
+        let end : at + 1 + word t at ≡ next = ap next_in b.1 in
         record {
           pred = p;
           lawful = record { pred = b.0.nodes.lawful; old = ap names_new (sym b.0.nodes.said) ∙ not-true _ s.0 };
           few = b.0.nodes.few;
           there = b.0.there ∙ ap (λ (n : ℕ). pred_words p ++ drop n t) end;
-          said = ap₂ (λ (m n : ℕ). Sound 0 m n) size (sym (pred_long p) ∙ ap (λ (n : ℕ). at + 1 + n) size) ∙ b.1;
+          said = ap₂ (λ (m n : ℕ). a_line 0 m n) size (sym (pred_long p) ∙ ap (λ (n : ℕ). at + 1 + n) size) ∙ b.1;
         }
 
-    pub location_of : (p : Pred) (rest : List ℕ) → LawfulStart r.model.variables p → r.nodes + node_count p ≤ max_nodes → drop at t ≡ pred_words p ++ rest → location_at t at c ≡ Sound 0 (node_count p) (at + length (pred_words p))
+    pub location_of : (p : Pred) (rest : List ℕ) → LawfulStart r.model.variables p → r.nodes + node_count p ≤ max_nodes → drop at t ≡ pred_words p ++ rest → location_at t at c ≡ a_line 0 (node_count p) (at + length (pred_words p))
     unfolding location_at
     location_of p rest l few e =
         let s = predicate_of p rest l.pred few e in
-        when_true _ (ap (λ (ws : List Word). not (names_new ws)) s.words_are ∙ ap not l.old) ∙ s.sound ∙ ap (λ (n : ℕ). Sound 0 (node_count p) n) (pred_long p)
+        when_true _ (ap (λ (ws : List Word). not (names_new ws)) s.words_are ∙ ap not l.old) ∙ s.sound ∙ ap (λ (n : ℕ). a_line 0 (node_count p) n) (pred_long p)
 
     -- init and inv
     state_mended : {number nodes next : ℕ} (a : StateAt number nodes next) → fault_of r (init_line a.pred) ≡ none
     state_mended a = none_lacks _ ((state_line r a.pred).1 (a.lawful.pred, a.lawful.old, a.few))
 
-    pub init_sound : (number nodes next : ℕ) → location_at t at c ≡ Sound number nodes next → LineAt t r init at number nodes next
+    pub init_sound : (number nodes next : ℕ) → location_at t at c ≡ a_line number nodes next → LineAt t r init at number nodes next
     unfolding key_of number_of nodes_of line_words
     init_sound number nodes next h =
         let a = location_back number nodes next h in
         line_at_lem t r (init_line a.pred) at number nodes next _ (state_mended a) a.there a.said
 
-    pub inv_sound : (number nodes next : ℕ) → location_at t at c ≡ Sound number nodes next → LineAt t r inv at number nodes next
+    pub inv_sound : (number nodes next : ℕ) → location_at t at c ≡ a_line number nodes next → LineAt t r inv at number nodes next
     unfolding key_of number_of nodes_of line_words fault_of numbers_in_range content_fault
     inv_sound number nodes next h =
         let a = location_back number nodes next h in
         line_at_lem t r (inv_line a.pred) at number nodes next _ (state_mended a) a.there a.said
 
-    pub state_of : (p : Pred) (rest : List ℕ) → fault_of r (init_line p) ≡ none → drop at t ≡ pred_words p ++ rest → location_at t at c ≡ Sound 0 (node_count p) (at + length (pred_words p))
+    pub state_of : (p : Pred) (rest : List ℕ) → fault_of r (init_line p) ≡ none → drop at t ≡ pred_words p ++ rest → location_at t at c ≡ a_line 0 (node_count p) (at + length (pred_words p))
     unfolding lacks
     state_of p rest g e =
         let l = (state_line r p).0 (ap lacks g) in
@@ -297,16 +298,16 @@ module _ (t : List ℕ) (r : Reading) (c : Counts) (k : Counted r c) (d : Declar
         go false f h = or_left _ (lt-ltb c.format owners_format (omega (arith, leb-false owners_format r.model.format f, k.format)))
 
   -- a line that passes was one before, and its row 51 was asked
-  owning_sound : (at number nodes next : ℕ) (l : Line) → owning t c at l ≡ Sound number nodes next → (l ≡ Sound number nodes next) × (owns_at t c at nodes ≡ true)
+  owning_sound : (at number nodes next : ℕ) (l : Option Line) → owning t c at l ≡ a_line number nodes next → (l ≡ a_line number nodes next) × (owns_at t c at nodes ≡ true)
   unfolding owning
-  owning_sound at number nodes next (Sound a b n) h =
+  owning_sound at number nodes next (Some x) h =
       let s = when_sound _ _ number nodes next h in
-      let same : b ≡ nodes = cc in
+      let same : x.nodes ≡ nodes = ap nodes_in s.1 in
       (s.1, rw (← same) s.0)
-  owning_sound at number nodes next Bad h = let z : ◌≡◌ {A = ℕ} 0 1 = cc in absurd (omega arith)
+  owning_sound at number nodes next None h = let z : ◌≡◌ {A = ℕ} 0 1 = cc in absurd (omega arith)
 
   module _ (at : ℕ) where
-    pub edge_sound : (number nodes next : ℕ) → edge_at t at c ≡ Sound number nodes next → LineAt t r edge at number nodes next
+    pub edge_sound : (number nodes next : ℕ) → edge_at t at c ≡ a_line number nodes next → LineAt t r edge at number nodes next
     unfolding edge_at key_of number_of nodes_of line_words
     edge_sound number nodes next h =
         let from = word t at in
@@ -319,7 +320,7 @@ module _ (t : List ℕ) (r : Reading) (c : Counts) (k : Counted r c) (d : Declar
         let b = predicate_back (at + 3) number nodes next o.0 in
         let p = b.0.nodes.pred in
         let size = b.0.nodes.count in
-        let counted : word t (at + 3) ≡ nodes = cc in
+        let counted : word t (at + 3) ≡ nodes = ap nodes_in b.1 in
         let slice : take (node_count p) (drop (at + 3 + 1) t) ≡ map code (words p) = rw size b.0.nodes.coded in
         let own = owns_back (at + 3) p b.0.nodes.lawful.ranged slice (rw (size, counted) o.1) in
         let two : at + 1 + 1 ≡ at + 2 = omega arith in
@@ -328,9 +329,9 @@ module _ (t : List ℕ) (r : Reading) (c : Counts) (k : Counted r c) (d : Declar
         let there = two_there t at (omega arith) ∙ ap (λ (l : List ℕ). from ∷ action ∷ l) (last ∙ ap (λ (l : List ℕ). to ∷ l) b.0.there) in
         let end : at + suc (suc (suc (length (pred_words p)))) ≡ at + 3 + 1 + word t (at + 3) = omega (arith, pred_long (at + 3) p) in
         line_at_lem t r (edge_line (record { from = from; action = action; to = to; update = p })) at number nodes next _
-        (edge_mended _ ends b.0.nodes.lawful b.0.nodes.few own) there (ap₂ (λ (m n : ℕ). Sound 0 m n) size end ∙ b.1)
+        (edge_mended _ ends b.0.nodes.lawful b.0.nodes.few own) there (ap₂ (λ (m n : ℕ). a_line 0 m n) size end ∙ b.1)
 
-    pub edge_of : (e : Edge) (rest : List ℕ) → fault_of r (edge_line e) ≡ none → drop at t ≡ line_words (edge_line e) ++ rest → edge_at t at c ≡ Sound 0 (node_count e.update) (at + length (line_words (edge_line e)))
+    pub edge_of : (e : Edge) (rest : List ℕ) → fault_of r (edge_line e) ≡ none → drop at t ≡ line_words (edge_line e) ++ rest → edge_at t at c ≡ a_line 0 (node_count e.update) (at + length (line_words (edge_line e)))
     unfolding edge_at owning line_words pred_words node_count
     edge_of e rest g w =
         let p = e.update in
@@ -345,4 +346,4 @@ module _ (t : List ℕ) (r : Reading) (c : Counts) (k : Counted r c) (d : Declar
         let own = owns_of (at + 3) p facts.1.ranged slice count.below facts.3 in
         let end : at + 3 + 1 + node_count p ≡ at + suc (suc (suc (length (pred_words p)))) = omega (arith, pred_long (at + 3) p) in
         rw (f.0.is, f.1.is, last.is) (when_true _ (and_intro (lt-ltb (at + 2) (length t) last.below) (ends_of e.from e.action e.to facts.0)))
-        ∙ ap (owning t c (at + 3)) s.sound ∙ when_true _ own ∙ ap (λ (n : ℕ). Sound 0 (node_count p) n) end
+        ∙ ap (owning t c (at + 3)) s.sound ∙ when_true _ own ∙ ap (λ (n : ℕ). a_line 0 (node_count p) n) end

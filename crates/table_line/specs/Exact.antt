@@ -1,5 +1,5 @@
 -- What it means that a function reads the lines of a table exactly.
-use Rattle.std.specs.Prelude.{ℕ, ◌+◌, ◌*◌, ◌≤◌, ◌≡◌, length, take, drop}
+use Rattle.std.specs.Prelude.{Option, ℕ, ◌+◌, ◌*◌, ◌≤◌, ◌≡◌, length, take, drop}
 use Rattle.std.proofs.Math.Option.{none}
 use mathlib.Core.List.{List, ◌++◌, flat_map, Memᴰ}
 use Rattle.model.specs.Predicate.{Range}
@@ -12,7 +12,7 @@ use Rattle.line_order.specs.declared.Counts.{Counts}
 use Rattle.line_order.specs.Due.{code_of, number_of}
 use Rattle.line_order.specs.Counts.{nodes_of, Counted}
 use Rattle.table_line.specs.declared.Line.{Line}
-use Rattle.table_line.specs.declared.Line.TheVariants.{Sound}
+use Rattle.table_line.specs.Line.{a_line}
 
 -- The variables read so far have lawful ranges, and an owner or none each, and stand in the table from word 3 on, so
 -- that they can be read there again.
@@ -34,11 +34,11 @@ pub record LineAt (t : List ℕ) (r : Reading) (k : LineKey) (at number nodes ne
   pub ends : next ≡ at + length (line_words entry)
 
 -- `line` finds sound exactly the lines that stand in the table t
-pub record LineExact (t : List ℕ) (line : ℕ → Key → Counts → Line) : Type 0 where
+pub record LineExact (t : List ℕ) (line : ℕ → Key → Counts → Option Line) : Type 0 where
   pub sound : (r : Reading) (c : Counts) (at : ℕ) (k : LineKey) (number nodes next : ℕ) → Counted r c → Declared t r
       → at ≤ length t
-      → line at (code_of k) c ≡ Sound number nodes next → LineAt t r k at number nodes next
+      → line at (code_of k) c ≡ a_line number nodes next → LineAt t r k at number nodes next
   pub complete : (r : Reading) (c : Counts) (e : Entry) (at : ℕ) (rest : List ℕ) → Counted r c → Declared t r
       → fault_of r e ≡ none
       → drop at t ≡ line_words e ++ rest
-      → line at (code_of (key_of e)) c ≡ Sound (number_of e) (nodes_of e) (at + length (line_words e))
+      → line at (code_of (key_of e)) c ≡ a_line (number_of e) (nodes_of e) (at + length (line_words e))

@@ -8,6 +8,7 @@ use model::Model;
 use table_predicate::Walked;
 
 // The words of the first variables, which stand from word 3 on, as far as they are there.
+#[tactic(auto, using(crate::proofs::PredicateCode::ranges_laws))]
 pub fn ranges(t: &[u32], variables: usize) -> &[u32]
     ensures { result.now ≡ ranges_in t.now variables }
 {
@@ -21,6 +22,7 @@ pub fn ranges(t: &[u32], variables: usize) -> &[u32]
 }
 
 // The walk over n nodes from `start` on went well and ended after them.
+#[tactic(auto, using(crate::proofs::PredicateCode::walked_laws))]
 fn walked_to(walk: Walked, start: usize, n: usize) -> bool
     ensures { result ≡ walked_to walk (start + n) }
 {
@@ -32,52 +34,46 @@ fn walked_to(walk: Walked, start: usize, n: usize) -> bool
 }
 
 // n nodes from `start` on: rows 3, 7, 6 with 9 and 10, and 11.
+#[tactic(auto, using(crate::proofs::PredicateCode::nodes_laws))]
 fn nodes_sound(t: &[u32], start: usize, n: usize, counts: Counts) -> bool
     ensures { result ≡ nodes_sound t.now counts start n }
 {
     if !table_predicate::scan::ranged(t, start, n) {
         return false;
     }
-    let v = counts.variables;
-    if table_predicate::scan::names_outside(t, start, n, v) {
+    if table_predicate::scan::names_outside(t, start, n, counts.variables) {
         return false;
     }
-    let w = table_predicate::walk(t, start, ranges(t, v));
-    if !walked_to(w, start, n) {
-        return false;
-    }
-    let before = counts.nodes;
-    arithmetic::fits(before, n, Model::NODES)
+    let walk = table_predicate::walk(t, start, ranges(t, counts.variables));
+    walked_to(walk, start, n) && arithmetic::fits(counts.nodes, n, Model::NODES)
 }
 
 // A predicate: its count of nodes, and the nodes.
-pub(crate) fn predicate(t: &[u32], at: usize, counts: Counts) -> Line
+#[tactic(auto, using(crate::proofs::PredicateCode::predicate_laws))]
+pub(crate) fn predicate(t: &[u32], at: usize, counts: Counts) -> Option<Line>
     ensures { result ≡ predicate_at t.now at counts }
 {
-    if t.len() <= at {
-        return Line::Bad;
+    let nodes = arithmetic::index(*t.get(at)?);
+    if t.len() - (at + 1) < nodes {
+        return None;
     }
-    let n = arithmetic::index(t[at]);
-    if t.len() - (at + 1) < n {
-        return Line::Bad;
+    if !nodes_sound(t, at + 1, nodes, counts) {
+        return None;
     }
-    if nodes_sound(t, at + 1, n, counts) {
-        Line::Sound(0, n, at + 1 + n)
-    } else {
-        Line::Bad
-    }
+    Some(Line {
+        nodes,
+        ..Line::ending(at + 1 + nodes)
+    })
 }
 
 // A predicate on a location's values, where no new ones are: row 8 too.
-pub(crate) fn location(t: &[u32], at: usize, counts: Counts) -> Line
+#[tactic(auto, using(crate::proofs::PredicateCode::location_laws))]
+pub(crate) fn location(t: &[u32], at: usize, counts: Counts) -> Option<Line>
     ensures { result ≡ location_at t.now at counts }
 {
-    if t.len() <= at {
-        return Line::Bad;
-    }
-    let n = arithmetic::index(t[at]);
-    if table_predicate::scan::names_new(t, at + 1, n) {
-        return Line::Bad;
+    let nodes = arithmetic::index(*t.get(at)?);
+    if table_predicate::scan::names_new(t, at + 1, nodes) {
+        return None;
     }
     predicate(t, at, counts)
 }

@@ -1,10 +1,11 @@
 -- Each way out of the functions of table_owners.
-use Prim.Native.Nat.{ℕ, zero, suc, ◌+◌, ◌*◌, ◌-◌, ◌/◌, ◌≤◌}
+use Prim.Native.Nat.{ℕ, zero, suc, ◌+◌, ◌*◌, ◌-◌, ◌/◌, ◌≤◌, ◌<◌}
 use mathlib.Core.Path.{◌≡◌, refl, sym, ◌∙◌}
-use mathlib.Core.Bool.{Bool, true, false, not, ◌&&◌}
+use mathlib.Core.Bool.{Bool, true, false, not, ◌&&◌, ◌||◌}
 use mathlib.Core.List.{List}
 use native.Mathlib.Omega.{arith}
-use native.Mathlib.Numerals.{sub-one, add-one}
+use native.Mathlib.Numerals.{add-one}
+use native.Mathlib.Nat.{sub-zero}
 use lib.ListN.{length, get_or, get_or-eq_default}
 use lib.Dec.{eqb, ltb}
 use Rattle.model.specs.Basic.{exists, count_up}
@@ -31,38 +32,27 @@ pub foreign_at : (ws : List ℕ) (n rest k j w : ℕ) (b : Bool) → j ≡ k →
 unfolding is_foreign_at
 foreign_at ws n rest k j w b i e f = rw (e, f, i)
 
--- A search over the numbers below `total`: those that are left give the rest of the answer.
-pub record Going (f : ℕ → Bool) (whole : Bool) (total k left : ℕ) : Type 0 where
-  pub sum : k + left ≡ total
-  pub rest : exists f (count_up k left) ≡ whole
+-- A search over the numbers below `total`: those from k on give the answer.
+pub record Going (f : ℕ → Bool) (whole : Bool) (total k : ℕ) : Type 0 where
+  pub rest : exists f (count_up k (total - k)) ≡ whole
 
-pub going : (f : ℕ → Bool) (total : ℕ) → Going f (exists f (count_up 0 total)) total 0 total
-going f total = record { sum = omega arith; rest = refl }
+pub going : (f : ℕ → Bool) (total : ℕ) → Going f (exists f (count_up 0 total)) total 0
+going f total = record { rest = rw (sub-zero total) }
 
-module _ (f : ℕ → Bool) (whole : Bool) (total k left : ℕ) (g : Going f whole total k left) where
-  pub none_left : left ≡ 0 → false ≡ whole
+module _ (f : ℕ → Bool) (whole : Bool) (total k : ℕ) (g : Going f whole total k) where
+  pub none_left : total ≤ k → false ≡ whole
   unfolding exists count_up
-  none_left z = rw z at g.rest
+  none_left h = let z : total - k ≡ 0 = omega arith in rw z at g.rest
 
-  module _ (y : left ≡ 0 → ⊥) (b : Bool) (e : b ≡ f k) where
+  module _ (h : k < total) (b : Bool) (e : b ≡ f k) where
+    here : (f k || exists f (count_up (k + 1) (total - (k + 1)))) ≡ whole
+    unfolding exists count_up
+    here = let z : total - k ≡ suc (total - suc k) = omega arith in rw (add-one k) (rw z at g.rest)
+
     pub found_here : b ≡ true → true ≡ whole
-    unfolding exists count_up
-    found_here h = go left y g.rest
-      where
-        go : (n : ℕ) → (n ≡ 0 → ⊥) → exists f (count_up k n) ≡ whole → true ≡ whole
-        go zero u v = absurd (u refl)
-        go (suc n) u v = rw (sym e ∙ h) at v
+    found_here t = rw (sym e ∙ t) at here
 
-    pub go_on : b ≡ false → Going f whole total (k + 1) (left - 1)
-    unfolding exists count_up
-    go_on h = record { sum = more left y g.sum; rest = go left y g.rest }
-      where
-        more : (n : ℕ) → (n ≡ 0 → ⊥) → k + n ≡ total → k + 1 + (n - 1) ≡ total
-        more zero u v = absurd (u refl)
-        more (suc n) u v = rw (sub-one (suc n)) (omega arith)
-
-        go : (n : ℕ) → (n ≡ 0 → ⊥) → exists f (count_up k n) ≡ whole → exists f (count_up (k + 1) (n - 1)) ≡ whole
-        go zero u v = absurd (u refl)
-        go (suc n) u v = rw (sub-one (suc n), add-one k) (rw (sym e ∙ h) at v)
+    pub go_on : b ≡ false → Going f whole total (k + 1)
+    go_on t = record { rest = rw (sym e ∙ t) at here }
 
 pub ruleset search_laws = (none_left, found_here, go_on)

@@ -28,14 +28,10 @@ fn beyond_at(variables: &[u32], n: usize, k: usize) -> bool
 pub fn beyond(variables: &[u32], n: usize) -> bool
     ensures { result ≡ beyond_in variables.now n }
 {
-    let mut k = 0;
-    let mut left = variables.len() / 3;
-    while left != 0 {
+    for k in 0..variables.len() / 3 {
         if beyond_at(variables, n, k) {
             return true;
         }
-        k += 1;
-        left -= 1;
     }
     false
 }
@@ -53,14 +49,10 @@ fn foreign_at(variables: &[u32], n: usize, rest: u64, k: u32) -> bool
 pub fn foreign(variables: &[u32], n: usize, rest: u64) -> bool
     ensures { result ≡ foreign_in variables.now n rest }
 {
-    let mut k: u32 = 0;
-    let mut left = Model::VARIABLES;
-    while left != 0 {
+    for k in 0..Model::VARIABLES as u32 {
         if foreign_at(variables, n, rest, k) {
             return true;
         }
-        k += 1;
-        left -= 1;
     }
     false
 }

@@ -1,9 +1,8 @@
 -- Each way out of the code of src/lib.rt and src/parts.rt.
 use mathlib.Core.Path.{◌≡◌, refl, sym, ap, ◌∙◌}
 use mathlib.Core.List.{List}
-use Prim.Native.Nat.{ℕ, zero, suc, ◌+◌, ◌-◌, ◌≤◌, ◌<◌}
+use Prim.Native.Nat.{ℕ, suc, ◌+◌, ◌-◌, ◌≤◌, ◌<◌}
 use native.Mathlib.Omega.{arith}
-use native.Mathlib.Numerals.{sub-one}
 use lib.ListN.{length, get_or}
 use borrow.Author.Tests.{le-leb, lt-leb}
 use Rattle.table_places.specs.AtMost.{at_most}
@@ -19,23 +18,11 @@ module _ (most n : ℕ) where
   unfolding at_most
   at_most_cut h = rw (lt-leb n most h, at_most)
 
-pub ruleset at_most_laws = (at_most_all, at_most_cut)
-
 -- `step`
 module _ (t : List ℕ) (at n : ℕ) where
-  pub step_past : length t < at → length t ≡ reach t at n
-  unfolding reach
-  step_past h = rw (lt-leb (at + n) (length t) (omega arith), reach)
-
   pub step_short : at ≤ length t → length t - at < n → length t ≡ reach t at n
   unfolding reach
   step_short h l = rw (lt-leb (at + n) (length t) (omega arith), reach)
-
-  pub step_on : at ≤ length t → n ≤ length t - at → at + n ≡ reach t at n
-  unfolding reach
-  step_on h l = rw (le-leb (at + n) (length t) (omega arith), reach)
-
-pub ruleset step_laws = (step_past, step_short, step_on)
 
 -- the parts of a sheet
 module _ (t : List ℕ) (r : ℕ) where
@@ -117,19 +104,10 @@ module _ (t : List ℕ) (r : ℕ) where
 
 pub ruleset part_laws = (actions_is, variables_is, automata_is, first_automaton_is, range_is, low_is, set_low_is, edge_from_is, high_is, owner_is, set_high_is, edge_action_is, location_count_is, edge_to_is, first_edge_is, nodes_is, first_location_is, update_is)
 
--- `after_predicate`
-pub predicate_is : (t : List ℕ) (at a n r : ℕ) → a ≡ nodes_place t at → n ≡ get_or t at 0 → r ≡ reach t a n → r ≡ after_predicate t at
-unfolding after_predicate
-predicate_is t at a n r e f g = rw (g, e, f)
-
 -- A walk of so many steps, as a loop makes it: after one of them it goes on to the same end.
 module _ (walk : (at k : ℕ) → ℕ) (step : ℕ → ℕ) (later : (at k : ℕ) → walk at (suc k) ≡ walk (step at) k) (next left whole : ℕ) (inv : walk next left ≡ whole) where
-  pub one_on : (left ≡ 0 → ⊥) → (b : ℕ) → b ≡ step next → walk b (left - 1) ≡ whole
-  one_on y b e = go left y inv
-    where
-      go : (m : ℕ) → (m ≡ 0 → ⊥) → walk next m ≡ whole → walk b (m - 1) ≡ whole
-      go zero u i = absurd (u refl)
-      go (suc m) u i = rw (sub-one (suc m), e) (sym (later next m) ∙ i)
+  pub one_on : (rest : ℕ) → left ≡ suc rest → (b : ℕ) → b ≡ step next → walk b rest ≡ whole
+  one_on rest y b e = rw e (sym (later next rest) ∙ (rw y at inv))
 
 -- `location_at`
 module _ (t : List ℕ) (next left whole : ℕ) (inv : location_at t next left ≡ whole) where
@@ -137,9 +115,9 @@ module _ (t : List ℕ) (next left whole : ℕ) (inv : location_at t next left �
   unfolding location_at
   location_done z = rw z at inv
 
-  pub location_step : (left ≡ 0 → ⊥) → (a b : ℕ) → a ≡ after_predicate t next → b ≡ after_predicate t a → location_at t b (left - 1) ≡ whole
+  pub location_step : (rest : ℕ) → left ≡ suc rest → (a b : ℕ) → a ≡ after_predicate t next → b ≡ after_predicate t a → location_at t b rest ≡ whole
   unfolding location_at
-  location_step y a b e f = one_on (location_at t) (λ at. after_predicate t (after_predicate t at)) (λ at k. refl) next left whole inv y b (f ∙ ap (after_predicate t) e)
+  location_step rest y a b e f = one_on (location_at t) (λ at. after_predicate t (after_predicate t at)) (λ at k. refl) next left whole inv rest y b (f ∙ ap (after_predicate t) e)
 
 pub ruleset location_laws = (location_done, location_step)
 
@@ -149,23 +127,13 @@ module _ (t : List ℕ) (next left whole : ℕ) (inv : edge_at t next left ≡ w
   unfolding edge_at
   edge_done z = rw z at inv
 
-  pub edge_step : (left ≡ 0 → ⊥) → (a b : ℕ) → a ≡ update_place t next → b ≡ after_predicate t a → edge_at t b (left - 1) ≡ whole
+  pub edge_step : (rest : ℕ) → left ≡ suc rest → (a b : ℕ) → a ≡ update_place t next → b ≡ after_predicate t a → edge_at t b rest ≡ whole
   unfolding edge_at
-  edge_step y a b e f = one_on (edge_at t) (λ at. after_predicate t (update_place t at)) (λ at k. refl) next left whole inv y b (f ∙ ap (after_predicate t) e)
+  edge_step rest y a b e f = one_on (edge_at t) (λ at. after_predicate t (update_place t at)) (λ at k. refl) next left whole inv rest y b (f ∙ ap (after_predicate t) e)
 
 pub ruleset edge_laws = (edge_done, edge_step)
-
--- `edges_at`
-pub edges_is : (t : List ℕ) (at n b r : ℕ) → n ≡ location_count t at → b ≡ first_location t at → r ≡ location_at t b n → r ≡ edges_at t at
-unfolding edges_at
-edges_is t at n b r f g h = rw (h, g, f)
 
 -- past an automaton, by the place of its edges
 pub automaton_is : (t : List ℕ) (at p a n r : ℕ) → p ≡ edges_at t at → a ≡ first_edge t p → n ≡ get_or t p 0 → r ≡ edge_at t a n → r ≡ after_automaton t at
 unfolding after_automaton
 automaton_is t at p a n r e f g h = rw (h, f, g, e)
-
--- `count_at_lem`
-pub count_is : (t : List ℕ) (n r : ℕ) → n ≡ variables_in t → r ≡ range_at t n → r ≡ count_at t
-unfolding count_at
-count_is t n r e f = rw (f, e)

@@ -73,17 +73,6 @@ module _ (t : List ℕ) where
 
 pub ruleset laying_laws = (laying_begun, laying_turn, laying_end)
 
--- `automata_of`, `variables_of`
-pub automata_of_is : (x : Layout) (r : ℕ) → r ≡ at_most max_automata x.automata → r ≡ automata_of x
-unfolding automata_of
-automata_of_is x r e = e
-
-pub variables_of_is : (x : Layout) (r : ℕ) → r ≡ at_most max_variables x.variables → r ≡ variables_of x
-unfolding variables_of
-variables_of_is x r e = e
-
-pub ruleset of_laws = (automata_of_is, variables_of_is)
-
 -- what stands in the places
 places_length : (t : List ℕ) (n at : ℕ) → length (places_from t n at) ≡ n
 unfolding places_from

@@ -1,6 +1,5 @@
 pub mod CodeLaws
 pub mod LayoutLaws
-pub mod OwnLaws
 pub mod OutlineLaws
 pub mod Standing
 pub mod StartLaws

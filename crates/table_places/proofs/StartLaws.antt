@@ -1,7 +1,7 @@
 -- Each way out of the code of src/starts.rt; and behind a tree's nodes the start conditions stand at their places.
 use mathlib.Core.Path.{◌≡◌, refl, sym, ap, ◌∙◌}
 use mathlib.Core.List.{List, [], ◌∷◌, ◌++◌, append_assoc, flat_map}
-use Prim.Native.Nat.{ℕ, zero, suc, ◌-◌, ◌≤◌, ◌<◌}
+use Prim.Native.Nat.{ℕ, zero, suc, ◌≤◌, ◌<◌}
 use native.Mathlib.Omega.{arith}
 use lib.ListN.{length, get_or, drop, drop_of_length-le}
 use lib.Seq.{drop-drop, drop_at, drop-cons}
@@ -11,30 +11,14 @@ use Rattle.model.specs.Composition.{Tree, starts, tree_size}
 use Rattle.model.specs.Lines.{compose_line}
 use Rattle.model.specs.Table.{pred_words, start_words, line_words}
 use Rattle.model.proofs.Sizes.{starts_few}
-use Rattle.table_tree.specs.Nodes.{tree_words, skip_from}
+use Rattle.table_tree.specs.Nodes.{tree_words}
 use Rattle.table_tree.proofs.Standing.{skip_of}
 use Rattle.table_places.specs.AtMost.{at_most}
-use Rattle.table_places.specs.Outline.{reach, nodes_place, after_predicate}
+use Rattle.table_places.specs.Outline.{nodes_place, after_predicate}
 use Rattle.table_places.specs.Starts.{starts_at, start_count, first_start, start_at}
 use Rattle.table_places.proofs.CodeLaws.{at_most_all, one_on}
 use Rattle.table_places.proofs.OutlineLaws.{reach_inside, reached, read, after_predicate_lem}
 use Rattle.table_places.proofs.Standing.{predicate_inside, tree_nodes, tree_begins}
-
--- `starts_at`, `start_count` and `first_start`
-module _ (t : List ℕ) (at r : ℕ) where
-  pub starts_at_is : (a : ℕ) → a ≡ nodes_place t at → r ≡ skip_from t max_tree_nodes 1 a → r ≡ starts_at t at
-  unfolding starts_at
-  starts_at_is a e f = rw (f, e)
-
-  pub start_count_is : (n : ℕ) → n ≡ get_or t at 0 → r ≡ at_most max_tree_nodes n → r ≡ start_count t at
-  unfolding start_count
-  start_count_is n e f = rw (f, e)
-
-  pub first_start_is : r ≡ reach t at 1 → r ≡ first_start t at
-  unfolding first_start
-  first_start_is e = e
-
-pub ruleset starts_laws = (starts_at_is, start_count_is, first_start_is)
 
 -- `start_at`
 module _ (t : List ℕ) (next left whole : ℕ) (inv : start_at t next left ≡ whole) where
@@ -42,9 +26,9 @@ module _ (t : List ℕ) (next left whole : ℕ) (inv : start_at t next left ≡ 
   unfolding start_at
   start_done z = rw z at inv
 
-  pub start_step : (left ≡ 0 → ⊥) → (b : ℕ) → b ≡ after_predicate t next → start_at t b (left - 1) ≡ whole
+  pub start_step : (rest : ℕ) → left ≡ suc rest → (b : ℕ) → b ≡ after_predicate t next → start_at t b rest ≡ whole
   unfolding start_at
-  start_step y b e = one_on (start_at t) (after_predicate t) (λ at k. refl) next left whole inv y b e
+  start_step rest y b e = one_on (start_at t) (after_predicate t) (λ at k. refl) next left whole inv rest y b e
 
 pub ruleset start_laws = (start_done, start_step)
 

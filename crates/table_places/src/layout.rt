@@ -6,7 +6,7 @@ use model::Model;
 
 // A, V and N; where each automaton's set stands, and where its number of edges does, the table's end for one that there
 // is not; where the tree stands, its number of nodes first.
-#[derive(Clone, Copy)]
+#[derive(Clone, Copy, Debug, PartialEq, Eq)]
 pub struct Layout {
     pub actions: usize,
     pub variables: usize,
@@ -16,6 +16,7 @@ pub struct Layout {
     pub tree: usize,
 }
 
+#[tactic(auto, using(crate::proofs::LayoutLaws::laying_laws))]
 pub fn layout_of(t: &[u32]) -> Layout
     ensures { result ≡ layout_of t.now }
 {
@@ -25,19 +26,15 @@ pub fn layout_of(t: &[u32]) -> Layout
     let mut sets = [end; 16];
     let mut edges = [end; 16];
     let mut at = crate::first_automaton(t);
-    let mut k = 0;
-    while k < count {
+    for k in 0..count {
         let place = crate::edges_at(t, at);
         sets[k] = at;
         edges[k] = place;
         at = crate::edge_at(t, crate::first_edge(t, place), crate::word(t, place));
-        k += 1;
     }
-    let actions = crate::actions(t);
-    let variables = crate::variables(t);
     Layout {
-        actions,
-        variables,
+        actions: crate::actions(t),
+        variables: crate::variables(t),
         automata,
         sets,
         edges,
@@ -46,6 +43,7 @@ pub fn layout_of(t: &[u32]) -> Layout
 }
 
 // N, as far as a sheet has automata.
+#[tactic(auto, unfolding(crate::specs::Layout::automata_of))]
 pub fn automata_of(x: Layout) -> usize
     ensures value { result ≡ automata_of x }
     ensures upper_bound { result ≤ 16 }
@@ -54,6 +52,7 @@ pub fn automata_of(x: Layout) -> usize
 }
 
 // V, as far as a sheet has variables.
+#[tactic(auto, unfolding(crate::specs::Layout::variables_of))]
 pub fn variables_of(x: Layout) -> usize
     ensures value { result ≡ variables_of x }
     ensures upper_bound { result ≤ 48 }

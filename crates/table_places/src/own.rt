@@ -5,6 +5,7 @@ ghost use Rattle.table_places.specs.Own.{own_set, own_sets};
 use crate::Layout;
 
 // The set of the automaton at a place: its two words as one.
+#[tactic(auto, unfolding(crate::specs::Own::own_set))]
 fn own_set(t: &[u32], at: usize) -> u64
     ensures { result ≡ own_set t.now at }
 {
@@ -12,15 +13,9 @@ fn own_set(t: &[u32], at: usize) -> u64
 }
 
 // Each automaton's own set; 0 where there is no automaton.
+#[tactic(auto, unfolding(crate::specs::Own::own_sets))]
 pub fn own_sets(t: &[u32], x: Layout) -> [u64; 16]
     ensures { result ≡ own_sets t.now x.sets }
 {
-    let places = x.sets;
-    let mut sets = [0u64; 16];
-    let mut k = 0;
-    while k < 16 {
-        sets[k] = own_set(t, places[k]);
-        k += 1;
-    }
-    sets
+    x.sets.map(|at| own_set(t, at))
 }

@@ -1,5 +1,7 @@
 // The parts of a sheet by name: what stands at a place, and where a part's own parts stand. The distances are said here
 // alone.
+#![tactic(auto, using(crate::proofs::CodeLaws::part_laws))]
+
 ghost use Rattle.std.specs.Prelude.{◌≡◌};
 ghost use Rattle.table_places.specs.Outline.{actions_in, variables_in, automata_in, first_automaton, range_at, low_at};
 ghost use Rattle.table_places.specs.Outline.{high_at, owner_at, set_low, set_high, location_count, first_location};

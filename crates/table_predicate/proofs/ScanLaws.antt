@@ -1,12 +1,9 @@
 -- What the scans' tests say of a word by its kind, and what the scans say of a predicate's words.
 use mathlib.Core.Path.{◌≡◌, refl, sym, ap, ap₂, ◌∙◌}
-use mathlib.Core.Bool.{Bool, true, false, not, ◌&&◌, ◌||◌}
+use mathlib.Core.Bool.{Bool, true, false, ◌&&◌, ◌||◌}
 use mathlib.Core.List.{List, [], ◌∷◌, map}
-use Prim.Native.Nat.{ℕ, zero, suc, ◌+◌, ◌-◌, ◌<◌, ◌≤◌}
-use native.Mathlib.Numerals.{add-one, sub-one}
+use Prim.Native.Nat.{ℕ, ◌<◌}
 use lib.Dec.{eqb, leb}
-use lib.ListN.{length, get_or, take, drop, drop_of_length-le}
-use lib.Seq.{drop-cons, take-nil}
 use Rattle.model.specs.Basic.{every, exists}
 use Rattle.model.specs.Bounds.{last_biased}
 use Rattle.model.specs.Predicate.{Word, named, is_outside, is_new, names_outside, names_new}
@@ -16,21 +13,10 @@ use Rattle.node_words.specs.declared.Node.{Node}
 use Rattle.node_words.specs.declared.Node.TheVariants.{All, Any, Number, Old, New, Stray}
 use Rattle.node_words.specs.Nodes.{meant, node_of, word_for}
 use Rattle.node_words.proofs.NodeLaws.{number_span, meant_of, word_by, word_again, Other, by_others}
-use Rattle.model.proofs.Tests.{and_left, and_right, and_intro, eq_of, of_eq, exists_map}
+use Rattle.model.proofs.Tests.{and_left, and_right, and_intro, eq_of, of_eq}
 use Rattle.model.proofs.Decode.{word_back}
-use Rattle.table_predicate.specs.Scan.{is_coded, fails}
-use Rattle.table_predicate.specs.declared.scan.Test.{Test}
-
--- one word more, and none
-module _ (f : ℕ → Bool) (ws : List ℕ) where
-  pub exists_more : (at count : ℕ) → (count ≡ 0 → ⊥) → at < length ws → exists f (take count (drop at ws)) ≡ (f (get_or ws at 0) || exists f (take (count - 1) (drop (at + 1) ws)))
-  unfolding exists
-  exists_more at zero z h = absurd (z refl)
-  exists_more at (suc n) z h = rw (drop-cons ws at 0 h, sub-one (suc n), add-one at)
-
-  pub exists_none : (at count : ℕ) → length ws ≤ at → exists f (take count (drop at ws)) ≡ false
-  unfolding exists
-  exists_none at count h = rw (drop_of_length-le ws h, take-nil {A = ℕ} count)
+use Rattle.std.specs.List.{list_any, list_all}
+use Rattle.table_predicate.specs.Scan.{is_coded}
 
 -- the nodes that are not in range as they are
 abbrev with_bounds : List Node
@@ -110,22 +96,20 @@ module _ (n : Node) where
 pub ruleset range_laws = (range_all, range_any, range_number, range_old, range_new, range_stray, range_bare)
 
 -- what the scans say of a row of words
-pub some_outside : (n : ℕ) (l : List ℕ) → exists (fails (Test.Outside n)) l ≡ names_outside n (map word_of l)
-unfolding fails names_outside
-some_outside n l = sym (exists_map (λ x. is_outside n (named x)) word_of l)
+pub some_outside : (n : ℕ) (l : List ℕ) → list_any (λ w. is_outside n (named (word_of w))) l ≡ names_outside n (map word_of l)
+unfolding names_outside exists
+some_outside n [] = refl
+some_outside n (w ∷ l) = ap (λ (b : Bool). is_outside n (named (word_of w)) || b) (some_outside n l)
 
-pub some_new : (l : List ℕ) → exists (fails Test.New) l ≡ names_new (map word_of l)
-unfolding fails names_new
-some_new l = sym (exists_map (λ x. is_new (named x)) word_of l)
+pub some_new : (l : List ℕ) → list_any (λ w. is_new (named (word_of w))) l ≡ names_new (map word_of l)
+unfolding names_new exists
+some_new [] = refl
+some_new (w ∷ l) = ap (λ (b : Bool). is_new (named (word_of w)) || b) (some_new l)
 
-pub some_uncoded : (l : List ℕ) → not (exists (fails Test.Uncoded) l) ≡ every is_coded l
-unfolding fails exists every
-some_uncoded [] = refl
-some_uncoded (w ∷ l) = go (is_coded w) (some_uncoded l)
-  where
-    go : (b : Bool) → not (exists (fails Test.Uncoded) l) ≡ every is_coded l → not (not b || exists (fails Test.Uncoded) l) ≡ (b && every is_coded l)
-    go true e = e
-    go false e = refl
+pub all_coded : (l : List ℕ) → list_all is_coded l ≡ every is_coded l
+unfolding every
+all_coded [] = refl
+all_coded (w ∷ l) = ap (λ (b : Bool). is_coded w && b) (all_coded l)
 
 -- codes of words in range: what they are the codes of, and that they are
 pub coded_words : (l : List ℕ) → every is_coded l ≡ true → (l ≡ map code (map word_of l)) × (every in_range (map word_of l) ≡ true)

@@ -24,10 +24,6 @@ with_sound s w = record { sound = s; deep = w.deep; leaves = w.leaves; next = w.
 
 -- the walk at the limit of depth
 module _ (w : Walked) where
-  pub deeper_now : w.sound ≡ true → record { sound = false; deep = true; leaves = w.leaves; next = w.next } ≡ deeper w
-  unfolding deeper
-  deeper_now h = rw (h, deeper)
-
   pub deeper_ended : w.sound ≡ false → w ≡ deeper w
   unfolding deeper
   deeper_ended h = go w.sound h
@@ -87,10 +83,13 @@ abbrev uncompared : List Node
 uncompared = All 0 ∷ Any 0 ∷ Not ∷ Imp ∷ Number 0 ∷ Old 0 ∷ New 0 ∷ Add ∷ Sub ∷ Mul ∷ If ∷ Stray ∷ []
 
 -- one operand more
-pub gather_more : (P : Walked → Walked) (n : ℕ) (w : Walked) → (n ≡ 0 → ⊥) → gather P n w ≡ gather P (n - 1) (P w)
+pub gather_more : (P : Walked → Walked) (n rest : ℕ) (w : Walked) → n ≡ suc rest → gather P n w ≡ gather P rest (P w)
 unfolding gather
-gather_more P zero w z = absurd (z refl)
-gather_more P (suc n) w z = rw (sub-one (suc n))
+gather_more P n rest w z = rw z
+
+pub gather_done : (P : Walked → Walked) (n : ℕ) (w : Walked) → n ≡ 0 → w ≡ gather P n w
+unfolding gather
+gather_done P n w z = rw z
 
 module _ (words ranges : List ℕ) where
   abbrev P : ℕ → Walked → Walked

@@ -13,7 +13,7 @@ use node_words::Node;
 pub mod scan;
 
 // How far a walk came.
-#[derive(Clone, Copy)]
+#[derive(Clone, Copy, Debug, PartialEq, Eq)]
 pub struct Walked {
     // What was walked is made of whole predicates and expressions, nested at most as deep as they may. Where it is not,
     // the walk ended.
@@ -27,14 +27,14 @@ pub struct Walked {
 }
 
 // A walk that has entered a node, and the node.
-#[derive(Clone, Copy)]
+#[derive(Clone, Copy, Debug, PartialEq, Eq)]
 pub struct Entered {
     pub walk: Walked,
     pub node: Node,
 }
 
 // A walk that is past an expression, and the expression's interval, cut to what an i64 holds.
-#[derive(Clone, Copy)]
+#[derive(Clone, Copy, Debug, PartialEq, Eq)]
 pub struct Reach {
     pub walk: Walked,
     pub low: i64,
@@ -42,6 +42,7 @@ pub struct Reach {
 }
 
 // No depth is left for the next node.
+#[tactic(auto, unfolding(crate::specs::Walk::deeper))]
 fn deeper(walk: Walked) -> Walked
     ensures { result ≡ deeper walk }
 {
@@ -49,54 +50,45 @@ fn deeper(walk: Walked) -> Walked
         Walked {
             sound: false,
             deep: true,
-            leaves: walk.leaves,
-            next: walk.next,
+            ..walk
         }
     } else {
         walk
     }
 }
 
+#[tactic(auto, unfolding(crate::specs::Walk::unsound))]
 fn unsound(walk: Walked) -> Walked
     ensures { result ≡ unsound walk }
 {
     Walked {
         sound: false,
-        deep: walk.deep,
-        leaves: walk.leaves,
-        next: walk.next,
+        ..walk
     }
 }
 
 // On to the node that comes next. A walk that has ended, or that has no words left, finds a stray.
+#[tactic(auto, unfolding(crate::specs::Walk::entered))]
 fn enter(words: &[u32], walk: Walked) -> Entered
     ensures { result ≡ entered words.now walk }
 {
     let at = walk.next;
-    if !walk.sound {
+    if !walk.sound || words.len() <= at {
         return Entered {
             walk,
             node: Node::Stray,
         };
     }
-    if words.len() <= at {
-        return Entered {
-            walk,
-            node: Node::Stray,
-        };
-    }
-    let inner = Walked {
-        sound: walk.sound,
-        deep: walk.deep,
-        leaves: walk.leaves,
-        next: at + 1,
-    };
     Entered {
-        walk: inner,
+        walk: Walked {
+            next: at + 1,
+            ..walk
+        },
         node: node_words::node_of(words[at]),
     }
 }
 
+#[tactic(auto, unfolding(crate::specs::Walk::unreached))]
 fn unreached(walk: Walked) -> Reach
     ensures { result ≡ unreached walk }
 {
@@ -112,17 +104,11 @@ fn reached(walk: Walked, low: i64, high: i64) -> Reach
     ensures { result ≡ reached walk (range low high) }
 {
     let stays = arithmetic::in_span(low, high);
-    let past = Walked {
-        sound: walk.sound,
-        deep: walk.deep,
+    let walk = Walked {
         leaves: walk.leaves | !stays,
-        next: walk.next,
+        ..walk
     };
-    Reach {
-        walk: past,
-        low,
-        high,
-    }
+    Reach { walk, low, high }
 }
 
 fn number(walk: Walked, argument: u32) -> Reach
@@ -195,13 +181,10 @@ fn predicate(words: &[u32], walk: Walked, left: usize, ranges: &[u32]) -> Walked
     if left == 0 {
         return deeper(walk);
     }
-    let entered = enter(words, walk);
-    let inner = entered.walk;
+    let Entered { walk: inner, node } = enter(words, walk);
     let below = left - 1;
-    let node = entered.node;
     match node {
-        Node::All(k) => operands(words, inner, arithmetic::index(k), below, ranges),
-        Node::Any(k) => operands(words, inner, arithmetic::index(k), below, ranges),
+        Node::All(k) | Node::Any(k) => operands(words, inner, arithmetic::index(k), below, ranges),
         Node::Not => predicate(words, inner, below, ranges),
         Node::Imp => {
             let p = predicate(words, inner, below, ranges);
@@ -221,14 +204,12 @@ fn predicate(words: &[u32], walk: Walked, left: usize, ranges: &[u32]) -> Walked
 fn operands(words: &[u32], walk: Walked, count: usize, left: usize, ranges: &[u32]) -> Walked
     ensures { result ≡ gather (predicate_at words.now ranges.now left) count walk }
 {
-    let mut rest = count;
     let mut reach = walk;
-    while rest != 0 {
+    for _ in 0..count {
         if !reach.sound {
             return reach;
         }
         reach = predicate(words, reach, left, ranges);
-        rest -= 1;
     }
     reach
 }
@@ -241,14 +222,11 @@ fn expression(words: &[u32], walk: Walked, left: usize, ranges: &[u32]) -> Reach
     if left == 0 {
         return unreached(deeper(walk));
     }
-    let entered = enter(words, walk);
-    let inner = entered.walk;
+    let Entered { walk: inner, node } = enter(words, walk);
     let below = left - 1;
-    let node = entered.node;
     match node {
         Node::Number(n) => number(inner, n),
-        Node::Old(k) => variable(inner, ranges, arithmetic::index(k)),
-        Node::New(k) => variable(inner, ranges, arithmetic::index(k)),
+        Node::Old(k) | Node::New(k) => variable(inner, ranges, arithmetic::index(k)),
         Node::Add => {
             let x = expression(words, inner, below, ranges);
             let y = expression(words, x.walk, below, ranges);
@@ -276,6 +254,7 @@ fn expression(words: &[u32], walk: Walked, left: usize, ranges: &[u32]) -> Reach
 
 // Walks the predicate whose node words stand from `at` on. `ranges` has the variables' declared ranges as table words:
 // LO and HI of variable K are the words 3K and 3K + 1, and word 3K + 2 is for its owner.
+#[tactic(auto, unfolding(crate::specs::Walk::walk_at))]
 pub fn walk(words: &[u32], at: usize, ranges: &[u32]) -> Walked
     ensures { result ≡ walk_at words.now ranges.now at }
 {

@@ -3,7 +3,6 @@ use mathlib.Core.Path.{◌≡◌, refl, sym, ap, ◌∙◌}
 use mathlib.Core.List.{List, [], ◌∷◌, ◌++◌}
 use Prim.Native.Nat.{ℕ, zero, suc, ◌+◌, ◌-◌, ◌≤◌, ◌<◌}
 use native.Mathlib.Omega.{arith}
-use native.Mathlib.Numerals.{sub-one}
 use lib.ListN.{length, get_or, drop, drop_of_length-le, length-drop}
 use lib.Seq.{drop-cons, drop-drop, drop_at, get_or-drop}
 use borrow.Author.Tests.{eq-eqb, ne_eqb}
@@ -58,44 +57,6 @@ module _ (words : List ℕ) (at : ℕ) where
 
 pub ruleset node_laws = (node_end, node_par, node_leaf, node_short, node_syn)
 
--- `after` and `owing`
-module _ (f : Found) (n k a b : ℕ) where
-  pub after_par : f ≡ Par n → n ≡ after f k
-  unfolding after
-  after_par e = rw e
-
-  pub after_syn : f ≡ Syn a b n → n ≡ after f k
-  unfolding after
-  after_syn e = rw e
-
-  pub after_leaf : f ≡ Leaf a n → n ≡ after f k
-  unfolding after
-  after_leaf e = rw e
-
-  pub owing_par : f ≡ Par n → k + 1 ≡ owing f k
-  unfolding owing
-  owing_par e = rw e
-
-  pub owing_syn : f ≡ Syn a b n → k ≡ owing f k
-  unfolding owing
-  owing_syn e = rw e
-
-  pub owing_leaf : f ≡ Leaf a n → k - 1 ≡ owing f k
-  unfolding owing
-  owing_leaf e = rw e
-
-pub after_stray : (f : Found) (k : ℕ) → f ≡ Stray → k ≡ after f k
-unfolding after
-after_stray f k e = rw e
-
-pub owing_stray : (f : Found) (k : ℕ) → f ≡ Stray → 0 ≡ owing f k
-unfolding owing
-owing_stray f k e = rw e
-
-pub ruleset after_laws = (after_par, after_syn, after_leaf, after_stray)
-
-pub ruleset owing_laws = (owing_par, owing_syn, owing_leaf, owing_stray)
-
 -- `skip`
 owing_bound : (f : Found) (k : ℕ) → owing f k ≤ k + 1
 unfolding owing
@@ -117,17 +78,13 @@ module _ (words : List ℕ) (left owed next whole : ℕ) (inv : skip_from words 
   unfolding skip_from
   skip_spent z = rw z at inv
 
-  module _ (z : owed ≡ 0 → ⊥) (y : left ≡ 0 → ⊥) (f : Found) (e : f ≡ node_at words next) (o n : ℕ) (eo : o ≡ owing f owed) where
-    pub skip_step : n ≡ after f next → skip_from words (left - 1) o n ≡ whole
+  module _ (z : owed ≡ 0 → ⊥) (rest : ℕ) (y : left ≡ suc rest) (f : Found) (e : f ≡ node_at words next) (o n : ℕ) (eo : o ≡ owing f owed) where
+    pub skip_step : n ≡ after f next → skip_from words rest o n ≡ whole
     unfolding skip_from
-    skip_step en = go left y inv
-      where
-        go : (m : ℕ) → (m ≡ 0 → ⊥) → skip_from words m owed next ≡ whole → skip_from words (m - 1) o n ≡ whole
-        go zero u i = absurd (u refl)
-        go (suc m) u i = rw (sub-one (suc m), eo, en, e) (rw (ne_eqb owed 0 z, skip_from) at i)
+    skip_step en = rw (eo, en, e) (rw (y, ne_eqb owed 0 z, skip_from) at inv)
 
-    pub skip_bound : owed + left ≤ 65 → o + (left - 1) ≤ 65
-    skip_bound l = omega (arith, owing_bound f owed)
+    pub skip_bound : (i : ℕ) → owed ≤ i + 1 → o ≤ i + 1 + 1
+    skip_bound i l = omega (arith, owing_bound f owed)
 
 pub ruleset skip_laws = (skip_done, skip_spent, skip_step, skip_bound)
 

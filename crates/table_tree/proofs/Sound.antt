@@ -1,4 +1,4 @@
--- The check says Sound of the words of a lawful tree, and of no others.
+-- The check finds an end of the words of a lawful tree, and of no others.
 use mathlib.Core.Path.{◌≡◌, refl, sym, ap, ap₂, ◌∙◌}
 use mathlib.Core.Bool.{Bool, true, false, ◌&&◌, and_assoc, true≢false}
 use mathlib.Core.List.{List, [], ◌∷◌, ◌++◌, append_assoc, append-nil, flat_map}
@@ -22,12 +22,11 @@ use Rattle.model.proofs.Numbered.{size, Numbered, numbered, size_is}
 use Rattle.table_tree.specs.declared.nodes.Found.{Found}
 use Rattle.table_tree.specs.declared.nodes.Found.TheVariants.{Par, Syn, Leaf}
 use Rattle.table_tree.specs.declared.checked.Step.{Step}
-use Rattle.table_tree.specs.declared.checked.Step.TheVariants.{On, Off}
-use Rattle.table_tree.specs.declared.checked.TreeCheck.{TreeCheck}
-use Rattle.table_tree.specs.declared.checked.TreeCheck.TheVariants.{Sound, Bad}
+use Rattle.std.specs.Prelude.{Option, Some, None}
+use Rattle.table_tree.specs.declared.checked.TreeEnd.{TreeEnd}
 use Rattle.table_tree.specs.Sets.{unfilled}
 use Rattle.table_tree.specs.Nodes.{tree_words, node_at}
-use Rattle.table_tree.specs.Checked.{step_by, step_of, onward, check_from, tree_check}
+use Rattle.table_tree.specs.Checked.{step_to, tree_end, step_by, step_of, onward, check_from, tree_check}
 use Rattle.table_tree.proofs.SetLaws.{words_back}
 use Rattle.table_tree.proofs.NodeLaws.{later, Viewed, viewed_par, viewed_syn, viewed_leaf, viewed_stray, view}
 use Rattle.table_tree.proofs.CheckLaws.{step_none, step_by_lem, step_par, step_syn, step_leaf, walk_on, check_walk}
@@ -41,10 +40,9 @@ filled_first (k ∷ ks) c h = (refl, h)
 
 module _ (w : List ℕ) (A N : ℕ) where
   -- one node
-  on : (left next owed leaves inis : ℕ) (n o l i : ℕ) → On n o l i ≡ step_of A owed leaves inis (node_at w next) → check_from w A N (suc left) next owed leaves inis ≡ check_from w A N left n o l i
+  on : (left next owed leaves inis : ℕ) (n o l i : ℕ) → step_to n o l i ≡ step_of A owed leaves inis (node_at w next) → check_from w A N (suc left) next owed leaves inis ≡ check_from w A N left n o l i
   on left next owed leaves inis n o l i e =
-      let one : suc left - 1 ≡ left = omega arith in
-      sym (rw one at (walk_on w A N (suc left) next owed leaves inis (check_from w A N (suc left) next owed leaves inis) refl (omega arith) (On n o l i) e n o l i refl))
+      sym (walk_on w A N (suc left) next owed leaves inis (check_from w A N (suc left) next owed leaves inis) refl left refl (step_to n o l i) e (record { next = n; owed = o; leaves = l; inis = i }) refl)
 
   -- a subtree is passed, whose leaves are numbered on, and its `ini` are counted
   abbrev Passed : (c : Tree) (left next owed first inis : ℕ) → Type 0
@@ -100,11 +98,11 @@ module _ (w : List ℕ) (A N : ℕ) where
         ∙ ap₂ (λ m j. check_from w A N left (next + 1) m (first + 1) j) o i
         ∙ ap (λ l. check_from w A N left (next + length l) owed (first + 1) (inis + 0)) (sym (words_leaf k))
 
-  ended : (next first inis : ℕ) → first ≡ N → check_from w A N 0 next 0 first inis ≡ Sound next inis
+  ended : (next first inis : ℕ) → first ≡ N → check_from w A N 0 next 0 first inis ≡ tree_end next inis
   unfolding check_from
   ended next first inis e = rw (eq-eqb first N e, check_from)
 
-  pub tree_check_of : (at : ℕ) (c : Tree) → A ≤ max_actions → LawfulTree A N c → take (suc (length (tree_words c))) (drop at w) ≡ tree_size c ∷ tree_words c → tree_check w at A N ≡ Sound (at + 1 + length (tree_words c)) (length (starts c))
+  pub tree_check_of : (at : ℕ) (c : Tree) → A ≤ max_actions → LawfulTree A N c → take (suc (length (tree_words c))) (drop at w) ≡ tree_size c ∷ tree_words c → tree_check w at A N ≡ tree_end (at + 1 + length (tree_words c)) (length (starts c))
   tree_check_of at c few h e =
       let k = tree_size c ∷ tree_words c in
       let rest = drop (length k) (drop at w) in
@@ -119,7 +117,7 @@ module _ (w : List ℕ) (A N : ℕ) where
       let leaves_are : 0 + size c ≡ N = zero-add (size c) ∙ size_is c N h.in_order in
       sym
       (check_walk w at A N below (tree_size c) count small _
-      (sym (ap (λ m. check_from w A N m (at + 1) 1 0 0) (sym none) ∙ passed ∙ ended (at + 1 + length (tree_words c)) (0 + size c) (0 + length (starts c)) leaves_are ∙ ap (Sound (at + 1 + length (tree_words c))) (zero-add (length (starts c))))))
+      (sym (ap (λ m. check_from w A N m (at + 1) 1 0 0) (sym none) ∙ passed ∙ ended (at + 1 + length (tree_words c)) (0 + size c) (0 + length (starts c)) leaves_are ∙ ap (tree_end (at + 1 + length (tree_words c))) (zero-add (length (starts c))))))
 
 -- every word of a table is a u32
 pub all_words : (w : List ℕ) → ((k : ℕ) → get_or w k 0 < 4294967296) → every (λ x. ltb x 4294967296) w ≡ true
@@ -127,7 +125,16 @@ unfolding every
 all_words [] h = refl
 all_words (x ∷ w) h = and_intro (lt-ltb x 4294967296 (h 0)) (all_words w (λ k. h (suc k)))
 
-not_sound : (end count : ℕ) → Bad ≡ Sound end count → ⊥
+-- what an end that was found says
+abbrev pub next_in : Option TreeEnd → ℕ
+next_in (Some x) = x.next
+next_in None = 0
+
+abbrev inis_in : Option TreeEnd → ℕ
+inis_in (Some x) = x.inis
+inis_in None = 0
+
+not_sound : (end count : ℕ) → None ≡ tree_end end count → ⊥
 not_sound end count e = let z : ◌≡◌ {A = ℕ} 0 1 = cc in omega arith
 
 -- the tree with a node over it: an `ini`, whose P is not known, or a `syn`
@@ -253,11 +260,11 @@ module _ (w : List ℕ) (A N end count : ℕ) where
         let all : (ltb a 4294967296 && (ltb b 4294967296 && every (λ x. ltb x 4294967296) l)) ≡ true = rw d at (rest_fits next) in
         (ltb-true a 4294967296 (and_left (ltb a 4294967296) _ all), ltb-true b 4294967296 (and_left (ltb b 4294967296) _ (and_right (ltb a 4294967296) _ all)))
 
-    module _ (left next owed first inis : ℕ) (z : owed ≡ 0 → ⊥) (ih : (m o l i : ℕ) → check_from w A N left m o l i ≡ Sound end count → Forest left m o l i) where
-      abbrev go_on : ℕ → ℕ → ℕ → ℕ → TreeCheck
+    module _ (left next owed first inis : ℕ) (z : owed ≡ 0 → ⊥) (ih : (m o l i : ℕ) → check_from w A N left m o l i ≡ tree_end end count → Forest left m o l i) where
+      abbrev go_on : ℕ → ℕ → ℕ → ℕ → Option TreeEnd
       go_on m o l i = check_from w A N left m o l i
 
-      by_syn : (a b : ℕ) → drop next w ≡ 1 ∷ a ∷ b ∷ drop (next + 3) w → (t : Bool) → rises A 0 (set_of a b) ≡ t → onward go_on (elim t as (λ c. Step) [ true ↦ On (next + 3) owed first (inis + unfilled (set_of a b)) | false ↦ Off ]) ≡ Sound end count → Forest (suc left) next owed first inis
+      by_syn : (a b : ℕ) → drop next w ≡ 1 ∷ a ∷ b ∷ drop (next + 3) w → (t : Bool) → rises A 0 (set_of a b) ≡ t → onward go_on (elim t as (λ c. Option Step) [ true ↦ step_to (next + 3) owed first (inis + unfilled (set_of a b)) | false ↦ None ]) ≡ tree_end end count → Forest (suc left) next owed first inis
       unfolding onward
       by_syn a b d true t h =
           let f = ih (next + 3) owed first (inis + unfilled (set_of a b)) h in
@@ -265,14 +272,14 @@ module _ (w : List ℕ) (A N end count : ℕ) where
           over_on left next owed first inis z a b fits.0 fits.1 t d f.0 f.1
       by_syn a b d false t h = absurd (not_sound end count h)
 
-      by_leaf : (k : ℕ) → drop next w ≡ (2 + k) ∷ drop (next + 1) w → (t : Bool) → eqb k first ≡ t → onward go_on (elim t as (λ c. Step) [ true ↦ On (next + 1) (owed - 1) (first + 1) inis | false ↦ Off ]) ≡ Sound end count → Forest (suc left) next owed first inis
+      by_leaf : (k : ℕ) → drop next w ≡ (2 + k) ∷ drop (next + 1) w → (t : Bool) → eqb k first ≡ t → onward go_on (elim t as (λ c. Option Step) [ true ↦ step_to (next + 1) (owed - 1) (first + 1) inis | false ↦ None ]) ≡ tree_end end count → Forest (suc left) next owed first inis
       unfolding onward
       by_leaf k d true t h =
           let f = ih (next + 1) (owed - 1) (first + 1) inis h in
           leaf_on left next owed first inis z k (eqb-true k first t) d f.0 f.1
       by_leaf k d false t h = absurd (not_sound end count h)
 
-      by_node : (f : Found) → Viewed w next f → onward go_on (step_by A owed first inis f) ≡ Sound end count → Forest (suc left) next owed first inis
+      by_node : (f : Found) → Viewed w next f → onward go_on (step_by A owed first inis f) ≡ tree_end end count → Forest (suc left) next owed first inis
       unfolding onward step_by
       by_node f (viewed_par d) h =
           let f = ih (next + 1) (owed + 1) first inis h in
@@ -281,20 +288,20 @@ module _ (w : List ℕ) (A N end count : ℕ) where
       by_node f (viewed_leaf k d) h = by_leaf k d (eqb k first) refl h
       by_node f viewed_stray h = absurd (not_sound end count h)
 
-    grown : (left next owed first inis : ℕ) → check_from w A N left next owed first inis ≡ Sound end count → Forest left next owed first inis
+    grown : (left next owed first inis : ℕ) → check_from w A N left next owed first inis ≡ tree_end end count → Forest left next owed first inis
     unfolding check_from onward
     grown zero next owed first inis h = go (eqb owed 0 && eqb first N) refl h
       where
-        go : (t : Bool) → (eqb owed 0 && eqb first N) ≡ t → elim t as (λ c. TreeCheck) [ true ↦ Sound next inis | false ↦ Bad ] ≡ Sound end count → Forest 0 next owed first inis
+        go : (t : Bool) → (eqb owed 0 && eqb first N) ≡ t → elim t as (λ c. Option TreeEnd) [ true ↦ tree_end next inis | false ↦ None ] ≡ tree_end end count → Forest 0 next owed first inis
         go true t e =
             let o = eqb-true owed 0 (and_left (eqb owed 0) (eqb first N) t) in
-            let n : next ≡ end = cc in
-            let k : inis ≡ count = cc in
+            let n : next ≡ end = ap next_in e in
+            let k : inis ≡ count = ap inis_in e in
             rw o (no_trees next first inis n (eqb-true first N (and_right (eqb owed 0) (eqb first N) t)) k)
         go false t e = absurd (not_sound end count e)
     grown (suc n) next owed first inis h = go (eqb owed 0) refl (grown n)
       where
-        go : (t : Bool) → eqb owed 0 ≡ t → ((m o l i : ℕ) → check_from w A N n m o l i ≡ Sound end count → Forest n m o l i) → Forest (suc n) next owed first inis
+        go : (t : Bool) → eqb owed 0 ≡ t → ((m o l i : ℕ) → check_from w A N n m o l i ≡ tree_end end count → Forest n m o l i) → Forest (suc n) next owed first inis
         go true t ih = absurd (not_sound end count (rw (← step_none A owed first inis (node_at w next) (eqb-true owed 0 t)) at h))
         go false t ih =
             let z = eqb-false owed 0 t in
@@ -328,17 +335,17 @@ module _ (w : List ℕ) (at A N next count : ℕ) (fit : every (λ x. ltb x 4294
         ap (λ (l : List Pred). length l) (sym (append-nil (starts c))) ∙ sym (zero-add _) ∙ g.counted,
       )
 
-  pub tree_check_back : tree_check w at A N ≡ Sound next count → (c : Tree) × LawfulTree A N c × (take (next - at) (drop at w) ≡ tree_size c ∷ tree_words c) × (length (starts c) ≡ count)
+  pub tree_check_back : tree_check w at A N ≡ tree_end next count → (c : Tree) × LawfulTree A N c × (take (next - at) (drop at w) ≡ tree_size c ∷ tree_words c) × (length (starts c) ≡ count)
   unfolding tree_check
   tree_check_back h = go (ltb at (length w)) refl h
     where
-      counted : at < length w → (t : Bool) → leb (get_or w at 0) max_tree_nodes ≡ t → elim t as (λ c. TreeCheck) [ false ↦ Bad | true ↦ check_from w A N (get_or w at 0) (at + 1) 1 0 0 ] ≡ Sound next count → Back
+      counted : at < length w → (t : Bool) → leb (get_or w at 0) max_tree_nodes ≡ t → elim t as (λ c. Option TreeEnd) [ false ↦ None | true ↦ check_from w A N (get_or w at 0) (at + 1) 1 0 0 ] ≡ tree_end next count → Back
       counted l true t e =
           let f = grown w A N next count fit (get_or w at 0) (at + 1) 1 0 0 e in
           sole l (leb-true (get_or w at 0) 64 t) f.0 f.1
       counted l false t e = absurd (not_sound next count e)
 
       go : (t : Bool) → ltb at (length w) ≡ t
-          → elim t as (λ c. TreeCheck) [ false ↦ Bad | true ↦ elim (leb (get_or w at 0) max_tree_nodes) as (λ c. TreeCheck) [ false ↦ Bad | true ↦ check_from w A N (get_or w at 0) (at + 1) 1 0 0 ] ] ≡ Sound next count → Back
+          → elim t as (λ c. Option TreeEnd) [ false ↦ None | true ↦ elim (leb (get_or w at 0) max_tree_nodes) as (λ c. Option TreeEnd) [ false ↦ None | true ↦ check_from w A N (get_or w at 0) (at + 1) 1 0 0 ] ] ≡ tree_end next count → Back
       go true t e = counted (ltb-true at (length w) t) (leb (get_or w at 0) max_tree_nodes) refl e
       go false t e = absurd (not_sound next count e)

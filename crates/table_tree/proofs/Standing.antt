@@ -97,8 +97,7 @@ module _ (w : List ℕ) (at : ℕ) (rest : List ℕ) where
 module _ (w : List ℕ) where
   pass : (left owed at : ℕ) (f : Found) → node_at w at ≡ f → skip_from w (suc left) (suc owed) at ≡ skip_from w left (owing f (suc owed)) (after f at)
   pass left owed at f e =
-      let one : suc left - 1 ≡ left = omega arith in
-      sym (rw one at (skip_step w (suc left) (suc owed) at (skip_from w (suc left) (suc owed) at) refl (omega arith) (omega arith) f (sym e) (owing f (suc owed)) (after f at) refl refl))
+      sym (skip_step w (suc left) (suc owed) at (skip_from w (suc left) (suc owed) at) refl (omega arith) left refl f (sym e) (owing f (suc owed)) (after f at) refl refl)
 
   -- one under a `syn` or an `ini`, with the node that stands over it
   over : (list : List ℕ) (c d : Tree) (left owed at : ℕ) (rest : List ℕ) → SynStands w at rest list c → tree_size d ≡ suc (tree_size c) → length (tree_words d) ≡ 3 + length (tree_words c) → skip_from w (tree_size c + left) (suc owed) (at + 3) ≡ skip_from w left owed (at + 3 + length (tree_words c)) → skip_from w (tree_size d + left) (suc owed) at ≡ skip_from w left owed (at + length (tree_words d))

@@ -6,91 +6,88 @@ ghost use Rattle.table_tree.specs.Checked.{step_of, check_from, tree_check};
 use crate::nodes::{self, Found};
 use crate::sets::{self};
 
-// Sound has the place after the tree's nodes, and how many of them are `ini`.
-#[derive(Clone, Copy)]
-pub enum TreeCheck {
-    Sound(usize, usize),
-    Bad,
+// A tree that no row refuses: the place after its nodes, and how many of them are `ini`.
+#[derive(Clone, Copy, Debug, PartialEq, Eq)]
+pub struct TreeEnd {
+    pub next: usize,
+    pub inis: usize,
 }
 
-// After a node: the place, how many subtrees are owed, and how many leaves and `ini` there were.
+// Between two nodes: the place of the next one, how many subtrees are owed, and how many leaves and `ini` there were.
 #[derive(Clone, Copy)]
-enum Step {
-    On(usize, usize, usize, usize),
-    Off,
-}
-
-fn one_node(
-    words: &[u32],
-    actions: u32,
+struct Step {
     next: usize,
     owed: usize,
     leaves: usize,
     inis: usize,
-) -> Step
-    requires { (owed ≤ 4294967296) × (leaves ≤ 4294967296) × (inis ≤ 4294967296) }
-    ensures { result ≡ step_of actions owed leaves inis (node_at words.now next) }
+}
+
+fn one_node(words: &[u32], actions: u32, step: Step) -> Option<Step>
+    requires { (step.owed ≤ 4294967296) × (step.leaves ≤ 4294967296) × (step.inis ≤ 4294967296) }
+    ensures { result ≡ step_of actions step.owed step.leaves step.inis (node_at words.now step.next) }
 {
-    if owed == 0 {
-        return Step::Off;
+    if step.owed == 0 {
+        return None;
     }
-    let f = nodes::node_at(words, next);
-    match f {
-        Found::Par(after) => Step::On(after, owed + 1, leaves, inis),
-        Found::Syn(low, high, after) => {
-            if sets::set_sound(low, high, actions) {
-                Step::On(after, owed, leaves, inis + sets::unfilled(low, high))
-            } else {
-                Step::Off
+    match nodes::node_at(words, step.next) {
+        Found::Par(next) => Some(Step {
+            next,
+            owed: step.owed + 1,
+            ..step
+        }),
+        Found::Syn(low, high, next) => {
+            if !sets::set_sound(low, high, actions) {
+                return None;
             }
+            let inis = step.inis + sets::unfilled(low, high);
+            Some(Step { next, inis, ..step })
         }
-        Found::Leaf(k, after) => {
-            if k == leaves {
-                Step::On(after, owed - 1, leaves + 1, inis)
-            } else {
-                Step::Off
+        Found::Leaf(k, next) => {
+            if k != step.leaves {
+                return None;
             }
+            Some(Step {
+                next,
+                owed: step.owed - 1,
+                leaves: step.leaves + 1,
+                ..step
+            })
         }
-        Found::Stray => Step::Off,
+        Found::Stray => None,
     }
 }
 
 // `count` nodes from `at` on, which are to be one tree.
-fn walk(words: &[u32], at: usize, count: u32, actions: u32, automata: usize) -> TreeCheck
+#[tactic(auto, using(crate::proofs::CheckLaws::walk_laws))]
+fn walk(words: &[u32], at: usize, count: u32, actions: u32, automata: usize) -> Option<TreeEnd>
     ensures { result ≡ check_from words.now actions automata count at 1 0 0 }
 {
-    let mut left = count;
-    let mut next = at;
-    let mut owed = 1;
-    let mut leaves = 0;
-    let mut inis = 0;
-    while left != 0 {
-        let Step::On(n, o, l, i) = one_node(words, actions, next, owed, leaves, inis) else {
-            return TreeCheck::Bad;
-        };
-        next = n;
-        owed = o;
-        leaves = l;
-        inis = i;
-        left -= 1;
+    let mut step = Step {
+        next: at,
+        owed: 1,
+        leaves: 0,
+        inis: 0,
+    };
+    for _ in 0..count {
+        step = one_node(words, actions, step)?;
     }
-    if (owed == 0) & (leaves == automata) {
-        TreeCheck::Sound(next, inis)
-    } else {
-        TreeCheck::Bad
+    if step.owed != 0 || step.leaves != automata {
+        return None;
     }
+    Some(TreeEnd {
+        next: step.next,
+        inis: step.inis,
+    })
 }
 
 // The tree at `at`, where its count of nodes stands, with so many actions and automata.
-pub fn check(words: &[u32], at: usize, actions: u32, automata: usize) -> TreeCheck
+#[tactic(auto, using(crate::proofs::CheckLaws::check_laws))]
+pub fn check(words: &[u32], at: usize, actions: u32, automata: usize) -> Option<TreeEnd>
     ensures { result ≡ tree_check words.now at actions automata }
 {
-    if words.len() <= at {
-        return TreeCheck::Bad;
-    }
-    let count = words[at];
-    if model::Tree::NODES < nodes::index(count) {
-        return TreeCheck::Bad;
+    let count = *words.get(at)?;
+    if model::Tree::NODES < count as usize {
+        return None;
     }
     walk(words, at + 1, count, actions, automata)
 }

@@ -9,7 +9,7 @@ mod members;
 mod nodes;
 mod sets;
 
-pub use checked::{TreeCheck, check};
+pub use checked::{TreeEnd, check};
 pub use members::{in_set, own};
 pub use nodes::{Found, node_at, skip};
 pub use sets::{in_word, in_words, set_of, set_sound};

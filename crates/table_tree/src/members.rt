@@ -17,7 +17,7 @@ pub struct Membership {
 pub fn own(sets: &[u64], k: usize) -> u64
     ensures { result ≡ get_or sets.now k 0 }
 {
-    if k < sets.len() { sets[k] } else { 0 }
+    sets.get(k).copied().unwrap_or(0)
 }
 
 // Where no node stands.
@@ -39,24 +39,21 @@ fn member_at(words: &[u32], at: usize, left: usize, sets: &[u64], action: u32) -
     if left == 0 {
         return no_member(at, left);
     }
-    let f = nodes::node_at(words, at);
     let rest = left - 1;
-    match f {
+    match nodes::node_at(words, at) {
         Found::Par(next) => {
             let c = member_at(words, next, rest, sets, action);
             let d = member_at(words, c.next, c.left, sets, action);
             Membership {
                 inside: c.inside | d.inside,
-                next: d.next,
-                left: d.left,
+                ..d
             }
         }
         Found::Syn(low, high, next) => {
             let c = member_at(words, next, rest, sets, action);
             Membership {
                 inside: sets::in_words(low, high, action) | c.inside,
-                next: c.next,
-                left: c.left,
+                ..c
             }
         }
         Found::Leaf(k, next) => Membership {
@@ -69,9 +66,9 @@ fn member_at(words: &[u32], at: usize, left: usize, sets: &[u64], action: u32) -
 }
 
 // Is the action in the set of the subtree at `at`, where `sets` has the automata's own sets?
+#[tactic(auto, unfolding(crate::specs::Members::in_set_at))]
 pub fn in_set(words: &[u32], at: usize, sets: &[u64], action: u32) -> bool
     ensures { result ≡ in_set_at words.now sets.now action at }
 {
-    let m = member_at(words, at, model::Tree::NODES, sets, action);
-    m.inside
+    member_at(words, at, model::Tree::NODES, sets, action).inside
 }

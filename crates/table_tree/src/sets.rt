@@ -5,30 +5,24 @@ ghost use Rattle.model.specs.Limits.{rises};
 ghost use Rattle.model.specs.Table.{bit, set_of};
 ghost use Rattle.table_tree.specs.Sets.{one_word, unfilled};
 
-fn wide(x: u32) -> u64
-    ensures { result ≡ x }
-{
-    x as u64
-}
-
 // Two words of a set as one.
+#[tactic(auto, unfolding(crate::specs::Sets::one_word))]
 pub fn set_of(low: u32, high: u32) -> u64
     ensures { result ≡ one_word low high }
 {
-    wide(high) * 4294967296 + wide(low)
+    (u64::from(high) << 32) + u64::from(low)
 }
 
 // No word has a bit above 63.
+#[tactic(auto, using(crate::proofs::SetLaws::word_laws))]
 pub fn in_word(set: u64, action: u32) -> bool
     ensures { result ≡ bit set action }
 {
-    if 63 < action {
-        return false;
-    }
-    (set >> action) % 2 == 1
+    action < 64 && (set >> action) % 2 == 1
 }
 
 // Is the action in the set of two words?
+#[tactic(auto, using(crate::proofs::SetLaws::words_member))]
 pub fn in_words(low: u32, high: u32, action: u32) -> bool
     ensures { result ≡ member action (set_of low high) }
 {
@@ -36,22 +30,18 @@ pub fn in_words(low: u32, high: u32, action: u32) -> bool
 }
 
 // The set holds no 0, and nothing above the highest action.
+#[tactic(auto, using(crate::proofs::SetLaws::sound_laws))]
 pub fn set_sound(low: u32, high: u32, actions: u32) -> bool
     ensures { result ≡ rises actions 0 (set_of low high) }
 {
     let set = set_of(low, high);
-    if set % 2 == 1 {
-        return false;
-    }
-    if 63 <= actions {
-        return true;
-    }
-    set >> (actions + 1) == 0
+    set % 2 == 0 && (63 <= actions || set >> (actions + 1) == 0)
 }
 
 // How many `ini` a node over a tree is: one where its set is empty.
+#[tactic(auto, using(crate::proofs::SetLaws::unfilled_laws))]
 pub fn unfilled(low: u32, high: u32) -> usize
     ensures { result ≡ unfilled (set_of low high) }
 {
-    if set_of(low, high) == 0 { 1 } else { 0 }
+    usize::from(set_of(low, high) == 0)
 }

@@ -13,6 +13,7 @@ use Rattle.node_words.specs.declared.Node.{Node}
 use Rattle.node_words.specs.declared.Node.TheVariants.{New}
 use Rattle.node_words.specs.Nodes.{meant, node_of}
 use Rattle.node_words.proofs.NodeLaws.{word_by, Other, by_others}
+use Rattle.std.specs.List.{fold}
 use Rattle.table_writes.specs.Sets.{clear, all_variables, left_out, rest_of, written_set}
 use Rattle.table_writes.proofs.BitLaws.{bit_weighs, bit_below}
 
@@ -49,26 +50,6 @@ module _ (s w : ℕ) where
       (same, same, refl, refl, refl, refl, same, same, tt, refl, refl, refl, refl, refl))
 
 pub ruleset out_laws = (out_new, out_other)
-
--- `unwritten`
-module _ (t : List ℕ) (i left mask whole : ℕ) (inv : rest_of mask (take left (drop i t)) ≡ whole) where
-  pub rest_done : left ≡ 0 → mask ≡ whole
-  unfolding rest_of
-  rest_done z = rw z at inv
-
-  pub rest_past : length t ≤ i → mask ≡ whole
-  unfolding rest_of
-  rest_past h = rw (drop_of_length-le t h, take-nil {A = ℕ} left) at inv
-
-  pub rest_step : (left ≡ 0 → ⊥) → i < length t → (m : ℕ) → m ≡ left_out mask (get_or t i 0) → rest_of m (take (left - 1) (drop (i + 1) t)) ≡ whole
-  unfolding rest_of
-  rest_step y h m e = go left y inv
-    where
-      go : (n : ℕ) → (n ≡ 0 → ⊥) → rest_of mask (take n (drop i t)) ≡ whole → rest_of m (take (n - 1) (drop (i + 1) t)) ≡ whole
-      go zero u v = absurd (u refl)
-      go (suc n) u v = rw (sub-one (suc n), add-one i, e) (rw (drop-cons t i 0 h) at v)
-
-pub ruleset rest_laws = (rest_done, rest_past, rest_step)
 
 -- `written`: words only take variables out
 clear_lowers : (s k : ℕ) → clear s k ≤ s

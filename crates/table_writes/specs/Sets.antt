@@ -1,5 +1,6 @@
 -- Sets of variables as numbers, bit K for variable K, and those that node words write.
 use Rattle.std.specs.Prelude.{Bool, true, false, List, [], ◌∷◌, ℕ, zero, suc, ◌+◌, ◌-◌, ◌^◌}
+use Rattle.std.specs.List.{fold}
 use Rattle.model.specs.Predicate.{named, nothing, the_old, the_new}
 use Rattle.model.specs.Table.{bit, word_of}
 
@@ -25,8 +26,7 @@ unfoldable pub left_out : (set word : ℕ) → ℕ
 left_out set word = elim (named (word_of word)) [ nothing ↦ set | the_old k ↦ set | the_new k ↦ clear set k ]
 
 unfoldable pub rest_of : (set : ℕ) → List ℕ → ℕ
-rest_of set [] = set
-rest_of set (w ∷ ws) = rest_of (left_out set w) ws
+rest_of set words = fold left_out set words
 
 -- the variables whose new values node words name
 unfoldable pub written_set : List ℕ → ℕ

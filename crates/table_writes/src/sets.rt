@@ -34,29 +34,29 @@ pub fn clear(set: u64, k: u32) -> u64
 fn left_out(set: u64, word: u32) -> u64
     ensures { result ≡ left_out set word }
 {
-    let node = node_words::node_of(word);
-    match node {
+    match node_words::node_of(word) {
         Node::New(k) => clear(set, k),
         _ => set,
     }
+}
+
+// What is left of all variables without those whose new values the words name.
+#[tactic(auto, unfolding(crate::specs::Sets::rest_of))]
+fn unnamed(words: &[u32]) -> u64
+    ensures { result ≡ rest_of all_variables words.now }
+{
+    words.iter().fold(ALL, |set, word| left_out(set, *word))
 }
 
 // The variables whose new values the `count` node words from `at` on do not name.
 pub fn unwritten(words: &[u32], at: usize, count: usize) -> u64
     ensures { result ≡ rest_of all_variables (take count (drop at words.now)) }
 {
-    let mut set = ALL;
-    let mut i = at;
-    let mut left = count;
-    while left != 0 {
-        if words.len() <= i {
-            return set;
-        }
-        set = left_out(set, words[i]);
-        i += 1;
-        left -= 1;
+    if words.len() < at {
+        return ALL;
     }
-    set
+    let rest = &words[at..];
+    unnamed(&rest[..count.min(rest.len())])
 }
 
 // The variables whose new values they do name.

@@ -1,18 +1,21 @@
 -- Laws of finding: what each way out of `find` shows, and how its answers part a text and its lines.
 use Prim.Native.Nat.{ℕ, zero, suc, ◌+◌, ◌-◌, ◌≤◌, ◌<◌}
-use mathlib.Core.Path.{◌≡◌, refl, ◌∙◌, ap}
-use mathlib.Core.Bool.{Bool, true, false}
+use mathlib.Core.Path.{◌≡◌, refl, sym, ◌∙◌, ap}
+use mathlib.Core.Bool.{Bool, true, false, cond}
 use mathlib.Core.List.{List, [], ◌∷◌}
 use native.Mathlib.Omega.{arith}
-use borrow.Author.Tests.{le-leb, lt-leb, eq-eqb, ne_eqb, eqb-true, eqb-false}
+use borrow.Author.Tests.{le-leb, lt-leb, ltb-false, eq-eqb, ne_eqb, eqb-true, eqb-false}
 use lib.ListN.{length, get_or, take, drop, length-drop}
 use lib.Seq.{drop-drop, drop-length, take_all}
-use lib.Dec.{eqb}
+use lib.Dec.{eqb, ltb}
+use Rattle.std.specs.Prelude.{Some, None}
+use Rattle.std.specs.List.{position, position_or_len, count_by}
+use Rattle.std.proofs.lemmas.List.Recursion.{is_position_or_len, is_count_by}
 use Rattle.format.specs.Bytes.{LF, parts, onto}
 use Rattle.format.specs.Rows.{Line}
 use Rattle.format.specs.Reader.{lines_of, onto_line}
 use Rattle.format.proofs.BytesLaws.{Free, parts_free}
-use Rattle.text_bytes.proofs.Places.{at_place}
+use Rattle.text_bytes.proofs.Places.{take_rest}
 use Rattle.text_bytes.specs.Find.{gap, first_from, tally, count_of}
 
 gap_at : (c b : ℕ) (t : List ℕ) → b ≡ c → gap c (b ∷ t) ≡ 0
@@ -62,6 +65,29 @@ pub gap_none : (c : ℕ) (s : List ℕ) → Free c s → gap c s ≡ length s
 gap_none c [] f = unfold gap in refl
 gap_none c (b ∷ t) f = gap_on c b t f.0 ∙ ap suc (gap_none c t f.1)
 
+-- the library's words for it
+pub gap_place : (c : ℕ) (s : List ℕ) → position_or_len (λ b. eqb b c) s ≡ gap c s
+unfolding gap
+gap_place c s = sym (is_position_or_len (λ (t : List ℕ). gap c t) (λ b. eqb b c) refl (λ b t. go (eqb b c) (gap c t)) s)
+  where
+    go : (v : Bool) (n : ℕ) → elim v as (λ x. ℕ) [ true ↦ 0 | false ↦ suc n ] ≡ cond v 0 (1 + n)
+    go true n = refl
+    go false n = omega arith
+
+some_place : (p n i : ℕ) → Some i ≡ cond (ltb p n) (Some p) None → i ≡ p
+some_place p n i e = go (ltb p n) e
+  where
+    go : (v : Bool) → Some i ≡ cond v (Some p) None → i ≡ p
+    go true h = cc
+    go false h = cc
+
+no_place : (p n : ℕ) → None ≡ cond (ltb p n) (Some p) None → n ≤ p
+no_place p n e = go (ltb p n) refl e
+  where
+    go : (v : Bool) → ltb p n ≡ v → None ≡ cond v (Some p) None → n ≤ p
+    go true k h = absurd (let z : ◌≡◌ {A = ℕ} 0 1 = cc in omega arith)
+    go false k h = ltb-false p n k
+
 -- each way out of `find`
 module _ (s : List ℕ) (at c : ℕ) where
   pub find_past : length s < at → length s ≡ first_from s at c
@@ -72,21 +98,16 @@ module _ (s : List ℕ) (at c : ℕ) where
   unfolding first_from
   first_is h = rw (le-leb at (length s) h, first_from)
 
-  module _ (i : ℕ) (inv : at + gap c (drop at s) ≡ i + gap c (drop i s)) where
-    module _ (h : i < length s) where
-      here : gap c (drop i s) ≡ gap c (get_or s i 0 ∷ drop (i + 1) s)
-      here = ap (gap c) (at_place s i h)
+  module _ (l : at ≤ length s) where
+    pub find_here : (i : ℕ) → Some i ≡ position (λ b. eqb b c) (take (length s - at) (drop at s)) → (at + i ≡ first_from s at c) × (at + i ≤ length s)
+    find_here i e =
+        let z : i ≡ gap c (drop at s) = some_place _ _ i e ∙ rw (take_rest s at) (gap_place c (drop at s)) in
+        (omega (arith, first_is l), omega (arith, gap_within c (drop at s), length-drop at s))
 
-      pub find_here : at ≤ length s → get_or s i 0 ≡ c → i ≡ first_from s at c
-      find_here l e = omega (arith, first_is l, here ∙ gap_at c (get_or s i 0) (drop (i + 1) s) e)
-
-      pub find_go : (get_or s i 0 ≡ c → ⊥) → at + gap c (drop at s) ≡ i + 1 + gap c (drop (i + 1) s)
-      find_go e = omega (arith, here ∙ gap_on c (get_or s i 0) (drop (i + 1) s) e)
-
-    pub find_end : at ≤ length s → i ≤ length s → length s ≤ i → i ≡ first_from s at c
-    find_end l h k = omega (arith, first_is l, gap_within c (drop i s), length-drop i s)
-
-pub ruleset find_laws = (find_past, find_here, find_go, find_end)
+    pub find_none : None ≡ position (λ b. eqb b c) (take (length s - at) (drop at s)) → (length s ≡ first_from s at c) × (length s ≤ length s)
+    find_none e =
+        let z : length (drop at s) ≤ position_or_len (λ b. eqb b c) (drop at s) = rw (take_rest s at) at (no_place _ _ e) in
+        (omega (arith, first_is l, gap_place c (drop at s), gap_within c (drop at s), length-drop at s), omega arith)
 
 -- the first part of a text, and its first line
 module _ (c : ℕ) where
@@ -199,25 +220,10 @@ parts_count c (b ∷ t) = go (eqb b c) (parts_count c t)
     go true ih = omega arith
     go false ih = onto_length b (parts c t) (count_of c t) ih ∙ omega arith
 
-pub tally_yes : (c b : ℕ) → b ≡ c → 1 ≡ tally c b
-unfolding tally
-tally_yes c b h = rw (eq-eqb b c h, tally)
-
-pub tally_no : (c b : ℕ) → (b ≡ c → ⊥) → 0 ≡ tally c b
-unfolding tally
-tally_no c b h = rw (ne_eqb b c h, tally)
-
-pub count_go : (c : ℕ) (s : List ℕ) (i n k : ℕ) → n + count_of c (drop i s) ≡ count_of c s → i < length s → k ≡ tally c (get_or s i 0) → n + k + count_of c (drop (i + 1) s) ≡ count_of c s
-unfolding count_of
-count_go c s i n k inv h e =
-    let z : count_of c (drop i s) ≡ tally c (get_or s i 0) + count_of c (drop (i + 1) s) = ap (count_of c) (at_place s i h) in
-    omega arith
-
-pub count_end : (c : ℕ) (s : List ℕ) (i n : ℕ) → n + count_of c (drop i s) ≡ count_of c s → i ≤ length s → length s ≤ i → n ≡ count_of c s
-unfolding count_of
-count_end c s i n inv h k =
-    let e : i ≡ length s = omega arith in
-    let z : count_of c (drop i s) ≡ 0 = rw (e, drop-length s) in
-    omega arith
-
-pub ruleset count_laws = (tally_yes, tally_no, count_go, count_end)
+pub count_is : (c : ℕ) (s : List ℕ) → count_by (λ b. eqb b c) s ≡ count_of c s
+unfolding count_of tally
+count_is c s = sym (is_count_by (λ (t : List ℕ). count_of c t) (λ b. eqb b c) refl (λ b t. go (eqb b c) (count_of c t)) s)
+  where
+    go : (v : Bool) (n : ℕ) → elim v as (λ x. ℕ) [ true ↦ 1 | false ↦ 0 ] + n ≡ cond v (1 + n) n
+    go true n = refl
+    go false n = omega arith

@@ -3,3 +3,4 @@ pub mod FindLaws
 pub mod Parting
 pub mod BytesLaws
 pub mod WriteLaws
+pub mod Splits

@@ -18,6 +18,4 @@ take_rest s n = take_all (length s - n) (drop n s) (omega (arith, length-drop n 
 pub rest_past : (s : List ℕ) (n : ℕ) → length s < n → [] ≡ drop n s
 rest_past s n h = sym (drop_of_length-le s {i = n} (omega arith))
 
-pub ruleset rest_laws = (rest_past, take_rest)
-
 pub ruleset first_laws = (first_all, first_long)

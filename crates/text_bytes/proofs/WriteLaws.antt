@@ -2,11 +2,13 @@
 use Prim.Native.Nat.{ℕ, zero, suc, ◌+◌, ◌-◌, ◌*◌, ◌/◌, ◌%◌, ◌^◌, ◌≤◌, ◌<◌}
 use mathlib.Core.Path.{◌≡◌, refl, sym, ◌∙◌, ap}
 use mathlib.Core.Bool.{true, false, true≢false}
-use mathlib.Core.List.{List, ◌∷◌, ◌++◌, append-nil}
+use mathlib.Core.List.{List, ◌∷◌, ◌++◌, append-nil, append_assoc}
 use native.Mathlib.Numerals.{add-one}
 use native.Mathlib.Omega.{arith}
 use borrow.Author.Tests.{le-leb, lt-leb, ltb-true}
 use lib.ListN.{length, get_or, take, drop, set, length-set, length-drop, drop_of_length-le}
+use borrow.Rule.Slice.PartMut.{put_mid, mid_of, Post-is, same_len_mid}
+use Rattle.std.proofs.Common.{length-take-le}
 use lib.Seq.{paste, paste-suc, paste-zero, take_all, drop-cons, drop-set-lt, get_or-set_same, append_snoc}
 use lib.Dec.{T}
 use lib.IntN.{ℤ, pos, negsuc, nat_abs, ◌-ℤ◌}
@@ -18,41 +20,30 @@ use Rattle.format.specs.Number.{decimal, signed}
 use Rattle.format.proofs.NumberLaws.{decimal_small, decimal_step}
 use Rattle.arithmetic.proofs.Signed.{widened}
 use Rattle.text_bytes.specs.Write.{fits, written_to, after, Wrote, Spells}
-use Rattle.text_bytes.specs.declared.answer.Written.{Written}
-use Rattle.text_bytes.specs.declared.answer.Written.TheVariants.{To, Full}
+use Rattle.std.specs.Prelude.{Option, Some, None}
 use Rattle.text_bytes.specs.declared.write.Spelled.{Spelled}
 
 -- no room, or room
 module _ (t : List ℕ) (at : ℕ) (old : List ℕ) where
-  full : length old < at + length t → Wrote t at old old Full
+  full : length old < at + length t → Wrote t at old old None
   unfolding written_to after fits
   full h =
       let e : fits t at old ≡ false = lt-leb (at + length t) (length old) h in
       record { answer = rw (e, written_to); memory = rw (e, after); long = refl }
 
-  pub copy_past : length old < at → Wrote t at old old Full
+  pub copy_past : length old < at → Wrote t at old old None
   copy_past h = full (omega arith)
 
-  pub copy_full : at ≤ length old → length old - at < length t → Wrote t at old old Full
+  pub copy_full : at ≤ length old → length old - at < length t → Wrote t at old old None
   copy_full h k = full (omega arith)
 
-  done : (new : List ℕ) → at + length t ≤ length old → new ≡ paste old at t (length t) → length new ≡ length old → Wrote t at old new (To (at + length t))
+  pub copy_in : at ≤ length old → length t ≤ length old - at → (new : List ℕ) → new ≡ t → Wrote t at old (put_mid at (at + length t - at) old new) (Some (at + length t))
   unfolding written_to after fits
-  done new h e l =
-      let f : fits t at old ≡ true = le-leb (at + length t) (length old) h in
-      record { answer = rw (f, written_to); memory = e ∙ rw (take_all (length t) t (omega arith), f, after); long = l }
-
--- each way out of a turn of `copy`
-module _ (s old new : List ℕ) (at i : ℕ) (e : new ≡ paste old at s i) where
-  pub copy_step : at + length s ≤ length old → i < length s → set new (at + i) (get_or s i 0) ≡ paste old at s (i + 1)
-  copy_step h k = rw (e, add-one) (paste-suc old at s i 0 (omega arith) k)
-
-  pub copy_all : at + length s ≤ length old → length new ≡ length old → i ≤ length s → length s ≤ i → Wrote s at old new (To (at + i))
-  copy_all h l j k =
-      let z : i ≡ length s = omega arith in
-      rw z (done s at old new h (rw z at e) l)
-
-pub ruleset copy_laws = (copy_past, copy_full, copy_step, copy_all, paste-zero)
+  copy_in h k new e =
+      let f : fits t at old ≡ true = le-leb (at + length t) (length old) (omega arith) in
+      let l : length t ≡ length (mid_of at (at + length t - at) old) = sym (length-take-le (at + length t - at) (drop at old) (omega (arith, length-drop at old)) ∙ omega arith) in
+      let m : put_mid at (at + length t - at) old t ≡ after t at old = ap (λ (x : List ℕ). take at old ++ (t ++ x)) (Post-is at (at + length t) old (omega arith)) ∙ rw (f, after) (sym (append_assoc (take at old) t (drop (at + length t) old))) in
+      record { answer = rw (f, written_to); memory = rw e m; long = rw e (same_len_mid at (at + length t - at) old t l) }
 
 -- 10 to the n
 unfoldable pub tens : ℕ → ℕ
@@ -122,40 +113,10 @@ module _ (n i rest : ℕ) (l : List ℕ) (inv : Spelling n i rest l) (d : ℕ) (
 pub ruleset spell_laws = (spell_start, spell_go, spell_last)
 
 -- the bytes of a spelled number, lent as the code lends them, are its text
-pub write_spelled : (spare : ℕ) (t : List ℕ) (r : Spelled) (at : ℕ) (old new : List ℕ) (a : Written) → Spells spare t r → Wrote (take (11 - r.from) (drop r.from r.bytes)) at old new a → Wrote t at old new a
+pub write_spelled : (spare : ℕ) (t : List ℕ) (r : Spelled) (at : ℕ) (old new : List ℕ) (a : Option ℕ) → Spells spare t r → Wrote (take (11 - r.from) (drop r.from r.bytes)) at old new a → Wrote t at old new a
 write_spelled spare t r at old new a s w =
     let l : length (drop r.from r.bytes) ≤ 11 - r.from = omega (arith, length-drop r.from r.bytes, s.long) in
     rw (take_all (11 - r.from) (drop r.from r.bytes) l, s.text) at w
-
--- the size of an i32
-size_fits : (z : ℤ) → SFits w32 z → nat_abs z < 2 ^ 32
-size_fits (pos n) f = omega (arith, f.sfits)
-size_fits (negsuc n) f = omega (arith, f.sfits)
-
-pub size_cast : (z : ℤ) → SFits w32 z → T (non_neg (pos (nat_abs z))) × Fits w32 (nat_abs (pos (nat_abs z)))
-size_cast z f = (tt, record { fits = size_fits z f })
-
-zero_less : (z : ℤ) → lt_z z (pos 0) ≡ true → pos 0 -ℤ z ≡ pos (nat_abs z)
-zero_less (pos n) h = absurd (omega (arith, ltb-true n 0 h))
-zero_less (negsuc n) h = ap pos (omega arith)
-
-module _ (z : ℤ) (f : SFits w32 z) (h : lt_z (to_z w32 (of_z w32 z)) (pos 0) ≡ true) where
-  turned : pos 0 -ℤ to_z w64 (of_z w64 (to_z w32 (of_z w32 z))) ≡ pos (nat_abs z)
-  turned = rw (widened z f) (zero_less z (rw (to_z-of_z w32 z f) at h))
-
-  pub turned_fits : SFits w64 (pos 0 -ℤ to_z w64 (of_z w64 (to_z w32 (of_z w32 z))))
-  turned_fits = rw turned (record { sfits = omega (arith, size_fits z f) })
-
-  pub turned_is : to_z w64 (of_z w64 (pos 0 -ℤ to_z w64 (of_z w64 (to_z w32 (of_z w32 z))))) ≡ pos (nat_abs z)
-  turned_is = to_z-of_z w64 _ turned_fits ∙ turned
-
--- a number that is not below 0
-pub plain_cast : (z : ℤ) → SFits w32 z → lt_z (to_z w32 (of_z w32 z)) (pos 0) ≡ false → T (non_neg (to_z w32 (of_z w32 z))) × Fits w32 (nat_abs (to_z w32 (of_z w32 z)))
-plain_cast z f h = rw (to_z-of_z w32 z f) (go z f (rw (to_z-of_z w32 z f) at h))
-  where
-    go : (y : ℤ) → SFits w32 y → lt_z y (pos 0) ≡ false → T (non_neg y) × Fits w32 (nat_abs y)
-    go (pos n) g l = (tt, record { fits = size_fits (pos n) g })
-    go (negsuc n) g l = absurd (true≢false l)
 
 -- each way out of `spell_signed`
 signed_more : (z : ℤ) → le_z (pos 0) z ≡ true → decimal (nat_abs z) ≡ signed z
@@ -192,5 +153,5 @@ module _ (z : ℤ) (m : ℕ) (t : Spelled) (f : SFits w32 z) (e : m ≡ nat_abs 
 
 pub ruleset signed_laws = (signed_plain, signed_minus)
 
-pub write_signed : (z : ℤ) (r : Spelled) (at : ℕ) (old new : List ℕ) (a : Written) → SFits w32 z → Spells 0 (signed (to_z w32 (of_z w32 z))) r → Wrote (take (11 - r.from) (drop r.from r.bytes)) at old new a → Wrote (signed z) at old new a
+pub write_signed : (z : ℤ) (r : Spelled) (at : ℕ) (old new : List ℕ) (a : Option ℕ) → SFits w32 z → Spells 0 (signed (to_z w32 (of_z w32 z))) r → Wrote (take (11 - r.from) (drop r.from r.bytes)) at old new a → Wrote (signed z) at old new a
 write_signed z r at old new a f s w = write_spelled 0 (signed z) r at old new a (rw (to_z-of_z w32 z f) at s) w

@@ -29,58 +29,25 @@ pub fn starts_number(b: u8) -> bool
 pub fn printable(s: &[u8]) -> bool
     ensures { result ≡ Basic.every Rows.printable s.now }
 {
-    let mut i = 0;
-    while i < s.len() {
-        if !shown(s[i]) {
-            return false;
-        }
-        i += 1;
-    }
-    true
+    s.iter().all(|&b| shown(b))
 }
 
 // Does `s` begin with `key`?
 pub fn begins(s: &[u8], key: &[u8]) -> bool
     ensures { result ≡ Bytes.begins key.now s.now }
 {
-    let mut i = 0;
-    while i < key.len() {
-        if s.len() <= i {
-            return false;
-        }
-        if key[i] != s[i] {
-            return false;
-        }
-        i += 1;
-    }
-    true
+    s.starts_with(key)
 }
 
 pub fn same(a: &[u8], b: &[u8]) -> bool
     ensures { result ≡ Basic.same a.now b.now }
 {
-    if a.len() != b.len() {
-        return false;
-    }
-    begins(b, a)
-}
-
-fn one(b: u8, byte: u8) -> usize
-    ensures { (result ≡ tally byte b) × (result ≤ 1) }
-{
-    if b == byte { 1 } else { 0 }
+    a == b
 }
 
 // How many such bytes there are: the parts between them are one more.
 pub fn count(s: &[u8], byte: u8) -> usize
     ensures { (result ≡ count_of byte s.now) × (result ≤ length s.now) }
 {
-    let mut n: usize = 0;
-    let mut i = 0;
-    while i < s.len() {
-        let k = one(s[i], byte);
-        n += k;
-        i += 1;
-    }
-    n
+    s.iter().filter(|&&b| b == byte).count()
 }

@@ -9,12 +9,8 @@ pub fn find(s: &[u8], at: usize, byte: u8) -> usize
     if s.len() < at {
         return s.len();
     }
-    let mut i = at;
-    while i < s.len() {
-        if s[i] == byte {
-            return i;
-        }
-        i += 1;
+    match s[at..].iter().position(|&b| b == byte) {
+        Some(i) => at + i,
+        None => s.len(),
     }
-    i
 }

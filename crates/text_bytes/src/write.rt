@@ -3,24 +3,19 @@ ghost use Rattle.std.specs.Prelude.{◌≡◌, ◌+◌, ◌%◌, nat_abs};
 ghost use Rattle.format.specs.Number as N;
 ghost use Rattle.text_bytes.specs.Write.{Wrote, Spells};
 
-use crate::answer::Written;
-
 // The bytes of `s`, from `at` on.
-pub fn copy(s: &[u8], out: &mut [u8], at: usize) -> Written
+pub fn copy(s: &[u8], out: &mut [u8], at: usize) -> Option<usize>
     ensures { Wrote s.now at out.old out.new result }
 {
     if out.len() < at {
-        return Written::Full;
+        return None;
     }
     if out.len() - at < s.len() {
-        return Written::Full;
+        return None;
     }
-    let mut i = 0;
-    while i < s.len() {
-        out[at + i] = s[i];
-        i += 1;
-    }
-    Written::To(at + i)
+    let end = at + s.len();
+    out[at..end].copy_from_slice(s);
+    Some(end)
 }
 
 // A number's bytes: the last of the eleven, from a place on.
@@ -43,6 +38,7 @@ fn spell(n: u32) -> Spelled
     let mut bytes = [b'0'; 11];
     let mut i: usize = 11;
     let mut rest = n;
+    // Stays a `while`: the number itself says how many digits there are, and they come from the last on.
     while 10 <= rest {
         i -= 1;
         bytes[i] = last_digit(rest);
@@ -56,10 +52,7 @@ fn spell(n: u32) -> Spelled
 fn magnitude(z: i32) -> u32
     ensures { result ≡ nat_abs z }
 {
-    if z < 0 {
-        return (-(z as i64)) as u32;
-    }
-    z as u32
+    z.unsigned_abs()
 }
 
 fn spell_signed(z: i32) -> Spelled
@@ -76,7 +69,7 @@ fn spell_signed(z: i32) -> Spelled
 }
 
 // The one spelling of `n`, from `at` on.
-pub fn decimal(n: u32, out: &mut [u8], at: usize) -> Written
+pub fn decimal(n: u32, out: &mut [u8], at: usize) -> Option<usize>
     ensures { Wrote (N.decimal n) at out.old out.new result }
 {
     let t = spell(n);
@@ -86,7 +79,7 @@ pub fn decimal(n: u32, out: &mut [u8], at: usize) -> Written
 }
 
 // The same with its sign.
-pub fn signed(z: i32, out: &mut [u8], at: usize) -> Written
+pub fn signed(z: i32, out: &mut [u8], at: usize) -> Option<usize>
     ensures { Wrote (N.signed z) at out.old out.new result }
 {
     let t = spell_signed(z);

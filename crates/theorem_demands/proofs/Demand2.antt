@@ -34,15 +34,18 @@ use Rattle.format.proofs.Inverse.{written_back}
 use Rattle.format.proofs.TextRuns.{program_prints, table_read}
 use Rattle.theorem_definition4.proofs.Definition4Is.{linear_is, opened_limited, merge_is_definition_4}
 use Rattle.theorem_definition4.proofs.Unique.{linearizations_same}
-use Rattle.merger.specs.declared.MergeAnswer.TheVariants as Merge
-use Rattle.merger.specs.declared.Outcome.TheVariants as Outcome
-use Rattle.merger.specs.Answers.{merge_of}
+use Rattle.std.proofs.Common.{Result, Ok, Err}
+use Rattle.model.specs.declared.Row.{Row}
+use Rattle.model.specs.Row.{row}
+use Rattle.reader.specs.declared.Refusal.{Refusal}
+use Rattle.merger.specs.declared.Merged.{Merged}
+use Rattle.merger.specs.Answers.{report, merge_of}
 use Rattle.merger.specs.Outcome.{outcome, outcome_after}
 use Rattle.theorem_demands.specs.Rows.{merger_rows}
 use Rattle.theorem_demands.specs.Exactly.{IsMergedText, MergedInto, ReadsAndWritesExactly}
 use Rattle.theorem_demands.proofs.Decided.{accepted_by, own_decided}
 use Rattle.theorem_demands.proofs.Writing.{written_then, HasMerged, merge_tells, merge_decided}
-use Rattle.theorem_demands.proofs.TextToText.{no_outcome, opens, Ends, unread, unfit, gives, ends}
+use Rattle.theorem_demands.proofs.TextToText.{no_outcome, opens, Ends, unread, unfit, gives, ends, length_in, edges_in}
 use Rattle.theorem_demands.proofs.Ordered.{merged_in_order, edges_in_order}
 
 -- texts and tables
@@ -132,24 +135,24 @@ into m text edges lent i =
     record { is_merged = subst (λ (s : Bytes). IsMergedText m s edges) (sym e) i; its_length = ap length e }
 
 merges : (t : List ℕ) (lent : Bytes) (bytes edges : ℕ)
-    → merge_of (merge_answer t (length lent)) ≡ Merge.Merged bytes edges
+    → merge_of (merge_answer t (length lent)) ≡ Ok (report bytes edges)
     → (m : Model) × (open_table t ≡ opened m) × MergedInto m bytes edges (merge_after (merge_answer t (length lent)) lent)
 unfolding merge_of merge_after
 merges t lent bytes edges h = go (merge_answer t (length lent)) refl
   where
     go : (x : MergeAnswer) → merge_answer t (length lent) ≡ x
         → (m : Model) × (open_table t ≡ opened m) × MergedInto m bytes edges (merge_after (merge_answer t (length lent)) lent)
-    go (unmerged row) e =
-        absurd (let q : Merge.Refused row ≡ Merge.Merged bytes edges = ap merge_of (sym e) ∙ h in let z : ◌≡◌ {A = ℕ} 0 1 = cc in omega arith)
+    go (unmerged n) e =
+        absurd (let q : ◌≡◌ {A = Result Merged Row} (Err (row n)) (Ok (report bytes edges)) = ap merge_of (sym e) ∙ h in let z : ◌≡◌ {A = ℕ} 0 1 = cc in omega arith)
     go (merged text count) e =
-        let q : Merge.Merged (length text) count ≡ Merge.Merged bytes edges = ap merge_of (sym e) ∙ h in
-        let n : length text ≡ bytes = cc in
-        let c : count ≡ edges = cc in
+        let q : ◌≡◌ {A = Result Merged Row} (Ok (report (length text) count)) (Ok (report bytes edges)) = ap merge_of (sym e) ∙ h in
+        let n : length text ≡ bytes = ap length_in q in
+        let c : count ≡ edges = ap edges_in q in
         let m = (merge_is_definition_4 t (length lent) text count).0 e in
         let i = is_merged_text t m.0 m.1 (length lent) text count e in
         (m.0, m.1, rw e (subst₂ (λ (k j : ℕ). MergedInto m.0 k j (with_text text lent)) n c (into m.0 text count lent i)))
 
-linearizes : (text lent : Bytes) (bytes edges : ℕ) → outcome text (length lent) ≡ Outcome.Merged bytes edges
+linearizes : (text lent : Bytes) (bytes edges : ℕ) → outcome text (length lent) ≡ Ok (report bytes edges)
     → (m : Model) × Lawful m × (text ≡ text_of m) × MergedInto m bytes edges (outcome_after text lent)
 linearizes text lent bytes edges h = go (ends text lent)
   where
@@ -157,9 +160,9 @@ linearizes text lent bytes edges h = go (ends text lent)
     go (unread row line e o k) = absurd (no_outcome row line bytes edges (sym o ∙ h))
     go (unfit m row e f o k) = absurd (no_outcome row 0 bytes edges (sym o ∙ h))
     go (gives m text' count e f o k) =
-        let q : Outcome.Merged (length text') count ≡ Outcome.Merged bytes edges = sym o ∙ h in
-        let n : length text' ≡ bytes = cc in
-        let c : count ≡ edges = cc in
+        let q : ◌≡◌ {A = Result Merged Refusal} (Ok (report (length text') count)) (Ok (report bytes edges)) = sym o ∙ h in
+        let n : length text' ≡ bytes = ap length_in q in
+        let c : count ≡ edges = ap edges_in q in
         let x = accepted_then text table_words m e in
         let i = is_merged_text (table_of m) m (opens text m e (length lent)) (length lent) text' count f in
         (m, (lawful_is m).0 x.limited, x.spelled, rw k (subst₂ (λ (j l : ℕ). MergedInto m j l (with_text text' lent)) n c (into m text' count lent i)))

@@ -18,8 +18,12 @@ use Rattle.format.specs.Refused.{Smallest}
 use Rattle.format.proofs.Smallest.{rises_from}
 use Rattle.format.proofs.Exact.{accepted_then}
 use Rattle.format.proofs.TextRuns.{program_refuses_text}
-use Rattle.merger.specs.declared.Outcome.TheVariants.{Merged, Refused}
-use Rattle.merger.specs.Answers.{merge_of}
+use Rattle.std.proofs.Common.{Result, Ok, Err}
+use Rattle.model.specs.declared.Row.{Row}
+use Rattle.reader.specs.declared.Refusal.{Refusal}
+use Rattle.reader.specs.Read.{refusal as refused_at}
+use Rattle.merger.specs.declared.Merged.{Merged}
+use Rattle.merger.specs.Answers.{report, merge_of}
 use Rattle.merger.specs.Outcome.{passed_on, outcome, outcome_after}
 use Rattle.theorem_demands.specs.Rows.{TextFault, of_text, of_merge, merger_rows}
 use Rattle.theorem_demands.specs.Calls.{PutInto, TextCall}
@@ -28,14 +32,29 @@ use Rattle.theorem_demands.proofs.Decided.{refused_by, own_decided}
 use Rattle.theorem_demands.proofs.Reading.{faults_exact}
 use Rattle.theorem_demands.proofs.Writing.{HasMerged, merge_tells, merge_decided, merge_fits}
 
-pub no_outcome : (row line bytes edges : ℕ) → Refused row line ≡ Merged bytes edges → ⊥
+-- what an answer of the merger tells
+abbrev pub length_in : {E : Type 0} → Result Merged E → ℕ
+length_in (Ok m) = m.length
+length_in (Err e) = 0
+
+abbrev pub edges_in : {E : Type 0} → Result Merged E → ℕ
+edges_in (Ok m) = m.edges
+edges_in (Err e) = 0
+
+abbrev row_in : Result Merged Refusal → ℕ
+row_in (Ok m) = 0
+row_in (Err r) = r.row.0
+
+abbrev line_in : Result Merged Refusal → ℕ
+line_in (Ok m) = 0
+line_in (Err r) = r.line
+
+pub no_outcome : (row line bytes edges : ℕ) → ◌≡◌ {A = Result Merged Refusal} (Err (refused_at row line)) (Ok (report bytes edges)) → ⊥
 no_outcome row line bytes edges h = let z : ◌≡◌ {A = ℕ} 0 1 = cc in omega arith
 
-same_outcome : (row line row' line' : ℕ) → Refused row line ≡ Refused row' line' → (row ≡ row') × (line ≡ line')
+same_outcome : (row line row' line' : ℕ) → ◌≡◌ {A = Result Merged Refusal} (Err (refused_at row line)) (Err (refused_at row' line')) → (row ≡ row') × (line ≡ line')
 same_outcome row line row' line' h =
-    let a : row ≡ row' = cc in
-    let b : line ≡ line' = cc in
-    (a, b)
+    (ap row_in h, ap line_in h)
 
 -- on an accepted text the merger's own rows decide
 module _ (text : Bytes) (m : Model) (reads : read_answer text table_words ≡ accepted m) (b : ℕ) where
@@ -53,13 +72,13 @@ module _ (text lent : Bytes) where
   -- the three ways out
   pub data Ends : Type 0 where
     unread : (row line : ℕ) → read_answer text table_words ≡ refused row line
-        → outcome text (length lent) ≡ Refused row line → outcome_after text lent ≡ lent → Ends
+        → outcome text (length lent) ≡ Err (refused_at row line) → outcome_after text lent ≡ lent → Ends
     unfit : (m : Model) (row : ℕ) → read_answer text table_words ≡ accepted m
         → merge_answer (table_of m) (length lent) ≡ unmerged row
-        → outcome text (length lent) ≡ Refused row 0 → outcome_after text lent ≡ lent → Ends
+        → outcome text (length lent) ≡ Err (refused_at row 0) → outcome_after text lent ≡ lent → Ends
     gives : (m : Model) (text' : Bytes) (edges : ℕ) → read_answer text table_words ≡ accepted m
         → merge_answer (table_of m) (length lent) ≡ merged text' edges
-        → outcome text (length lent) ≡ Merged (length text') edges → outcome_after text lent ≡ with_text text' lent → Ends
+        → outcome text (length lent) ≡ Ok (report (length text') edges) → outcome_after text lent ≡ with_text text' lent → Ends
 
   pub ends : Ends
   unfolding outcome outcome_after merge_of passed_on merge_after
@@ -74,7 +93,7 @@ module _ (text lent : Bytes) where
       go (refused row line) e = unread row line e (rw (e, outcome)) (rw (e, outcome_after))
       go (accepted m) e = merges m e (merge_answer (table_of m) (length lent)) refl
 
-  fault_of : (row line : ℕ) → outcome text (length lent) ≡ Refused row line → Ends
+  fault_of : (row line : ℕ) → outcome text (length lent) ≡ Err (refused_at row line) → Ends
       → TextFault text (length lent) row line
   fault_of row line h (unread at n e o k) =
       let q = same_outcome at n row line (sym o ∙ h) in
@@ -84,28 +103,28 @@ module _ (text lent : Bytes) where
       subst₂ (TextFault text (length lent)) q.0 q.1 (of_merge e ((merge_row text m e (length lent) at).0 f))
   fault_of row line h (gives m text' edges e f o k) = absurd (no_outcome row line (length text') edges (sym h ∙ o))
 
-  fault_told : (row line : ℕ) → TextFault text (length lent) row line → outcome text (length lent) ≡ Refused row line
+  fault_told : (row line : ℕ) → TextFault text (length lent) row line → outcome text (length lent) ≡ Err (refused_at row line)
   unfolding outcome merge_of passed_on
   fault_told row line (of_text f) = rw ((faults_exact text table_words row line).1 f, outcome)
   fault_told row line (of_merge {m = m} e s) = rw (e, outcome, (merge_row text m e (length lent) row).1 s)
 
-  keeps : (row line : ℕ) → outcome text (length lent) ≡ Refused row line → Ends → outcome_after text lent ≡ lent
+  keeps : (row line : ℕ) → outcome text (length lent) ≡ Err (refused_at row line) → Ends → outcome_after text lent ≡ lent
   keeps row line h (unread at n e o k) = k
   keeps row line h (unfit m at e f o k) = k
   keeps row line h (gives m text' edges e f o k) = absurd (no_outcome row line (length text') edges (sym h ∙ o))
 
-  puts : (bytes edges : ℕ) → outcome text (length lent) ≡ Merged bytes edges → Ends
+  puts : (bytes edges : ℕ) → outcome text (length lent) ≡ Ok (report bytes edges) → Ends
       → (text' : Bytes) × (length text' ≡ bytes) × PutInto lent text' (outcome_after text lent)
   unfolding with_text
   puts bytes edges h (unread at n e o k) = absurd (no_outcome at n bytes edges (sym o ∙ h))
   puts bytes edges h (unfit m at e f o k) = absurd (no_outcome at 0 bytes edges (sym o ∙ h))
   puts bytes edges h (gives m text' edges' e f o k) =
-      let q : Merged (length text') edges' ≡ Merged bytes edges = sym o ∙ h in
-      let n : length text' ≡ bytes = cc in
+      let q : ◌≡◌ {A = Result Merged Refusal} (Ok (report (length text') edges')) (Ok (report bytes edges)) = sym o ∙ h in
+      let n : length text' ≡ bytes = ap length_in q in
       (text', n, subst (PutInto lent text') (sym k) (put_first lent text' (merge_fits (table_of m) (length lent) text' edges' f)))
 
   accepts : Ends → ((row line : ℕ) → TextFault text (length lent) row line → ⊥)
-      → (bytes edges : ℕ) × (outcome text (length lent) ≡ Merged bytes edges)
+      → (bytes edges : ℕ) × (outcome text (length lent) ≡ Ok (report bytes edges))
   accepts (unread at n e o k) u = absurd (u at n (of_text ((faults_exact text table_words at n).0 e)))
   accepts (unfit m at e f o k) u = absurd (u at 0 (of_merge e ((merge_row text m e (length lent) at).0 f)))
   accepts (gives m text' edges e f o k) u = (length text', edges, o)

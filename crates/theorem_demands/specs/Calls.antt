@@ -1,6 +1,6 @@
 -- Demand 1 as one statement, EveryCallAnswers: what each public call of the tool answers, and what it leaves in memory
 -- that is lent to it. The law demand_1 says that it holds.
-use Rattle.std.specs.Prelude.{ℕ, ◌≤◌, ◌≡◌, Bool, true, List, ◌↔◌, ◌⊎◌, ℤ, length, take, drop}
+use Rattle.std.specs.Prelude.{ℕ, ◌≤◌, ◌≡◌, Bool, true, List, ◌↔◌, ◌⊎◌, ℤ, length, take, drop, Ok, Err}
 use Rattle.std.proofs.Math.Option.{some}
 use Rattle.model.specs.Bounds.{max_bytes, table_words}
 use Rattle.model.specs.Model.{Model}
@@ -14,7 +14,8 @@ use Rattle.format.specs.Reader.{refused, accepted, read_answer, table_after, Giv
 use Rattle.format.specs.Writer.{unwritten, written, write_answer, buffer_after}
 use Rattle.format.specs.Merger.{unmerged, merged, merge_answer, merge_after}
 use Rattle.format.specs.Program.{refusal, program_output}
-use Rattle.merger.specs.declared.Outcome.TheVariants as Outcome
+use Rattle.reader.specs.Read.{refusal as refused_at}
+use Rattle.merger.specs.Answers.{report}
 use Rattle.merger.specs.Outcome.{outcome, outcome_after}
 use Rattle.theorem_demands.specs.Rows.{FirstFault, TextFault, table_rows, writer_rows, merger_rows, step_rows}
 use Rattle.theorem_demands.specs.Rows.{environment_rows}
@@ -80,15 +81,15 @@ pub record MergeCall (table : List ℕ) (lent : Bytes) : Type 0 where
 pub record TextCall (text lent : Bytes) : Type 0 where
   -- a row with its line is answered exactly when its condition is the first that holds
   pub refused_exactly : (row line : ℕ)
-      → (outcome text (length lent) ≡ Outcome.Refused row line) ↔ TextFault text (length lent) row line
+      → (outcome text (length lent) ≡ Err (refused_at row line)) ↔ TextFault text (length lent) row line
   -- a merged text is given exactly when no row's condition holds
-  pub accepted_exactly : ((bytes edges : ℕ) × (outcome text (length lent) ≡ Outcome.Merged bytes edges))
+  pub accepted_exactly : ((bytes edges : ℕ) × (outcome text (length lent) ≡ Ok (report bytes edges)))
       ↔ ((row line : ℕ) → TextFault text (length lent) row line → ⊥)
   -- a refusal leaves the buffer as it was
-  pub refused_keeps : (row line : ℕ) → outcome text (length lent) ≡ Outcome.Refused row line
+  pub refused_keeps : (row line : ℕ) → outcome text (length lent) ≡ Err (refused_at row line)
       → outcome_after text lent ≡ lent
   -- an acceptance puts a text of the length that it reports into the first bytes, and changes no other
-  pub accepted_puts : (bytes edges : ℕ) → outcome text (length lent) ≡ Outcome.Merged bytes edges
+  pub accepted_puts : (bytes edges : ℕ) → outcome text (length lent) ≡ Ok (report bytes edges)
       → (text' : Bytes) × (length text' ≡ bytes) × PutInto lent text' (outcome_after text lent)
 
 -- judge::step, by its rows, its answer, and when the rules allow the step; it gets no memory that it could write to

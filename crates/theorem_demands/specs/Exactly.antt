@@ -1,5 +1,5 @@
 -- Demand 2 as one statement, ReadsAndWritesExactly. The law demand_2 says that it holds.
-use Rattle.std.specs.Prelude.{ℕ, ◌≤◌, ◌≡◌, List, [], ◌∷◌, ◌++◌, ◌↔◌, length, take, drop}
+use Rattle.std.specs.Prelude.{ℕ, ◌≤◌, ◌≡◌, List, [], ◌∷◌, ◌++◌, ◌↔◌, length, take, drop, Ok}
 use Rattle.model.specs.Bounds.{max_bytes, table_words}
 use Rattle.model.specs.Model.{Model, Automaton}
 use Rattle.model.specs.Lawful.{Lawful}
@@ -12,9 +12,7 @@ use Rattle.format.specs.Writer.{written, write_answer}
 use Rattle.format.specs.Merger.{merge_answer, merge_after}
 use Rattle.format.specs.Program.{program_output}
 use Rattle.theorem_definition4.specs.Definition4.{IsLinearization}
-use Rattle.merger.specs.declared.MergeAnswer.TheVariants as Merge
-use Rattle.merger.specs.declared.Outcome.TheVariants as Outcome
-use Rattle.merger.specs.Answers.{merge_of}
+use Rattle.merger.specs.Answers.{report, merge_of}
 use Rattle.merger.specs.Outcome.{outcome, outcome_after}
 use Rattle.theorem_demands.specs.Rows.{merger_rows}
 use Rattle.theorem_demands.specs.Order.{EdgesInOrder}
@@ -65,11 +63,11 @@ pub record ReadsAndWritesExactly : Type 0 where
       → table_after text lent ≡ take table_words table ++ drop table_words lent
   -- what the merger writes, with the length and the count that it reports, is the merged text of the table's sheet
   pub merges : (table : List ℕ) (lent : Bytes) (bytes edges : ℕ)
-      → merge_of (merge_answer table (length lent)) ≡ Merge.Merged bytes edges
+      → merge_of (merge_answer table (length lent)) ≡ Ok (report bytes edges)
       → (m : Model) × (open_table table ≡ opened m)
       × MergedInto m bytes edges (merge_after (merge_answer table (length lent)) lent)
   -- from text to text likewise
-  pub linearizes : (text lent : Bytes) (bytes edges : ℕ) → outcome text (length lent) ≡ Outcome.Merged bytes edges
+  pub linearizes : (text lent : Bytes) (bytes edges : ℕ) → outcome text (length lent) ≡ Ok (report bytes edges)
       → (m : Model) × Lawful m × (text ≡ text_of m) × MergedInto m bytes edges (outcome_after text lent)
   -- and what the program prints, if no row refuses the sheet
   pub prints : (m : Model) → Lawful m → Unbroken (merger_rows max_bytes m)

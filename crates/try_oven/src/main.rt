@@ -6,13 +6,6 @@ mod oven;
 mod sheets;
 mod show;
 
-use std::io::{Stderr, Write};
-
-// What is lost where standard error takes no line is lost.
-fn say(mut stderr: Stderr, line: &[u8]) -> bool {
-    stderr.write_all(line).is_ok()
-}
-
 fn main(rt: HostRuntime) {
     let screen = rt.stdout();
     if !(oven::cases(screen)
@@ -21,6 +14,7 @@ fn main(rt: HostRuntime) {
         & oven::pair(screen)
         & oven::lamp(screen))
     {
-        say(rt.stderr(), b"try_oven: a write failed\n");
+        // What is lost where standard error takes no line is lost.
+        let _ = eprintln!(rt; "try_oven: a write failed");
     }
 }

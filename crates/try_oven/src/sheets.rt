@@ -1,7 +1,6 @@
 // The sheets of the cases, as tables: the first words here, by docs/TABLE.md, and zeros behind them.
-ghost use Rattle.std.specs.Prelude.{◌≡◌, length, get_or};
+ghost use Rattle.std.specs.Prelude.{◌≡◌, length};
 ghost use Rattle.model.specs.Bounds.{table_words};
-ghost use Rattle.judge_rows.specs.States.{filled};
 
 use model::Model;
 
@@ -32,46 +31,26 @@ const PAIR: [u32; 45] = [
     1, 0, 1, 1, 1, 0, 4, 1, 2, 0, 0, 2, 3,
 ];
 
-// The word at a place, 0 past the end.
-fn word(words: &[u32], at: usize) -> u32
-    ensures { result ≡ get_or words.now at 0 }
-{
-    if at < words.len() { words[at] } else { 0 }
-}
-
-fn padded(words: &[u32]) -> [u32; Model::WORDS]
-    ensures table_words_value { table_words ≡ length result }
-    ensures value { result ≡ filled table_words 0 words.now }
-{
-    let mut all = [0u32; Model::WORDS];
-    let mut i = 0;
-    while i < Model::WORDS {
-        all[i] = word(words, i);
-        i += 1;
-    }
-    all
-}
-
 pub(crate) fn oven() -> [u32; Model::WORDS]
     ensures { table_words ≡ length result }
 {
-    padded(&OVEN)
+    judge_rows::padded(&OVEN, 0)
 }
 
 pub(crate) fn one_sided() -> [u32; Model::WORDS]
     ensures { table_words ≡ length result }
 {
-    padded(&ONE_SIDED)
+    judge_rows::padded(&ONE_SIDED, 0)
 }
 
 pub(crate) fn lamp() -> [u32; Model::WORDS]
     ensures { table_words ≡ length result }
 {
-    padded(&LAMP)
+    judge_rows::padded(&LAMP, 0)
 }
 
 pub(crate) fn pair() -> [u32; Model::WORDS]
     ensures { table_words ≡ length result }
 {
-    padded(&PAIR)
+    judge_rows::padded(&PAIR, 0)
 }

@@ -1,29 +1,15 @@
 // What the program writes. Each function answers false where a write failed.
 use judge::Answer;
+use model::Row;
+use std::fmt::Display;
 use std::io::{Stdout, Write};
-use text_bytes::Written;
 
-pub(crate) fn text(screen: Stdout, s: &[u8]) -> bool {
-    let mut out = screen;
-    out.write_all(s).is_ok()
+pub(crate) fn text(mut screen: Stdout, s: &[u8]) -> bool {
+    screen.write_all(s).is_ok()
 }
 
-pub(crate) fn number(screen: Stdout, n: u32) -> bool {
-    let mut out = [0u8; 10];
-    let end = text_bytes::decimal(n, &mut out, 0);
-    match end {
-        Written::To(k) => text(screen, &out[..k]),
-        Written::Full => false,
-    }
-}
-
-fn signed(screen: Stdout, z: i32) -> bool {
-    let mut out = [0u8; 11];
-    let end = text_bytes::signed(z, &mut out, 0);
-    match end {
-        Written::To(n) => text(screen, &out[..n]),
-        Written::Full => false,
-    }
+pub(crate) fn number(mut screen: Stdout, n: impl Display + Drop) -> bool {
+    write!(screen, "{n}").is_ok()
 }
 
 fn comma(screen: Stdout, first: bool) -> bool {
@@ -43,24 +29,16 @@ pub(crate) fn place(screen: Stdout, locations: &[u32], values: &[i32]) -> bool {
 
 fn all_locations(screen: Stdout, locations: &[u32]) -> bool {
     let mut well = true;
-    let mut i = 0;
-    while i < locations.len() {
-        well = well & comma(screen, i == 0) & number(screen, locations[i]);
-        i += 1;
+    for (i, location) in locations.iter().enumerate() {
+        well &= comma(screen, i == 0) & number(screen, *location);
     }
     well
 }
 
-fn value(screen: Stdout, z: i32) -> bool {
-    text(screen, b",") & signed(screen, z)
-}
-
 fn all_values(screen: Stdout, values: &[i32]) -> bool {
     let mut well = true;
-    let mut i = 0;
-    while i < values.len() {
-        well = well & value(screen, values[i]);
-        i += 1;
+    for z in values {
+        well &= text(screen, b",") & number(screen, *z);
     }
     well
 }
@@ -74,19 +52,12 @@ pub(crate) fn phase(screen: Stdout, p: u32) -> bool {
 }
 
 // The answer and the end of the line.
-pub(crate) fn answer(screen: Stdout, a: Answer) -> bool {
+pub(crate) fn answer(screen: Stdout, a: Result<Answer, Row>) -> bool {
     match a {
-        Answer::Yes => text(screen, b": yes\n"),
-        Answer::Marked(mark) => {
-            if mark {
-                text(screen, b": yes, true\n")
-            } else {
-                text(screen, b": yes, false\n")
-            }
-        }
-        Answer::No => text(screen, b": no\n"),
-        Answer::Refused(row) => text(screen, b": refused ")
-            & number(screen, row)
-            & text(screen, b"\n"),
+        Ok(Answer::Yes) => text(screen, b": yes\n"),
+        Ok(Answer::Marked(true)) => text(screen, b": yes, true\n"),
+        Ok(Answer::Marked(false)) => text(screen, b": yes, false\n"),
+        Ok(Answer::No) => text(screen, b": no\n"),
+        Err(row) => text(screen, b": refused ") & number(screen, row.0) & text(screen, b"\n"),
     }
 }

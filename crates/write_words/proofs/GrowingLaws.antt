@@ -3,78 +3,76 @@ use Prim.Native.Nat.{ℕ, suc, ◌+◌, ◌-◌, ◌≤◌, ◌<◌}
 use mathlib.Core.Path.{◌≡◌, refl, sym, ◌∙◌, ap, subst}
 use mathlib.Core.Bool.{Bool, true, false}
 use mathlib.Core.List.{[], ◌∷◌, ◌++◌, append_assoc, append-nil}
-use mathlib.Core.Option.{Option, none, some}
 use native.Mathlib.Omega.{arith}
 use borrow.Author.Tests.{le-leb, lt-leb, leb-true, leb-false, lt-ltb, le-ltb}
 use lib.ListN.{length, take, drop, length-append, length-take}
 use lib.Seq.{take_at, length-take-le}
 use lib.Dec.{leb}
+use Rattle.std.specs.Prelude.{Option, Some, None}
 use Rattle.format.specs.Bytes.{Bytes}
 use Rattle.format.specs.Number.{decimal, signed}
 use Rattle.model.specs.Bounds.{bias}
 use Rattle.model.specs.Table.{unbiased}
-use Rattle.text_bytes.specs.declared.answer.Written.{Written}
-use Rattle.text_bytes.specs.declared.answer.Written.TheVariants.{To, Full}
 use Rattle.text_bytes.specs.Write.{fits, written_to, after, Wrote}
 use Rattle.write_words.specs.declared.growing.Part.{Part}
 use Rattle.write_words.specs.Growing.{held, more, Grew, between, part_text}
 
 -- there is room for what a buffer holds
-pub more_none : (at : Written) (b : Bytes) → more (length b) (held at b) [] ≡ held at b
+pub more_none : (at : Option ℕ) (b : Bytes) → more (length b) (held at b) [] ≡ held at b
 unfolding more held
-more_none Full b = refl
-more_none (To n) b = go (leb n (length b)) refl
+more_none None b = refl
+more_none (Some n) b = go (leb n (length b)) refl
   where
-    go : (f : Bool) → leb n (length b) ≡ f → more (length b) (held (To n) b) [] ≡ held (To n) b
+    go : (f : Bool) → leb n (length b) ≡ f → more (length b) (held (Some n) b) [] ≡ held (Some n) b
     go false e = rw (e, held)
     go true e =
         let h = leb-true n (length b) e in
         let l : length (take n b) + 0 ≤ length b = simp length-take (omega arith) in
-        rw (e, held) (ap (λ (x : Bool). elim x [ true ↦ some (take n b ++ []) | false ↦ none ]) (le-leb (length (take n b) + 0) (length b) l) ∙ ap some (append-nil (take n b)))
+        rw (e, held) (ap (λ (x : Bool). elim x [ true ↦ Some (take n b ++ []) | false ↦ None ]) (le-leb (length (take n b) + 0) (length b) l) ∙ ap Some (append-nil (take n b)))
 
 -- what a buffer holds before a place, by whether the place is within it
-pub held_in : (n : ℕ) (b : Bytes) → n ≤ length b → held (To n) b ≡ some (take n b)
+pub held_in : (n : ℕ) (b : Bytes) → n ≤ length b → held (Some n) b ≡ Some (take n b)
 unfolding held
 held_in n b h = rw (le-leb n (length b) h, held)
 
-pub held_past : (n : ℕ) (b : Bytes) → length b < n → held (To n) b ≡ none
+pub held_past : (n : ℕ) (b : Bytes) → length b < n → held (Some n) b ≡ None
 unfolding held
 held_past n b h = rw (lt-leb n (length b) h, held)
 
-pub more_fits : (room : ℕ) (s t : Bytes) → length s + length t ≤ room → more room (some s) t ≡ some (s ++ t)
+pub more_fits : (room : ℕ) (s t : Bytes) → length s + length t ≤ room → more room (Some s) t ≡ Some (s ++ t)
 unfolding more
 more_fits room s t h = rw (le-leb (length s + length t) room h, more)
 
-pub more_full : (room : ℕ) (s t : Bytes) → room < length s + length t → more room (some s) t ≡ none
+pub more_full : (room : ℕ) (s t : Bytes) → room < length s + length t → more room (Some s) t ≡ None
 unfolding more
 more_full room s t h = rw (lt-leb (length s + length t) room h, more)
 
-more_nothing : (room : ℕ) (t : Bytes) → more room none t ≡ none
+more_nothing : (room : ℕ) (t : Bytes) → more room None t ≡ None
 unfolding more
 more_nothing room t = refl
 
-pub held_full : (b : Bytes) → held Full b ≡ none
+pub held_full : (b : Bytes) → held None b ≡ None
 unfolding held
 held_full b = refl
 
 -- first the one text, then the other
 pub more_more : (room : ℕ) (s : Option Bytes) (t u : Bytes) → more room (more room s t) u ≡ more room s (t ++ u)
-more_more room none t u = rw (more_nothing room t, more_nothing room u) (sym (more_nothing room (t ++ u)))
-more_more room (some s) t u = go (leb (length s + length t) room) refl
+more_more room None t u = rw (more_nothing room t, more_nothing room u) (sym (more_nothing room (t ++ u)))
+more_more room (Some s) t u = go (leb (length s + length t) room) refl
   where
-    both : length s + length t ≤ room → (f : Bool) → leb (length s + length t + length u) room ≡ f → more room (some (s ++ t)) u ≡ more room (some s) (t ++ u)
+    both : length s + length t ≤ room → (f : Bool) → leb (length s + length t + length u) room ≡ f → more room (Some (s ++ t)) u ≡ more room (Some s) (t ++ u)
     both h true f =
         let k = leb-true (length s + length t + length u) room f in
         let a : length (s ++ t) + length u ≤ room = simp length-append (omega arith) in
         let b : length s + length (t ++ u) ≤ room = simp length-append (omega arith) in
-        more_fits room (s ++ t) u a ∙ ap some (append_assoc s t u) ∙ sym (more_fits room s (t ++ u) b)
+        more_fits room (s ++ t) u a ∙ ap Some (append_assoc s t u) ∙ sym (more_fits room s (t ++ u) b)
     both h false f =
         let k = leb-false (length s + length t + length u) room f in
         let a : room < length (s ++ t) + length u = simp length-append (omega arith) in
         let b : room < length s + length (t ++ u) = simp length-append (omega arith) in
         more_full room (s ++ t) u a ∙ sym (more_full room s (t ++ u) b)
 
-    go : (f : Bool) → leb (length s + length t) room ≡ f → more room (more room (some s) t) u ≡ more room (some s) (t ++ u)
+    go : (f : Bool) → leb (length s + length t) room ≡ f → more room (more room (Some s) t) u ≡ more room (Some s) (t ++ u)
     go true e =
         let h = leb-true (length s + length t) room e in
         rw (more_fits room s t h) (both h (leb (length s + length t + length u) room) refl)
@@ -83,74 +81,74 @@ more_more room (some s) t u = go (leb (length s + length t) room) refl
         let l : room < length s + length (t ++ u) = simp length-append (omega arith) in
         ap (λ (o : Option Bytes). more room o u) (more_full room s t h) ∙ more_nothing room u ∙ sym (more_full room s (t ++ u) l)
 
-pub grew_none : (at : Written) (b : Bytes) → Grew [] at b b at
+pub grew_none : (at : Option ℕ) (b : Bytes) → Grew [] at b b at
 grew_none at b = record { text = sym (more_none at b); long = refl }
 
-pub grew_full : (t : Bytes) (at : Written) (b : Bytes) → at ≡ Full → Grew t at b b Full
+pub grew_full : (t : Bytes) (at : Option ℕ) (b : Bytes) → at ≡ None → Grew t at b b None
 unfolding held more
 grew_full t at b e = record { text = rw e; long = refl }
 
-pub grew_then : (t u : Bytes) (a b c : Written) (old mid new : Bytes) → Grew t a old mid b → Grew u b mid new c → Grew (t ++ u) a old new c
+pub grew_then : (t u : Bytes) (a b c : Option ℕ) (old mid new : Bytes) → Grew t a old mid b → Grew u b mid new c → Grew (t ++ u) a old new c
 grew_then t u a b c old mid new g h =
     record { text = h.text ∙ rw (g.long, g.text) (more_more (length old) (held a old) t u); long = h.long ∙ g.long }
 
 -- what is written from a place on
-pub wrote_grew : (t : Bytes) (n : ℕ) (at r : Written) (old new : Bytes) → at ≡ To n → Wrote t n old new r → Grew t at old new r
+pub wrote_grew : (t : Bytes) (n : ℕ) (at r : Option ℕ) (old new : Bytes) → at ≡ Some n → Wrote t n old new r → Grew t at old new r
 unfolding written_to after fits
 wrote_grew t n at r old new e w = rw e (record { text = go (leb (n + length t) (length old)) refl; long = w.long })
   where
-    short : length old < n + length t → (f : Bool) → leb n (length old) ≡ f → none ≡ more (length old) (held (To n) old) t
+    short : length old < n + length t → (f : Bool) → leb n (length old) ≡ f → None ≡ more (length old) (held (Some n) old) t
     short h true f =
         let l = leb-true n (length old) f in
         let k : length old < length (take n old) + length t = rw (length-take-le n old l) h in
         rw (held_in n old l) (sym (more_full (length old) (take n old) t k))
     short h false f = rw (held_past n old (leb-false n (length old) f)) (sym (more_nothing (length old) t))
 
-    go : (f : Bool) → leb (n + length t) (length old) ≡ f → held r new ≡ more (length old) (held (To n) old) t
+    go : (f : Bool) → leb (n + length t) (length old) ≡ f → held r new ≡ more (length old) (held (Some n) old) t
     go true f =
         let h = leb-true (n + length t) (length old) f in
         let l : n ≤ length old = omega arith in
         let ll = length-take-le n old l in
-        let a : r ≡ To (n + length t) = w.answer ∙ rw (f, written_to) in
+        let a : r ≡ Some (n + length t) = w.answer ∙ rw (f, written_to) in
         let m : new ≡ (take n old ++ t) ++ drop (n + length t) old = w.memory ∙ rw (f, after) in
         let k : n + length t ≤ length new = rw w.long h in
         let j : length (take n old ++ t) ≡ n + length t = rw (length-append (take n old) t, ll) in
         let i : length (take n old) + length t ≤ length old = rw ll h in
         rw (a, held_in (n + length t) new k, held_in n old l, more_fits (length old) (take n old) t i)
-        (ap some (ap (take (n + length t)) m ∙ take_at (take n old ++ t) (drop (n + length t) old) (n + length t) j))
+        (ap Some (ap (take (n + length t)) m ∙ take_at (take n old ++ t) (drop (n + length t) old) (n + length t) j))
     go false f =
         let h = leb-false (n + length t) (length old) f in
-        let a : r ≡ Full = w.answer ∙ rw (f, written_to) in
+        let a : r ≡ None = w.answer ∙ rw (f, written_to) in
         rw (a, held_full new) (short h (leb n (length old)) refl)
 
 pub ruleset put_laws = (grew_full, wrote_grew)
 
 -- before the first item nothing, and else the mark
-pub apart_first : (mark : Bytes) (first : Bool) (at : Written) (b : Bytes) → first ≡ true → Grew (between first mark) at b b at
+pub apart_first : (mark : Bytes) (first : Bool) (at : Option ℕ) (b : Bytes) → first ≡ true → Grew (between first mark) at b b at
 unfolding between
 apart_first mark first at b e = rw e (grew_none at b)
 
-pub apart_later : (mark : Bytes) (first : Bool) (at r : Written) (old new : Bytes) → first ≡ false → Grew mark at old new r → Grew (between first mark) at old new r
+pub apart_later : (mark : Bytes) (first : Bool) (at r : Option ℕ) (old new : Bytes) → first ≡ false → Grew mark at old new r → Grew (between first mark) at old new r
 unfolding between
 apart_later mark first at r old new e g = rw e g
 
 pub ruleset apart_laws = (apart_first, apart_later)
 
 -- a biased word is below or not below the bias
-pub biased_below : (w : ℕ) (at a r : Written) (old mid new : Bytes) → w < bias → Grew (45 ∷ []) at old mid a → Grew (decimal (bias - w)) a mid new r → Grew (signed (unbiased w)) at old new r
+pub biased_below : (w : ℕ) (at a r : Option ℕ) (old mid new : Bytes) → w < bias → Grew (45 ∷ []) at old mid a → Grew (decimal (bias - w)) a mid new r → Grew (signed (unbiased w)) at old new r
 unfolding unbiased signed
 biased_below w at a r old mid new h g k =
     let e : suc (bias - suc w) ≡ bias - w = omega arith in
     rw (lt-leb bias w h, unbiased, e) (grew_then (45 ∷ []) (decimal (bias - w)) at a r old mid new g k)
 
-pub biased_above : (w : ℕ) (at r : Written) (old new : Bytes) → bias ≤ w → Grew (decimal (w - bias)) at old new r → Grew (signed (unbiased w)) at old new r
+pub biased_above : (w : ℕ) (at r : Option ℕ) (old new : Bytes) → bias ≤ w → Grew (decimal (w - bias)) at old new r → Grew (signed (unbiased w)) at old new r
 unfolding unbiased signed
 biased_above w at r old new h g = rw (le-leb bias w h, unbiased) g
 
 pub ruleset biased_laws = (biased_below, biased_above)
 
 -- `put_part`
-module _ (row : Bytes) (p : Part) (at : Written) (old : Bytes) where
+module _ (row : Bytes) (p : Part) (at : Option ℕ) (old : Bytes) where
   pub part_crossed : p.to < p.from → Grew (part_text row p) at old old at
   unfolding part_text
   part_crossed h = rw (lt-ltb p.to p.from h, part_text) (grew_none at old)
@@ -160,12 +158,12 @@ module _ (row : Bytes) (p : Part) (at : Written) (old : Bytes) where
     unfolding part_text
     part_past k = rw (le-ltb p.to p.from h, part_text, lt-ltb (length row) p.to k, part_text) (grew_none at old)
 
-    pub part_put : p.to ≤ length row → (r : Written) (new : Bytes) → Grew (take (p.to - p.from) (drop p.from row)) at old new r → Grew (part_text row p) at old new r
+    pub part_put : p.to ≤ length row → (r : Option ℕ) (new : Bytes) → Grew (take (p.to - p.from) (drop p.from row)) at old new r → Grew (part_text row p) at old new r
     unfolding part_text
     part_put k r new g = rw (le-ltb p.to p.from h, part_text, le-ltb (length row) p.to k, part_text) g
 
 pub ruleset part_laws = (part_crossed, part_past, part_put)
 
 -- a part that is a text
-pub part_grew : (row t : Bytes) (p q : Part) → p ≡ q → part_text row q ≡ t → (at r : Written) (old new : Bytes) → Grew (part_text row p) at old new r → Grew t at old new r
+pub part_grew : (row t : Bytes) (p q : Part) → p ≡ q → part_text row q ≡ t → (at r : Option ℕ) (old new : Bytes) → Grew (part_text row p) at old new r → Grew t at old new r
 part_grew row t p q e f at r old new g = subst (λ (x : Bytes). Grew x at old new r) (ap (part_text row) e ∙ f) g

@@ -9,13 +9,13 @@ use borrow.Author.Tests.{ne_eqb}
 use lib.ListN.{get_or, drop}
 use lib.Seq.{get_or-drop}
 use lib.Dec.{eqb}
+use Rattle.std.specs.Prelude.{Option}
 use Rattle.model.specs.Basic.{keep, count_up}
 use Rattle.model.specs.Table.{bit}
 use Rattle.model.proofs.Lists.{keep_append, count_last}
 use Rattle.format.specs.Bytes.{Bytes, joined, space, comma}
 use Rattle.format.specs.Number.{decimal}
 use Rattle.format.specs.Spelling.{text_of_list}
-use Rattle.text_bytes.specs.declared.answer.Written.{Written}
 use Rattle.table_tree.specs.Sets.{one_word}
 use Rattle.table_tree.proofs.SetLaws.{set_of_one}
 use Rattle.table_places.specs.Outline.{reach, nodes_place, after_predicate}
@@ -26,7 +26,7 @@ use Rattle.table_places.proofs.OutlineLaws.{reach_drop}
 use Rattle.write_words.proofs.JoinLaws.{is_none, joined_snoc, map-append}
 
 -- `member`
-module _ (is_in first : Bool) (k : ℕ) (at : Written) (old : Bytes) where
+module _ (is_in first : Bool) (k : ℕ) (at : Option ℕ) (old : Bytes) where
   pub member_out : not is_in ≡ true → Grew (member_text is_in first k) at old old at
   unfolding member_text
   member_out h = go is_in h
@@ -35,7 +35,7 @@ module _ (is_in first : Bool) (k : ℕ) (at : Written) (old : Bytes) where
       go true e = absurd (true≢false (sym e))
       go false e = grew_none at old
 
-  pub member_in : not is_in ≡ false → (a r : Written) (mid new : Bytes) → Grew (between first (44 ∷ [])) at old mid a → Grew (decimal k) a mid new r → Grew (member_text is_in first k) at old new r
+  pub member_in : not is_in ≡ false → (a r : Option ℕ) (mid new : Bytes) → Grew (between first (44 ∷ [])) at old mid a → Grew (decimal k) a mid new r → Grew (member_text is_in first k) at old new r
   unfolding member_text
   member_in h a r mid new g i = go is_in h
     where
@@ -97,7 +97,7 @@ below_none both k false e = ap is_none (below_out both k e) ∙ go (is_none (mem
     go false = refl
 
 -- the turns of `members`
-module _ (both : ℕ) (at : Written) (old : Bytes) where
+module _ (both : ℕ) (at : Option ℕ) (old : Bytes) where
   pub members_none : Grew (text_of_list (members_below both 0)) at old old at
   unfolding text_of_list count_up keep joined
   members_none = grew_none at old
@@ -107,14 +107,14 @@ module _ (both : ℕ) (at : Written) (old : Bytes) where
   members_first = refl
 
   module _ (k : ℕ) (is_in first : Bool) (e : is_in ≡ bit both k) (f : first ≡ is_none (members_below both k)) where
-    pub members_on : (cur : Bytes) (end : Written) → Grew (text_of_list (members_below both k)) at old cur end → (r : Written) (new : Bytes) → Grew (member_text is_in first k) end cur new r → Grew (text_of_list (members_below both (k + 1))) at old new r
+    pub members_on : (cur : Bytes) (end : Option ℕ) → Grew (text_of_list (members_below both k)) at old cur end → (r : Option ℕ) (new : Bytes) → Grew (member_text is_in first k) end cur new r → Grew (text_of_list (members_below both (k + 1))) at old new r
     members_on cur end inv r new g =
         rw (below_text both k is_in (sym e), ← f) (grew_then (text_of_list (members_below both k)) (member_text is_in first k) at end r old cur new inv g)
 
     pub members_later : (first && not is_in) ≡ is_none (members_below both (k + 1))
     members_later = rw f (sym (below_none both k is_in (sym e)))
 
-  pub members_all : (k : ℕ) → k ≤ 64 → 64 ≤ k → (cur : Bytes) (end : Written) → Grew (text_of_list (members_below both k)) at old cur end → Grew (members_text both) at old cur end
+  pub members_all : (k : ℕ) → k ≤ 64 → 64 ≤ k → (cur : Bytes) (end : Option ℕ) → Grew (text_of_list (members_below both k)) at old cur end → Grew (members_text both) at old cur end
   unfolding members_text
   members_all k h i cur end inv =
       let z : k ≡ 64 = omega arith in
@@ -123,7 +123,7 @@ module _ (both : ℕ) (at : Written) (old : Bytes) where
 pub ruleset members_laws = (members_none, members_first, members_on, members_later, members_all)
 
 -- `set`
-pub set_is : (low high both : ℕ) → low < 4294967296 → high < 4294967296 → both ≡ one_word low high → (at r : Written) (old new : Bytes) → Grew (members_text both) at old new r → Grew (set_text low high) at old new r
+pub set_is : (low high both : ℕ) → low < 4294967296 → high < 4294967296 → both ≡ one_word low high → (at r : Option ℕ) (old new : Bytes) → Grew (members_text both) at old new r → Grew (set_text low high) at old new r
 unfolding members_text
 set_is low high both l u e at r old new g = rw (set_of_one low high l u both e) g
 
@@ -141,7 +141,7 @@ unfolding is_ini
 ini_is ws w a b e f g = rw (e, f, g)
 
 module _ (ws ps : List ℕ) (b : Bool) (e : b ≡ is_ini ws) where
-  module _ (at p r : Written) (old mid new : Bytes) where
+  module _ (at p r : Option ℕ) (old mid new : Bytes) where
     pub over_ini : b ≡ true → Grew (105 ∷ 110 ∷ 105 ∷ 32 ∷ []) at old mid p → Grew (predicate_text ps) p mid new r → Grew (over_text (is_ini ws) ws ps) at old new r
     unfolding over_text
     over_ini z g h = rw (← e, z) (grew_then (105 ∷ 110 ∷ 105 ∷ 32 ∷ []) (predicate_text ps) at p r old mid new g h)
@@ -164,7 +164,7 @@ pub ruleset over_laws = (over_ini, over_syn)
 pub ruleset after_laws = (after_ini, after_other)
 
 -- `node` and `size`, by the first word
-module _ (ws ps : List ℕ) (w : ℕ) (e : w ≡ get_or ws 0 0) (at r : Written) (old new : Bytes) where
+module _ (ws ps : List ℕ) (w : ℕ) (e : w ≡ get_or ws 0 0) (at r : Option ℕ) (old new : Bytes) where
   pub node_par : w ≡ 0 → Grew (112 ∷ 97 ∷ 114 ∷ []) at old new r → Grew (node_text ws ps) at old new r
   unfolding node_text node_by
   node_par z g = rw (← e, z) g
@@ -173,7 +173,7 @@ module _ (ws ps : List ℕ) (w : ℕ) (e : w ≡ get_or ws 0 0) (at r : Written)
   unfolding node_text node_by
   node_over z g = rw (← e, z) g
 
-  pub node_leaf : (w ≡ 0 → ⊥) → (w ≡ 1 → ⊥) → (p : Written) (mid : Bytes) → Grew (97 ∷ []) at old mid p → Grew (decimal (w - 2)) p mid new r → Grew (node_text ws ps) at old new r
+  pub node_leaf : (w ≡ 0 → ⊥) → (w ≡ 1 → ⊥) → (p : Option ℕ) (mid : Bytes) → Grew (97 ∷ []) at old mid p → Grew (decimal (w - 2)) p mid new r → Grew (node_text ws ps) at old new r
   unfolding node_text
   node_leaf y z p mid g h =
       let s : w ≡ suc (suc (w - 2)) = omega arith in
@@ -232,7 +232,7 @@ pub record Walked (ws ps : List ℕ) (n next start : ℕ) : Type 0 where
   pub starts : drop start ps ≡ after_starts n ws ps
 
 -- the turns of `nodes`
-module _ (ws ps : List ℕ) (at : Written) (old : Bytes) where
+module _ (ws ps : List ℕ) (at : Option ℕ) (old : Bytes) where
   pub nodes_none : Grew (joined space (node_texts 0 ws ps)) at old old at
   unfolding node_texts joined
   nodes_none = grew_none at old
@@ -241,11 +241,11 @@ module _ (ws ps : List ℕ) (at : Written) (old : Bytes) where
   unfolding after_nodes after_starts
   nodes_first = record { nodes = refl; starts = refl }
 
-  pub nodes_all : (i n : ℕ) → i ≤ n → n ≤ i → (cur : Bytes) (end : Written) → Grew (joined space (node_texts i ws ps)) at old cur end → Grew (joined space (node_texts n ws ps)) at old cur end
+  pub nodes_all : (i n : ℕ) → i ≤ n → n ≤ i → (cur : Bytes) (end : Option ℕ) → Grew (joined space (node_texts i ws ps)) at old cur end → Grew (joined space (node_texts n ws ps)) at old cur end
   nodes_all i n h k cur end inv = let z : i ≡ n = omega arith in rw z at inv
 
   module _ (i next start : ℕ) (w : Walked ws ps i next start) (here : List ℕ) (e : here ≡ drop next ws) where
-    pub nodes_on : (p : List ℕ) → p ≡ drop start ps → (cur : Bytes) (end : Written) → Grew (joined space (node_texts i ws ps)) at old cur end → (a r : Written) (mid new : Bytes)
+    pub nodes_on : (p : List ℕ) → p ≡ drop start ps → (cur : Bytes) (end : Option ℕ) → Grew (joined space (node_texts i ws ps)) at old cur end → (a r : Option ℕ) (mid new : Bytes)
         → Grew (between (eqb i 0) (32 ∷ [])) end cur mid a → Grew (node_text here p) a mid new r → Grew (joined space (node_texts (i + 1) ws ps)) at old new r
     nodes_on p f cur end inv a r mid new g k =
         let h = grew_then (joined space (node_texts i ws ps)) (between (eqb i 0) (32 ∷ [])) at end a old cur mid inv g in

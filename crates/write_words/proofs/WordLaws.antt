@@ -6,6 +6,7 @@ use native.Mathlib.Numerals.{add-one}
 use lib.ListN.{length, get_or, take, drop}
 use lib.Seq.{take-suc, take_all}
 use lib.Dec.{eqb}
+use Rattle.std.specs.Prelude.{Option}
 use Rattle.format.specs.Bytes.{Bytes, bytes, led_by, joined, space}
 use Rattle.format.specs.Number.{decimal, signed}
 use Rattle.format.specs.Spelling.{spelled}
@@ -14,7 +15,6 @@ use Rattle.node_words.specs.declared.Node.{Node}
 use Rattle.node_words.specs.declared.Node.TheVariants.{All, Any, Not, Imp, Eq, Le, Number, Old, New, Add, Sub, Mul, If, Stray}
 use Rattle.node_words.specs.Nodes.{meant, node_of}
 use Rattle.node_words.proofs.NodeLaws.{word_by, Other, by_others}
-use Rattle.text_bytes.specs.declared.answer.Written.{Written}
 use Rattle.write_words.specs.declared.growing.Part.{Part}
 use Rattle.write_words.specs.Growing.{Grew, between, part_text}
 use Rattle.write_words.specs.NodeText.{word_text, words_text, predicate_text, name_part, name_text, argument_text}
@@ -26,7 +26,7 @@ module _ (n m : Node) (e : n ≡ m) where
   pub place_by : (p : Part) → p ≡ name_part m → p ≡ name_part n
   place_by p h = rw e h
 
-  pub argument_by : (at r : Written) (old new : Bytes) → Grew (argument_text m) at old new r → Grew (argument_text n) at old new r
+  pub argument_by : (at r : Option ℕ) (old new : Bytes) → Grew (argument_text m) at old new r → Grew (argument_text n) at old new r
   argument_by at r old new g = rw e g
 
 pub ruleset place_laws = (place_by)
@@ -52,7 +52,7 @@ name_part_lem Mul = refl
 name_part_lem If = refl
 name_part_lem Stray = refl
 
-pub name_grew : (n : Node) (p : Part) → p ≡ name_part n → (at r : Written) (old new : Bytes) → Grew (in_names p) at old new r → Grew (name_text n) at old new r
+pub name_grew : (n : Node) (p : Part) → p ≡ name_part n → (at r : Option ℕ) (old new : Bytes) → Grew (in_names p) at old new r → Grew (name_text n) at old new r
 unfolding in_names
 name_grew n p e = part_grew (bytes "all any notimpeqlevnaddsubmulif") (name_text n) p (name_part n) e (name_part_lem n)
 
@@ -60,7 +60,7 @@ name_grew n p e = part_grew (bytes "all any notimpeqlevnaddsubmulif") (name_text
 abbrev argued : List Node
 argued = All 0 ∷ Any 0 ∷ Number 0 ∷ Old 0 ∷ New 0 ∷ []
 
-pub argument_other : (n : Node) (at : Written) (b : Bytes) → Other argued n → Grew (argument_text n) at b b at
+pub argument_other : (n : Node) (at : Option ℕ) (b : Bytes) → Other argued n → Grew (argument_text n) at b b at
 unfolding argument_text
 argument_other n at b o =
     let none = grew_none at b in
@@ -87,7 +87,7 @@ node_text Mul = refl
 node_text If = refl
 node_text Stray = refl
 
-pub word_is : (w : ℕ) (n : Node) (at a r : Written) (old mid new : Bytes) → n ≡ node_of w → Grew (name_text n) at old mid a → Grew (argument_text n) a mid new r → Grew (word_text w) at old new r
+pub word_is : (w : ℕ) (n : Node) (at a r : Option ℕ) (old mid new : Bytes) → n ≡ node_of w → Grew (name_text n) at old mid a → Grew (argument_text n) a mid new r → Grew (word_text w) at old new r
 unfolding word_text
 word_is w n at a r old mid new e g h =
     rw (word_by w n n e refl, ← node_text n) (grew_then (name_text n) (argument_text n) at a r old mid new g h)
@@ -100,16 +100,16 @@ words_more ws i h =
     let f : is_none (map word_text (take i ws)) ≡ eqb i 0 = none_taken word_text i ws h in
     rw (e, joined_snoc space (map word_text (take i ws)) (word_text (get_or ws i 0)), f)
 
-module _ (ws : List ℕ) (at : Written) (old : Bytes) where
+module _ (ws : List ℕ) (at : Option ℕ) (old : Bytes) where
   pub words_none : Grew (words_text (take 0 ws)) at old old at
   unfolding words_text joined
   words_none = grew_none at old
 
-  module _ (i : ℕ) (cur : Bytes) (end : Written) (inv : Grew (words_text (take i ws)) at old cur end) where
+  module _ (i : ℕ) (cur : Bytes) (end : Option ℕ) (inv : Grew (words_text (take i ws)) at old cur end) where
     pub words_all : i ≤ length ws → length ws ≤ i → Grew (words_text ws) at old cur end
     words_all h k = rw (take_all i ws k) at inv
 
-    pub words_on : i < length ws → (a r : Written) (mid new : Bytes) → Grew (between (eqb i 0) (32 ∷ [])) end cur mid a → Grew (word_text (get_or ws i 0)) a mid new r → Grew (words_text (take (i + 1) ws)) at old new r
+    pub words_on : i < length ws → (a r : Option ℕ) (mid new : Bytes) → Grew (between (eqb i 0) (32 ∷ [])) end cur mid a → Grew (word_text (get_or ws i 0)) a mid new r → Grew (words_text (take (i + 1) ws)) at old new r
     words_on h a r mid new g k =
         let e = grew_then (words_text (take i ws)) (between (eqb i 0) (32 ∷ [])) at end a old cur mid inv g in
         rw (words_more ws i h) (grew_then (words_text (take i ws) ++ between (eqb i 0) (32 ∷ [])) (word_text (get_or ws i 0)) at a r old mid new e k)
@@ -117,7 +117,7 @@ module _ (ws : List ℕ) (at : Written) (old : Bytes) where
 pub ruleset words_laws = (words_none, words_all, words_on)
 
 -- `counted`
-pub counted_is : (ws later cut : List ℕ) (n : ℕ) (at r : Written) (old new : Bytes) → later ≡ drop 1 ws → n ≡ get_or ws 0 0 → cut ≡ take n later →
+pub counted_is : (ws later cut : List ℕ) (n : ℕ) (at r : Option ℕ) (old new : Bytes) → later ≡ drop 1 ws → n ≡ get_or ws 0 0 → cut ≡ take n later →
     Grew (words_text cut) at old new r → Grew (predicate_text ws) at old new r
 unfolding predicate_text
 counted_is ws later cut n at r old new e f g k = rw (← f, ← e, ← g) k

@@ -1,15 +1,14 @@
 -- What the writer answers.
-use Rattle.std.specs.Prelude.{ℕ, ◌≤◌, ◌≡◌, true, false, List, length, take}
+use Rattle.std.specs.Prelude.{ℕ, ◌≤◌, ◌≡◌, true, false, List, length, take, Option, Result, Ok, Err}
+use Rattle.model.specs.declared.Row.{Row}
+use Rattle.model.specs.Row.{row}
 use Rattle.format.specs.Bytes.{Bytes}
 use Rattle.format.specs.Writer.{row35, WriteAnswer as Answer, unwritten, written, buffer_after}
-use Rattle.text_bytes.specs.declared.answer.Written as S
 use Rattle.text_bytes.specs.Write.{written_to}
 use Rattle.write_words.specs.Text.{sheet_text}
-use Rattle.write_words.specs.declared.WriteAnswer.{WriteAnswer}
-use Rattle.write_words.specs.declared.WriteAnswer.TheVariants.{Written, Refused}
 
--- the text t stands in the first bytes, which end where the answer says; or Full, where there is no room for it
-pub record Spelt (t : Bytes) (old new : Bytes) (r : S.Written) : Type 0 where
+-- the text t stands in the first bytes, which end where the answer says; or None, where there is no room for it
+pub record Spelt (t : Bytes) (old new : Bytes) (r : Option ℕ) : Type 0 where
   pub answer : r ≡ written_to t 0 old
   pub text : length t ≤ length old → take (length t) new ≡ t
   pub long : length new ≡ length old
@@ -27,12 +26,12 @@ abbrev pub words_answer : (room : ℕ) → List ℕ → (buffer : ℕ) → Answe
 words_answer room ws buffer = room_answer room (sheet_text ws) buffer
 
 -- an answer as the code gives it
-unfoldable pub given : Answer → WriteAnswer
-given (unwritten row) = Refused row
-given (written text) = Written (length text)
+unfoldable pub given : Answer → Result ℕ Row
+given (unwritten n) = Err (row n)
+given (written text) = Ok (length text)
 
 -- the answer is a, and the lent buffer is as it is after a
-pub record Answered (a : Answer) (old new : Bytes) (r : WriteAnswer) : Type 0 where
+pub record Answered (a : Answer) (old new : Bytes) (r : Result ℕ Row) : Type 0 where
   pub answer : r ≡ given a
   pub memory : new ≡ buffer_after a old
   pub long : length new ≡ length old

@@ -1,26 +1,24 @@
 -- Writing on: the text so far is what a buffer holds before a place.
 use Rattle.std.specs.Prelude.{ℕ, ◌+◌, ◌-◌, ◌≡◌, Bool, true, false, [], ◌++◌, length, take, drop, leb, ltb}
-use Rattle.std.proofs.Math.Option.{Option, none, some}
+use Rattle.std.specs.Prelude.{Option, Some, None}
 use Rattle.format.specs.Bytes.{Bytes}
-use Rattle.text_bytes.specs.declared.answer.Written.{Written}
-use Rattle.text_bytes.specs.declared.answer.Written.TheVariants.{To, Full}
 use Rattle.write_words.specs.declared.growing.Part.{Part}
 
-abbrev pub start : Written
-start = To 0
+abbrev pub start : Option ℕ
+start = Some 0
 
 -- the text before a place; none where there was no room for it
-unfoldable pub held : Written → Bytes → Option Bytes
-held (To n) buffer = elim (leb n (length buffer)) [ true ↦ some (take n buffer) | false ↦ none ]
-held Full buffer = none
+unfoldable pub held : Option ℕ → Bytes → Option Bytes
+held (Some n) buffer = elim (leb n (length buffer)) [ true ↦ Some (take n buffer) | false ↦ None ]
+held None buffer = None
 
 -- a text with t after it, if there is room for both
 unfoldable pub more : (room : ℕ) → Option Bytes → Bytes → Option Bytes
-more room none t = none
-more room (some s) t = elim (leb (length s + length t) room) [ true ↦ some (s ++ t) | false ↦ none ]
+more room None t = None
+more room (Some s) t = elim (leb (length s + length t) room) [ true ↦ Some (s ++ t) | false ↦ None ]
 
 -- t has been written on
-pub record Grew (t : Bytes) (at : Written) (old new : Bytes) (r : Written) : Type 0 where
+pub record Grew (t : Bytes) (at : Option ℕ) (old new : Bytes) (r : Option ℕ) : Type 0 where
   pub text : held r new ≡ more (length old) (held at old) t
   pub long : length new ≡ length old
 

@@ -4,28 +4,21 @@ ghost use Rattle.model.specs.Table.{unbiased};
 ghost use Rattle.write_words.specs.Growing.{Grew, between, part_text};
 
 use model::Model;
-use text_bytes::Written;
 
-pub(crate) fn put(s: &[u8], out: &mut [u8], at: Written) -> Written
+pub(crate) fn put(s: &[u8], out: &mut [u8], at: Option<usize>) -> Option<usize>
     ensures { Grew s.now at out.old out.new result }
 {
-    match at {
-        Written::To(n) => text_bytes::copy(s, out, n),
-        Written::Full => Written::Full,
-    }
+    text_bytes::copy(s, out, at?)
 }
 
-pub(crate) fn number(n: u32, out: &mut [u8], at: Written) -> Written
+pub(crate) fn number(n: u32, out: &mut [u8], at: Option<usize>) -> Option<usize>
     ensures { Grew (N.decimal n) at out.old out.new result }
 {
-    match at {
-        Written::To(place) => text_bytes::decimal(n, out, place),
-        Written::Full => Written::Full,
-    }
+    text_bytes::decimal(n, out, at?)
 }
 
 // What stands before an item, unless it is the first.
-pub(crate) fn apart(mark: &[u8], first: bool, out: &mut [u8], at: Written) -> Written
+pub(crate) fn apart(mark: &[u8], first: bool, out: &mut [u8], at: Option<usize>) -> Option<usize>
     ensures { Grew (between first mark.now) at out.old out.new result }
 {
     if first {
@@ -35,7 +28,7 @@ pub(crate) fn apart(mark: &[u8], first: bool, out: &mut [u8], at: Written) -> Wr
 }
 
 // The number that a biased word stands for.
-pub(crate) fn biased(word: u32, out: &mut [u8], at: Written) -> Written
+pub(crate) fn biased(word: u32, out: &mut [u8], at: Option<usize>) -> Option<usize>
     ensures { Grew (N.signed (unbiased word)) at out.old out.new result }
 {
     if word < Model::BIAS {
@@ -54,7 +47,7 @@ pub struct Part {
 
 // Words stand in one row, and a part of it is put: a literal for each word would be checked much longer. Where the row
 // has no such part, nothing is put.
-pub(crate) fn put_part(row: &[u8], p: Part, out: &mut [u8], at: Written) -> Written
+pub(crate) fn put_part(row: &[u8], p: Part, out: &mut [u8], at: Option<usize>) -> Option<usize>
     ensures { Grew (part_text row.now p) at out.old out.new result }
 {
     let from = p.from;

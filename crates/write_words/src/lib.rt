@@ -14,38 +14,31 @@ ghost use Rattle.std.specs.Prelude.{length};
 ghost use Rattle.model.specs.Bounds.{max_bytes};
 ghost use Rattle.write_words.specs.Answer.{Answered, words_answer};
 
-use text_bytes::Written;
-
-// Refused has the row. Written has the length of the text.
-#[derive(Clone, Copy)]
-pub enum WriteAnswer {
-    Written(usize),
-    Refused(u32),
-}
+use model::{Model, Row};
 
 // No sheet's text is longer.
-const BYTES: usize = model::Model::BYTES;
+const BYTES: usize = Model::BYTES;
 
 // What the words spell, by way of a buffer for the text: row 35 where that or the lent one has no room for it. The text
 // is copied as the last act.
-fn deliver(table: &[u32], text: &mut [u8], out: &mut [u8]) -> WriteAnswer
+fn deliver(table: &[u32], text: &mut [u8], out: &mut [u8]) -> Result<usize, Row>
     ensures { Answered
         (words_answer (length text.old) table.now (length out.old))
         out.old out.new result }
 {
-    let Written::To(n) = sheet::spell(table, text) else {
-        return WriteAnswer::Refused(35);
+    let Some(n) = sheet::spell(table, text) else {
+        return Err(Row(35));
     };
     if out.len() < n {
-        return WriteAnswer::Refused(35);
+        return Err(Row(35));
     }
-    let _end = text_bytes::copy(&text[..n], out, 0);
-    WriteAnswer::Written(n)
+    out[..n].copy_from_slice(&text[..n]);
+    Ok(n)
 }
 
 // The same by way of a buffer of its own. On the table of a model this is its text or row 35, since no sheet's text is
 // longer than that buffer. Other words may spell more, and row 35 then refuses them whatever is lent.
-pub fn write(table: &[u32], out: &mut [u8]) -> WriteAnswer
+pub fn write(table: &[u32], out: &mut [u8]) -> Result<usize, Row>
     ensures { Answered (words_answer max_bytes table.now (length out.old))
         out.old out.new result }
 {

@@ -9,10 +9,9 @@ use crate::predicate::{self};
 use crate::read::{self};
 use line_order::Key;
 use table_places::word32;
-use text_bytes::Written;
 
 // Both ends of a range.
-fn range(ws: &[u32], out: &mut [u8], at: Written) -> Written
+fn range(ws: &[u32], out: &mut [u8], at: Option<usize>) -> Option<usize>
     ensures { Grew (range_text ws.now) at out.old out.new result }
 {
     let a = growing::biased(word32(ws, 0), out, at);
@@ -21,7 +20,7 @@ fn range(ws: &[u32], out: &mut [u8], at: Written) -> Written
 }
 
 // A number and a comma.
-fn field(n: u32, out: &mut [u8], at: Written) -> Written
+fn field(n: u32, out: &mut [u8], at: Option<usize>) -> Option<usize>
     ensures { Grew (field_text n) at out.old out.new result }
 {
     let a = growing::number(n, out, at);
@@ -29,7 +28,7 @@ fn field(n: u32, out: &mut [u8], at: Written) -> Written
 }
 
 // Where an edge starts, its action, where it ends, and its update.
-fn edge(ws: &[u32], out: &mut [u8], at: Written) -> Written
+fn edge(ws: &[u32], out: &mut [u8], at: Option<usize>) -> Option<usize>
     ensures { Grew (edge_text ws.now) at out.old out.new result }
 {
     let a = field(word32(ws, 0), out, at);
@@ -47,7 +46,7 @@ fn starts(ws: &[u32]) -> &[u32]
 }
 
 // The composition: its count of nodes, the nodes, and the P's of its `ini`.
-fn tree(ws: &[u32], out: &mut [u8], at: Written) -> Written
+fn tree(ws: &[u32], out: &mut [u8], at: Option<usize>) -> Option<usize>
     ensures { Grew (tree_text ws.now) at out.old out.new result }
 {
     let n = read::count(ws, 0);
@@ -66,6 +65,7 @@ pub enum Shape {
     Nothing,
 }
 
+#[tactic(auto, unfolding(crate::specs::Text::shape_of))]
 fn shape_of(key: Key) -> Shape
     ensures { result ≡ shape_of key }
 {
@@ -86,7 +86,7 @@ fn shape_of(key: Key) -> Shape
     }
 }
 
-fn value(key: Key, ws: &[u32], out: &mut [u8], at: Written) -> Written
+fn value(key: Key, ws: &[u32], out: &mut [u8], at: Option<usize>) -> Option<usize>
     ensures { Grew (value_of key ws.now) at out.old out.new result }
 {
     let s = shape_of(key);
@@ -102,6 +102,7 @@ fn value(key: Key, ws: &[u32], out: &mut [u8], at: Written) -> Written
 }
 
 // Where a key stands among all keys.
+#[tactic(auto, unfolding(crate::specs::Text::key_part))]
 fn among_keys(key: Key) -> Part
     ensures { result ≡ key_part key }
 {
@@ -123,7 +124,7 @@ fn among_keys(key: Key) -> Part
 }
 
 // A key, the equals sign with it. All keys stand in one row, for a literal in each arm would be checked much longer.
-fn name(key: Key, out: &mut [u8], at: Written) -> Written
+fn name(key: Key, out: &mut [u8], at: Option<usize>) -> Option<usize>
     ensures { Grew (key_text key) at out.old out.new result }
 {
     let p = among_keys(key);
@@ -136,7 +137,7 @@ fn name(key: Key, out: &mut [u8], at: Written) -> Written
 }
 
 // The line with this key whose words these begin with.
-pub(crate) fn line(key: Key, ws: &[u32], out: &mut [u8], at: Written) -> Written
+pub(crate) fn line(key: Key, ws: &[u32], out: &mut [u8], at: Option<usize>) -> Option<usize>
     ensures { Grew (line_of key ws.now) at out.old out.new result }
 {
     let a = name(key, out, at);
@@ -145,6 +146,7 @@ pub(crate) fn line(key: Key, ws: &[u32], out: &mut [u8], at: Written) -> Written
 }
 
 // How many words it has; none follows the composition.
+#[tactic(auto, unfolding(crate::specs::Text::size_of))]
 pub(crate) fn size(key: Key, ws: &[u32]) -> usize
     ensures { result ≡ size_of key ws.now }
 {

@@ -6,10 +6,9 @@ ghost use Rattle.write_words.specs.Text.{owner_text};
 
 use crate::growing::{self};
 use table_places::word32;
-use text_bytes::Written;
 
 // Who an owner's word stands for: 0 is nobody, K + 1 is automaton K.
-fn who(word: u32, out: &mut [u8], at: Written) -> Written
+fn who(word: u32, out: &mut [u8], at: Option<usize>) -> Option<usize>
     ensures { Grew (text_of_owner (owner_from word)) at out.old out.new result }
 {
     if word == 0 {
@@ -19,7 +18,7 @@ fn who(word: u32, out: &mut [u8], at: Written) -> Written
 }
 
 // The owner of a variable, by the variable's words: the third is the owner's.
-pub(crate) fn line(ws: &[u32], out: &mut [u8], at: Written) -> Written
+pub(crate) fn line(ws: &[u32], out: &mut [u8], at: Option<usize>) -> Option<usize>
     ensures { Grew (owner_text ws.now) at out.old out.new result }
 {
     let a = growing::put(b"owner=", out, at);

@@ -7,9 +7,9 @@ ghost use Rattle.write_words.specs.NodeText.{predicate_text};
 use crate::growing::{self, Part};
 use crate::read::{self};
 use node_words::Node;
-use text_bytes::Written;
 
 // Where a node's name stands among all names.
+#[tactic(auto, unfolding(crate::specs::NodeText::name_part))]
 fn among_names(node: Node) -> Part
     ensures { result ≡ name_part node }
 {
@@ -32,7 +32,7 @@ fn among_names(node: Node) -> Part
 }
 
 // What a node is called.
-fn name(node: Node, out: &mut [u8], at: Written) -> Written
+fn name(node: Node, out: &mut [u8], at: Option<usize>) -> Option<usize>
     ensures { Grew (name_text node) at out.old out.new result }
 {
     let p = among_names(node);
@@ -40,7 +40,7 @@ fn name(node: Node, out: &mut [u8], at: Written) -> Written
 }
 
 // Its argument, where it has one.
-fn argument(node: Node, out: &mut [u8], at: Written) -> Written
+fn argument(node: Node, out: &mut [u8], at: Option<usize>) -> Option<usize>
     ensures { Grew (argument_text node) at out.old out.new result }
 {
     match node {
@@ -53,7 +53,7 @@ fn argument(node: Node, out: &mut [u8], at: Written) -> Written
     }
 }
 
-fn word(w: u32, out: &mut [u8], at: Written) -> Written
+fn word(w: u32, out: &mut [u8], at: Option<usize>) -> Option<usize>
     ensures { Grew (word_text w) at out.old out.new result }
 {
     let node = node_words::node_of(w);
@@ -61,21 +61,19 @@ fn word(w: u32, out: &mut [u8], at: Written) -> Written
     argument(node, out, a)
 }
 
-fn words(ws: &[u32], out: &mut [u8], at: Written) -> Written
+fn words(ws: &[u32], out: &mut [u8], at: Option<usize>) -> Option<usize>
     ensures { Grew (words_text ws.now) at out.old out.new result }
 {
     let mut end = at;
-    let mut i: usize = 0;
-    while i < ws.len() {
+    for (i, w) in ws.iter().enumerate() {
         let a = growing::apart(b" ", i == 0, out, end);
-        end = word(ws[i], out, a);
-        i += 1;
+        end = word(*w, out, a);
     }
     end
 }
 
 // A predicate: its count of nodes, and the nodes.
-pub(crate) fn counted(ws: &[u32], out: &mut [u8], at: Written) -> Written
+pub(crate) fn counted(ws: &[u32], out: &mut [u8], at: Option<usize>) -> Option<usize>
     ensures { Grew (predicate_text ws.now) at out.old out.new result }
 {
     let n = read::count(ws, 0);

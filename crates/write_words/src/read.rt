@@ -12,18 +12,12 @@ pub(crate) fn count(ws: &[u32], at: usize) -> usize
 pub(crate) fn rest(ws: &[u32], at: usize) -> &[u32]
     ensures { result.now ≡ drop at ws.now }
 {
-    if ws.len() < at {
-        return &ws[..0];
-    }
-    &ws[at..]
+    &ws[at.min(ws.len())..]
 }
 
 // The first words, at most n.
 pub(crate) fn first(ws: &[u32], n: usize) -> &[u32]
     ensures { result.now ≡ take n ws.now }
 {
-    if ws.len() < n {
-        return ws;
-    }
-    &ws[..n]
+    &ws[..n.min(ws.len())]
 }

@@ -8,18 +8,16 @@ use crate::read::{self};
 use crate::writes::{self};
 use line_order::Due;
 use model::Model;
-use text_bytes::Written;
 
-fn all_lines(table: &[u32], out: &mut [u8]) -> Written
+fn all_lines(table: &[u32], out: &mut [u8]) -> Option<usize>
     ensures { Grew (sheet_text table.now) start out.old out.new result }
 {
     let mut due = Due::first();
-    let mut end = Written::To(0);
+    let mut end = Some(0);
     let mut at: usize = 0;
     // Each round writes an entry, which takes a word at least. So all entries of a table are written before the rounds
     // are over.
-    let mut left = Model::WORDS + 1;
-    while left != 0 {
+    for _ in 0..Model::WORDS + 1 {
         let key = due.key;
         if line_order::end(key) {
             return end;
@@ -27,24 +25,15 @@ fn all_lines(table: &[u32], out: &mut [u8]) -> Written
         end = writes::entry(due, read::rest(table, at), out, end);
         due = due.after(read::count(read::rest(table, at), 0));
         at = table_places::step(table, at, line::size(key, read::rest(table, at)));
-        left -= 1;
     }
     end
 }
 
-// The table's text into the first bytes, up to the place that is answered; or Full, and the bytes are anything. The
+// The table's text into the first bytes, up to the place that is answered; or None, and the bytes are anything. The
 // words are not checked: those of a table that is no model's have a text too, which says nothing.
-pub(crate) fn spell(table: &[u32], out: &mut [u8]) -> Written
+pub(crate) fn spell(table: &[u32], out: &mut [u8]) -> Option<usize>
     ensures { Spelt (sheet_text table.now) out.old out.new result }
 {
-    let end = all_lines(table, out);
-    match end {
-        Written::To(n) => {
-            if n <= out.len() {
-                return Written::To(n);
-            }
-            Written::Full
-        }
-        Written::Full => Written::Full,
-    }
+    let n = all_lines(table, out)?;
+    if n <= out.len() { Some(n) } else { None }
 }

@@ -8,10 +8,9 @@ ghost use Rattle.write_words.specs.NodeText.{node_size, starts_after, node_texts
 use crate::growing::{self};
 use crate::read::{self};
 use table_places::word32;
-use text_bytes::Written;
 
 // A number, if it is in the set.
-fn member(is_in: bool, first: bool, k: u32, out: &mut [u8], at: Written) -> Written
+fn member(is_in: bool, first: bool, k: u32, out: &mut [u8], at: Option<usize>) -> Option<usize>
     ensures { Grew (member_text is_in first k) at out.old out.new result }
 {
     if !is_in {
@@ -22,23 +21,21 @@ fn member(is_in: bool, first: bool, k: u32, out: &mut [u8], at: Written) -> Writ
 }
 
 // The members of a set of 64 bits, which rise, and commas between them.
-pub(crate) fn members(both: u64, out: &mut [u8], at: Written) -> Written
+pub(crate) fn members(both: u64, out: &mut [u8], at: Option<usize>) -> Option<usize>
     ensures { Grew (members_text both) at out.old out.new result }
 {
     let mut end = at;
     let mut first = true;
-    let mut k: u32 = 0;
-    while k < 64 {
+    for k in 0..64 {
         let is_in = table_tree::in_word(both, k);
         end = member(is_in, first, k, out, end);
         first = first & !is_in;
-        k += 1;
     }
     end
 }
 
 // The actions of a set of two words.
-pub(crate) fn set(low: u32, high: u32, out: &mut [u8], at: Written) -> Written
+pub(crate) fn set(low: u32, high: u32, out: &mut [u8], at: Option<usize>) -> Option<usize>
     ensures { Grew (set_text low high) at out.old out.new result }
 {
     let both = table_tree::set_of(low, high);
@@ -54,7 +51,7 @@ fn is_ini(ws: &[u32]) -> bool
 }
 
 // An `ini` with its P, or a `syn` with its set.
-fn over(ws: &[u32], ps: &[u32], out: &mut [u8], at: Written) -> Written
+fn over(ws: &[u32], ps: &[u32], out: &mut [u8], at: Option<usize>) -> Option<usize>
     ensures { Grew (over_text (is_ini ws.now) ws.now ps.now)
         at out.old out.new result }
 {
@@ -67,7 +64,7 @@ fn over(ws: &[u32], ps: &[u32], out: &mut [u8], at: Written) -> Written
 }
 
 // The node that the words begin with; its P, if it is an `ini`, is the one that `ps` begins with.
-fn node(ws: &[u32], ps: &[u32], out: &mut [u8], at: Written) -> Written
+fn node(ws: &[u32], ps: &[u32], out: &mut [u8], at: Option<usize>) -> Option<usize>
     ensures { Grew (node_text ws.now ps.now) at out.old out.new result }
 {
     let w = word32(ws, 0);
@@ -99,22 +96,26 @@ fn after(ws: &[u32], ps: &[u32], at: usize) -> usize
 }
 
 // So many nodes, and spaces between them; `ps` are the P's, in the order of the `ini`.
-pub(crate) fn nodes(ws: &[u32], n: usize, ps: &[u32], out: &mut [u8], at: Written) -> Written
+pub(crate) fn nodes(
+    ws: &[u32],
+    n: usize,
+    ps: &[u32],
+    out: &mut [u8],
+    at: Option<usize>,
+) -> Option<usize>
     ensures { Grew (joined space (node_texts n ws.now ps.now))
         at out.old out.new result }
 {
     let mut end = at;
     let mut next: usize = 0;
     let mut start: usize = 0;
-    let mut i: usize = 0;
-    while i < n {
+    for i in 0..n {
         let here = read::rest(ws, next);
         let later = after(here, ps, start);
         let a = growing::apart(b" ", i == 0, out, end);
         end = node(here, read::rest(ps, start), out, a);
         next = table_places::step(ws, next, size(here));
         start = later;
-        i += 1;
     }
     end
 }

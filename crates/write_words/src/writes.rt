@@ -7,10 +7,9 @@ use crate::line::{self};
 use crate::owner::{self};
 use crate::read::{self};
 use line_order::Due;
-use text_bytes::Written;
 
 // The variables whose new value the update names, by the edge's words.
-fn list(ws: &[u32], out: &mut [u8], at: Written) -> Written
+fn list(ws: &[u32], out: &mut [u8], at: Option<usize>) -> Option<usize>
     ensures { Grew (writes_text ws.now) at out.old out.new result }
 {
     let n = read::count(ws, 3);
@@ -21,7 +20,7 @@ fn list(ws: &[u32], out: &mut [u8], at: Written) -> Written
 }
 
 // The owner of a variable, or what an edge writes, in the formats that say it.
-fn behind(due: Due, ws: &[u32], out: &mut [u8], at: Written) -> Written
+fn behind(due: Due, ws: &[u32], out: &mut [u8], at: Option<usize>) -> Option<usize>
     ensures { Grew (behind_of due ws.now) at out.old out.new result }
 {
     if due.owned() {
@@ -34,7 +33,7 @@ fn behind(due: Due, ws: &[u32], out: &mut [u8], at: Written) -> Written
 }
 
 // The line that is due, whose words these begin with, and the line behind it.
-pub(crate) fn entry(due: Due, ws: &[u32], out: &mut [u8], at: Written) -> Written
+pub(crate) fn entry(due: Due, ws: &[u32], out: &mut [u8], at: Option<usize>) -> Option<usize>
     ensures { Grew (entry_of due ws.now) at out.old out.new result }
 {
     let key = due.key;

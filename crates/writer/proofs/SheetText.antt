@@ -30,8 +30,10 @@ use Rattle.line_order.specs.declared.Due.{Due}
 use Rattle.line_order.specs.Due.{is_edge, is_variable, is_listed, is_owned, is_end, due_first, due_after_key, due_after, keys_due, later_keys, later_due, code_of, number_of}
 use Rattle.line_order.proofs.KeyLaws.{no_end}
 use Rattle.line_order.proofs.DueLaws.{due_first_lem, format_first, format_after, due_key, due_later, due_end, due_after_lem}
-use Rattle.model.specs.declared.Checked.{Checked}
-use Rattle.model.specs.declared.Checked.TheVariants.{Good, Refused}
+use Rattle.std.proofs.Common.{Result, Ok, Err}
+use Rattle.std.specs.Prelude.{⊤}
+use Rattle.model.specs.declared.Row.{Row}
+use Rattle.model.specs.Row.{row}
 use Rattle.table_check.specs.Check.{answered}
 use Rattle.format.specs.Bytes.{Bytes, led_by, joined, comma, LF}
 use Rattle.format.specs.Number.{decimal, signed}
@@ -39,8 +41,6 @@ use Rattle.format.specs.Spelling.{spelling, text_of_list, text_of_pred, value_te
 use Rattle.format.specs.Writer.{write_answer, buffer_after}
 use Rattle.format.proofs.FitsLaws.{text_fits}
 use Rattle.write_words.specs.Text.{range_text, field_text, edge_text, value_of, key_text, line_of, size_of, writes_text, owner_text, behind_of, entry_of, lines_from, sheet_text}
-use Rattle.write_words.specs.declared.WriteAnswer.{WriteAnswer}
-use Rattle.write_words.specs.declared.WriteAnswer.TheVariants as W
 use Rattle.write_words.specs.Answer.{copy_answer, room_answer, given, Answered}
 use Rattle.writer.proofs.TextLaws.{predicate_text_lem, writes_text_lem, past_nodes, tree_text_lem}
 use Rattle.write_words.proofs.SheetLaws.{lines_end, lines_on, with_room}
@@ -271,20 +271,20 @@ opened_text t m e old =
     words_text m s.lawful t s.rest s.stands 65536 (omega arith) old
 
 -- `write`
-module _ (t old : List ℕ) (c : Checked) (e : c ≡ answered (open_table t)) where
-  pub write_refused : (row : ℕ) → c ≡ Refused row → Answered (write_answer t (length old)) old old (W.Refused row)
+module _ (t old : List ℕ) (c : Result ⊤ Row) (e : c ≡ answered (open_table t)) where
+  pub write_refused : (k : Row) → c ≡ Err k → Answered (write_answer t (length old)) old old (Err k)
   unfolding write_answer answered given buffer_after
-  write_refused row f = go (open_table t) refl
+  write_refused k f = go (open_table t) refl
     where
-      go : (o : Opened) → open_table t ≡ o → Answered (write_answer t (length old)) old old (W.Refused row)
+      go : (o : Opened) → open_table t ≡ o → Answered (write_answer t (length old)) old old (Err k)
       go (unopened x) p =
-          let z : row ≡ x = cc (ap answered p) in
-          rw (p, write_answer) (record { answer = ap W.Refused z; memory = refl; long = refl })
+          let z : k ≡ row x = cc (ap answered p) in
+          rw (p, write_answer) (record { answer = ap Err z; memory = refl; long = refl })
       go (opened m) p =
           let z : ◌≡◌ {A = ℕ} 0 1 = cc (ap answered p) in
           absurd (omega arith)
 
-  pub write_good : c ≡ Good → (new : Bytes) (r : WriteAnswer) → Answered (room_answer 65536 (sheet_text t) (length old)) old new r → Answered (write_answer t (length old)) old new r
+  pub write_good : c ≡ Ok tt → (new : Bytes) (r : Result ℕ Row) → Answered (room_answer 65536 (sheet_text t) (length old)) old new r → Answered (write_answer t (length old)) old new r
   unfolding write_answer answered copy_answer
   write_good f new r g = go (open_table t) refl
     where

@@ -5,17 +5,13 @@ ghost use Rattle.std.specs.Prelude.{length};
 ghost use Rattle.format.specs.Writer.{write_answer};
 ghost use Rattle.write_words.specs.Answer.{Answered};
 
-use model::Checked;
-pub use write_words::WriteAnswer;
+use model::Row;
 
 // The text of the model whose table this is. Rows 18, 19 and 35; a refusal has written nothing.
-pub fn write(table: &[u32], out: &mut [u8]) -> WriteAnswer
+pub fn write(table: &[u32], out: &mut [u8]) -> Result<usize, Row>
     ensures { Answered (write_answer table.now (length out.old))
         out.old out.new result }
 {
-    let checked = table_check::check(table);
-    match checked {
-        Checked::Good => write_words::write(table, out),
-        Checked::Refused(row) => WriteAnswer::Refused(row),
-    }
+    table_check::check(table)?;
+    write_words::write(table, out)
 }

@@ -3,8 +3,8 @@ use Rattle.judge_call.proofs.CallLaws.{environment_laws}
 use Rattle.std.proofs.Common.{rules}
 use Rattle.judge_call.proofs.environment.Goals as goal
 
-pub returns-in-Refused : goal.returns-in-Refused
-returns-in-Refused c = search (rules, environment_laws)
+pub returns-in_err-check : goal.returns-in_err-check
+returns-in_err-check c = search (rules, environment_laws)
 
 pub returns : goal.returns
 returns c = search (rules, environment_laws)

@@ -20,6 +20,3 @@ seek-requires c =
       laid_2 = laid_low _ _ _ _ _ c.all_filled.ensures filled row;
       bounds_of = c.find-b.ensures.bounds_of;
     }
-
-pub returns : goal.returns
-returns c = search (rules, covered_laws)

@@ -1,16 +1,17 @@
--- `judge_runs::all` meets its contract: the run goes on to the same end. The measure is the proposals left.
-use Rattle.judge_runs.proofs.RunCodeLaws.{all_laws}
-use borrow.Author.Rules.{rules}
+-- `judge_runs::all` meets its contract: the run goes on to the same end.
+use Rattle.judge_runs.proofs.RunCodeLaws.{all_laws, going_on}
+use Rattle.std.proofs.Common.{arith, rules}
 use Rattle.judge_runs.proofs.all.Goals as goal
 
 pub loop-k-init : goal.loop-k-init
 loop-k-init c = search (rules, all_laws)
 
-pub overflow_add-k : goal.overflow_add-k
-overflow_add-k c = search (rules, c.loop-k-test.true, c.well_formed)
-
 pub loop-k-preserved : goal.loop-k-preserved
-loop-k-preserved c = search (rules, all_laws)
+loop-k-preserved c =
+    going_on _ _ _ _ _ _ _ _ _ _ _ _ c.loop-k.invariant c.loop-k-test.true c.min.result c.min-in-loop-k.result
+    (omega arith) (λ h. omega arith) (omega arith) (λ h. omega arith)
+    c.put-turn.result _ _ _ _ c.split_at.ensures.front c.split_at.ensures.back c.split_at-in-loop-k.ensures.front c.split_at-in-loop-k.ensures.back
+    c.put-turn.ensures
 
 pub returns : goal.returns
 returns c = search (rules, all_laws)

@@ -3,14 +3,14 @@ use Rattle.judge_turn.proofs.TurnLaws.{moved_laws}
 use borrow.Author.Rules.{rules}
 use Rattle.judge_turn.proofs.moved.Goals as goal
 
-pub returns-in-Yes : goal.returns-in-Yes
-returns-in-Yes c = search (rules, moved_laws)
+pub returns-in-Ok-Yes : goal.returns-in-Ok-Yes
+returns-in-Ok-Yes c = search (rules, moved_laws)
 
-pub returns-in-Marked : goal.returns-in-Marked
-returns-in-Marked c = search (rules, moved_laws)
+pub returns-in-Ok-Yes-2 : goal.returns-in-Ok-Yes-2
+returns-in-Ok-Yes-2 c = search (rules, moved_laws)
 
-pub returns-in-No : goal.returns-in-No
-returns-in-No c = search (rules, moved_laws)
+pub returns-in-Ok-No : goal.returns-in-Ok-No
+returns-in-Ok-No c = search (rules, moved_laws)
 
-pub returns-in-Refused : goal.returns-in-Refused
-returns-in-Refused c = search (rules, moved_laws)
+pub returns-in-Ok-No-2 : goal.returns-in-Ok-No-2
+returns-in-Ok-No-2 c = search (rules, moved_laws)

@@ -1,10 +1,7 @@
--- `merge_distinct::repeats` meets its contract: from each turn on, the definition goes on to the same answer. The measure is the automata left.
+-- `merge_distinct::repeats` meets its contract: from each turn on, the definition goes on to the same answer.
 use Rattle.merge_distinct.proofs.WholeLaws.{repeats_laws}
 use borrow.Author.Rules.{rules}
 use Rattle.merge_distinct.proofs.repeats.Goals as goal
-
-pub loop-i-init : goal.loop-i-init
-loop-i-init c = search (rules, repeats_laws)
 
 pub returns-then-n-edges_of : goal.returns-then-n-edges_of
 returns-then-n-edges_of c = search (rules, repeats_laws)

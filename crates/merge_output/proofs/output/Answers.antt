@@ -3,8 +3,8 @@ use Rattle.merge_output.proofs.OutputLaws.{output_laws}
 use borrow.Author.Rules.{rules}
 use Rattle.merge_output.proofs.output.Goals as goal
 
-pub returns-in-Merged : goal.returns-in-Merged
-returns-in-Merged c = search (rules, output_laws)
+pub returns-in-Ok : goal.returns-in-Ok
+returns-in-Ok c = search (rules, output_laws)
 
-pub returns-in-Refused : goal.returns-in-Refused
-returns-in-Refused c = search (rules, output_laws)
+pub returns-in-Err : goal.returns-in-Err
+returns-in-Err c = search (rules, output_laws)

@@ -3,8 +3,11 @@ use Rattle.merger.proofs.MergeLaws.{merge_laws}
 use borrow.Author.Rules.{rules}
 use Rattle.merger.proofs.merge.Goals as goal
 
-pub returns-then-merged-ne0 : goal.returns-then-merged-ne0
-returns-then-merged-ne0 c = search (rules, merge_laws)
+pub returns-in-Some : goal.returns-in-Some
+returns-in-Some c = search (rules, merge_laws)
+
+pub returns-in_err-length : goal.returns-in_err-length
+returns-in_err-length c = search (rules, merge_laws, c.in_err-length.was)
 
 pub returns : goal.returns
-returns c = search (rules, merge_laws)
+returns c = search (rules, merge_laws, c.in_ok-length.was)

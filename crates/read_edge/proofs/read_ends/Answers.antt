@@ -3,14 +3,14 @@ use Rattle.read_edge.proofs.EdgeLaws.{ends_laws}
 use borrow.Author.Rules.{rules}
 use Rattle.read_edge.proofs.read_ends.Goals as goal
 
-pub returns-in_default : goal.returns-in_default
-returns-in_default c = search (rules, ends_laws)
+pub returns-in_err-from : goal.returns-in_err-from
+returns-in_err-from c = search (rules, ends_laws)
 
-pub returns-in_default-natural : goal.returns-in_default-natural
-returns-in_default-natural c = search (rules, ends_laws)
+pub returns-in_err-action : goal.returns-in_err-action
+returns-in_err-action c = search (rules, ends_laws)
 
-pub returns-in_default-natural-2 : goal.returns-in_default-natural-2
-returns-in_default-natural-2 c = search (rules, ends_laws)
+pub returns-in_err-to : goal.returns-in_err-to
+returns-in_err-to c = search (rules, ends_laws)
 
 pub returns : goal.returns
 returns c = search (rules, ends_laws)

@@ -1,19 +1,20 @@
 -- `read_with` meets its contract: the key that is due decides.
+use Rattle.format.specs.Spelling.{spelling}
 use Rattle.read_line.specs.Line.{line_with, line_with_after}
 use Rattle.read_line.proofs.DispatchLaws.{dispatch_laws}
 use borrow.Author.Rules.{rules}
 use Rattle.read_line.proofs.read_with.Goals as goal
 
 pub returns-in-Format : goal.returns-in-Format
-unfolding line_with line_with_after
+unfolding line_with line_with_after spelling
 returns-in-Format c = search (rules, dispatch_laws)
 
 pub returns-in-Actions : goal.returns-in-Actions
-unfolding line_with line_with_after
+unfolding line_with line_with_after spelling
 returns-in-Actions c = search (rules, dispatch_laws)
 
 pub returns-in-Variables : goal.returns-in-Variables
-unfolding line_with line_with_after
+unfolding line_with line_with_after spelling
 returns-in-Variables c = search (rules, dispatch_laws)
 
 pub returns-in-Variable : goal.returns-in-Variable
@@ -29,15 +30,15 @@ unfolding line_with line_with_after
 returns-in-Sync c = search (rules, dispatch_laws)
 
 pub returns-in-Locations : goal.returns-in-Locations
-unfolding line_with line_with_after
+unfolding line_with line_with_after spelling
 returns-in-Locations c = search (rules, dispatch_laws)
 
 pub returns-in-Init : goal.returns-in-Init
-unfolding line_with line_with_after
+unfolding line_with line_with_after spelling
 returns-in-Init c = search (rules, dispatch_laws)
 
 pub returns-in-Inv : goal.returns-in-Inv
-unfolding line_with line_with_after
+unfolding line_with line_with_after spelling
 returns-in-Inv c = search (rules, dispatch_laws)
 
 pub returns-in-Edges : goal.returns-in-Edges

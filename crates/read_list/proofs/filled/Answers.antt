@@ -1,27 +1,32 @@
--- `filled` meets its contract: the definition goes on from the place `at` with the numbers so far. The measure is what is
--- left of the text.
-use Rattle.read_list.proofs.CodeLaws.{items_laws}
-use Rattle.text_bytes.proofs.Parting.{turn_laws}
-use borrow.Author.Rules.{rules}
+-- `filled` meets its contract: the definition goes on with the parts that are left and the numbers so far.
+use Rattle.std.proofs.Common.{length, eqb, rules, tests}
+use Rattle.std.proofs.lemmas.List.{length_push}
+use Rattle.std.proofs.lemmas.Iterator.Consumers.{YieldsList-at, YieldsList-turn, YieldsList-end}
+use Rattle.std.proofs.lemmas.Iterator.Splits.{YieldsList-from_slice_split}
+use Rattle.text_bytes.proofs.Splits.{parts_turn, parts_over}
+use Rattle.read_list.proofs.CodeLaws.{items_start, items_end, items_no, items_go}
 use Rattle.read_list.proofs.filled.Goals as goal
 
-pub loop-at-init : goal.loop-at-init
-loop-at-init c = search (rules, items_laws)
-
-pub slice_bounds-natural-count : goal.slice_bounds-natural-count
-slice_bounds-natural-count c = search (rules, turn_laws)
-
-pub slice_bounds-natural-start : goal.slice_bounds-natural-start
-slice_bounds-natural-start c = search (rules, turn_laws)
+pub loop-item-init : goal.loop-item-init
+loop-item-init c = items_start c.args.part.now _ _ c.no_items-seen.ensures
 
 pub returns-in_default : goal.returns-in_default
-returns-in_default c = search (rules, items_laws)
+returns-in_default c =
+    let turn = YieldsList-turn
+    (YieldsList-at c.into_iter-item-iterator.ensures.into_iter_gives (YieldsList-from_slice_split _ (λ b. eqb b 44) c.args.part.now c.split-item-items.ensures.rest c.split-item-items.ensures.done c.split-item-items.ensures.closure (λ x r q k. search (rules, tests))))
+    c.loop-item.yielded _ c.loop-item.yielded_by _ _ c.in-Some.item c.in-Some.is c.next.ensures.steps in
+    items_no c.args.part.now _ _ _ c.loop-item.invariant _ (parts_turn 44 c.args.part.now (length c.loop-item.yielded) c.in-Some.item.now turn) c.in_default.ensures
 
-pub loop-at-smaller : goal.loop-at-smaller
-loop-at-smaller c = search (rules, turn_laws)
-
-pub loop-at-preserved : goal.loop-at-preserved
-loop-at-preserved c = search (rules, items_laws)
+pub loop-item-preserved : goal.loop-item-preserved
+loop-item-preserved c =
+    let turn = YieldsList-turn
+    (YieldsList-at c.into_iter-item-iterator.ensures.into_iter_gives (YieldsList-from_slice_split _ (λ b. eqb b 44) c.args.part.now c.split-item-items.ensures.rest c.split-item-items.ensures.done c.split-item-items.ensures.closure (λ x r q k. search (rules, tests))))
+    c.loop-item.yielded _ c.loop-item.yielded_by _ _ c.in-Some.item c.in-Some.is c.next.ensures.steps in
+    items_go c.args.part.now _ _ _ c.loop-item.invariant _ (parts_turn 44 c.args.part.now (length c.loop-item.yielded) c.in-Some.item.now turn) _ _ _ c.in-Some-natural.ensures c.with_item-seen.ensures (length_push c.loop-item.yielded c.in-Some.item)
 
 pub returns : goal.returns
-returns c = search (rules, items_laws)
+returns c =
+    let over = YieldsList-end
+    (YieldsList-at c.into_iter-item-iterator.ensures.into_iter_gives (YieldsList-from_slice_split _ (λ b. eqb b 44) c.args.part.now c.split-item-items.ensures.rest c.split-item-items.ensures.done c.split-item-items.ensures.closure (λ x r q k. search (rules, tests))))
+    c.loop-item.yielded _ c.loop-item.yielded_by _ _ c.in-None.is c.next.ensures.steps in
+    items_end c.args.part.now _ _ _ c.loop-item.invariant (parts_over 44 c.args.part.now (length c.loop-item.yielded) over.1)

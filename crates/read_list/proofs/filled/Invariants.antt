@@ -1,15 +1,9 @@
--- `filled` meets its contract: the definition goes on from the place `at` with the numbers so far. The measure is what is
--- left of the text.
-use Prim.Native.Nat.{◌+◌, ◌-◌, ◌≤◌}
+-- `filled` meets its contract: the definition goes on with the parts that are left and the numbers so far.
 use mathlib.Core.Path.{◌≡◌}
-use lib.ListN.{length}
+use lib.ListN.{length, drop}
 use Rattle.format.specs.Bytes.{parts, comma}
-use Rattle.text_bytes.proofs.Parting.{parts_from}
 use Rattle.read_list.specs.Items.{items_of, items_from}
 use Rattle.read_list.proofs.filled.Given as goal
 
-abbrev pub invariant-loop-at : goal.invariant-loop-at
-invariant-loop-at l = (l.at ≤ length l.part + 1) × (items_of l.asked (parts comma l.part) ≡ items_from l.asked l.seen (parts_from comma l.part l.at))
-
-abbrev pub decreases-loop-at : goal.decreases-loop-at
-decreases-loop-at l = length l.part + 1 - l.at
+abbrev pub invariant-loop-item : goal.invariant-loop-item
+invariant-loop-item l = items_of l.asked (parts comma l.part) ≡ items_from l.asked l.seen (drop (length l.yielded) (parts comma l.part))

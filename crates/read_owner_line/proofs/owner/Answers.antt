@@ -9,8 +9,8 @@ returns-then-same c = search (rules, owner_laws)
 pub overflow_add-result : goal.overflow_add-result
 overflow_add-result c = search (rules, owner_laws)
 
-pub returns-in-In : goal.returns-in-In
-returns-in-In c = search (rules, owner_laws)
+pub returns-in-Some : goal.returns-in-Some
+returns-in-Some c = search (rules, owner_laws)
 
-pub returns-in-Out : goal.returns-in-Out
-returns-in-Out c = search (rules, owner_laws)
+pub returns-in-None : goal.returns-in-None
+returns-in-None c = search (rules, owner_laws)

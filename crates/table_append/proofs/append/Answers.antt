@@ -1,23 +1,20 @@
--- `append` meets its contract: what is left of the words goes into the buffer as it is now.
+use Rattle.std.proofs.Common.{◌≡◌, length, ◌+◌, ◌-◌}
+use mathlib.Core.Path.{◌≡◌}
+use Prim.Native.Nat.{◌+◌, ◌-◌, min}
+use lib.ListN.{length}
 use native.Mathlib.Omega.{arith}
-use Rattle.table_append.proofs.AppendLaws.{append_laws, append_on}
-use borrow.Author.Rules.{rules}
+use Rattle.model.specs.Bounds.{table_words}
+use Rattle.table_append.proofs.Stored.{copied_next, copied_put}
 use Rattle.table_append.proofs.append.Goals as goal
 
-pub returns-then-at-ge-WORDS : goal.returns-then-at-ge-WORDS
-returns-then-at-ge-WORDS c = search (rules, append_laws)
-
-pub loop-i-init : goal.loop-i-init
-loop-i-init c = search (rules, append_laws)
-
-pub returns-then-from-i : goal.returns-then-from-i
-returns-then-from-i c = search (rules, append_laws)
-
-pub returns-then-at-i : goal.returns-then-at-i
-returns-then-at-i c = search (rules, append_laws)
-
-pub loop-i-preserved : goal.loop-i-preserved
-loop-i-preserved c = (search (rules, append_on), omega arith, omega arith, omega arith)
-
+-- src/lib.rt:29:1
 pub returns : goal.returns
-returns c = search (rules, append_laws)
+returns c =
+    let a = c.min-at.result in
+    let m = c.min-n.result in
+    let from = c.args.from.now in
+    let fits : m ≡ min (min c.args.n (length from)) (table_words - a) = omega arith in
+    let same : a + m - a ≡ m = omega arith in (
+      copied_next from c.args.n c.args.at a m c.min-at.ensures fits,
+      copied_put from c.args.n c.args.at a m c.min-at.ensures fits c.args.words.now c.told-words _ same c.copy_from_slice.new.self c.copy_from_slice.ensures.after,
+    )

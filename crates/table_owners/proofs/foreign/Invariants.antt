@@ -4,8 +4,5 @@ use Rattle.model.specs.Bounds.{max_variables}
 use Rattle.table_owners.specs.Owners.{is_foreign_at, foreign_in}
 use Rattle.table_owners.proofs.foreign.Given as goal
 
-abbrev pub invariant-loop-left : goal.invariant-loop-left
-invariant-loop-left l = Going (is_foreign_at l.variables l.n l.rest) (foreign_in l.variables l.n l.rest) max_variables l.k l.left
-
-abbrev pub decreases-loop-left : goal.decreases-loop-left
-decreases-loop-left l = l.left
+abbrev pub invariant-loop-k : goal.invariant-loop-k
+invariant-loop-k l = Going (is_foreign_at l.variables l.n l.rest) (foreign_in l.variables l.n l.rest) (max_variables) l.k

@@ -1,6 +1,6 @@
 -- The three functions of the walk call each other, and meet their contracts together. The measure: twice the depth left, and
 -- one more for a row of operands, which passes its own on to each of them. Each way out of a function is one step of the definition.
-use Prim.Native.Nat.{◌+◌, ◌*◌}
+use Prim.Native.Nat.{◌+◌, ◌-◌, ◌*◌}
 use mathlib.Core.Path.{◌≡◌}
 use Rattle.table_predicate.specs.Walk.{predicate_at, gather}
 use Rattle.table_predicate.proofs.+expression_operands_predicate.Given as goal
@@ -14,9 +14,6 @@ decreases-operands l = 2 * l.left + 1
 abbrev pub decreases-predicate : goal.decreases-predicate
 decreases-predicate l = 2 * l.left
 
-abbrev pub invariant-operands-loop-rest : goal.invariant-operands-loop-rest
-invariant-operands-loop-rest l =
-    gather (predicate_at l.words l.ranges l.left) l.rest l.reach ≡ gather (predicate_at l.words l.ranges l.left) l.count l.initial.reach
-
-abbrev pub decreases-operands-loop-rest : goal.decreases-operands-loop-rest
-decreases-operands-loop-rest l = l.rest
+abbrev pub invariant-operands-loop : goal.invariant-operands-loop
+invariant-operands-loop l =
+    gather (predicate_at l.words l.ranges l.left) (l.count - l.counter) l.reach ≡ gather (predicate_at l.words l.ranges l.left) l.count l.initial.reach

@@ -1,4 +1,3 @@
-use Rattle.judge_bounds.proofs.PartLaws.{spreading_laws}
 use Rattle.judge_bounds.proofs.PartLaws.{spreading_laws, spreading_more}
 use borrow.Author.Rules.{rules}
 use Rattle.judge_bounds.proofs.parts.most.Goals as goal
@@ -6,15 +5,9 @@ use Rattle.judge_bounds.proofs.parts.most.Goals as goal
 pub loop-k-init : goal.loop-k-init
 loop-k-init c = search (rules, spreading_laws)
 
-pub returns-then-m-eq0 : goal.returns-then-m-eq0
-returns-then-m-eq0 c = search (rules, spreading_laws)
-
-pub loop-k-smaller : goal.loop-k-smaller
-loop-k-smaller c = search (rules, spreading_laws)
-
 pub loop-k-preserved : goal.loop-k-preserved
 loop-k-preserved c = let l = c.loop-k in
-    spreading_more _ _ _ _ _ l.m l.k l.invariant c.loop-k-test.true _ c.fit_of-m.ensures (search rules)
+    spreading_more _ _ _ _ _ l.m l.k l.invariant c.loop-k-test.true _ c.in_ok-m.ensures
 
 pub returns : goal.returns
 returns c = search (rules, spreading_laws)

@@ -1,29 +1,31 @@
-use Rattle.judge_bounds.proofs.PartLaws.{needing_laws}
 use Rattle.judge_bounds.proofs.PartLaws.{needing_laws, needing_more}
 use borrow.Author.Rules.{rules}
 use Rattle.judge_bounds.proofs.parts.needed.Goals as goal
 
-pub loop-need-init : goal.loop-need-init
-loop-need-init c = search (rules, needing_laws)
-
-pub returns-then-rest-eq0 : goal.returns-then-rest-eq0
-returns-then-rest-eq0 c = search (rules, needing_laws)
+pub loop-rest-init : goal.loop-rest-init
+loop-rest-init c = search (rules, needing_laws)
 
 pub returns-then-not-sound : goal.returns-then-not-sound
 returns-then-not-sound c = search (rules, needing_laws)
 
 pub pieces-need-requires : goal.pieces-need-requires
-pieces-need-requires c = let x = c.sound.ensures c.if-not-sound.false in
-    (x.some, c.most-m.ensures.upper_bound)
+pieces-need-requires c = (c.in-Some.ensures.lower_bound, c.in-Some.ensures.upper_bound)
 
-pub loop-need-smaller : goal.loop-need-smaller
-loop-need-smaller c = (c.sound.ensures c.if-not-sound.false).less
+pub loop-rest-smaller : goal.loop-rest-smaller
+loop-rest-smaller c = (c.sound.ensures c.if-not-sound.false).less
 
-pub loop-need-preserved : goal.loop-need-preserved
-loop-need-preserved c = let l = c.loop-need in
-    needing_more _ _ _ _ l.need l.rest l.invariant _ _ _ _ c.loop-need-test.true
+pub loop-rest-preserved : goal.loop-rest-preserved
+loop-rest-preserved c = let l = c.loop-rest in
+    let most = c.in-Some.ensures in
+    needing_more _ _ _ _ l.need l.rest l.invariant _ _ _ _ c.if-need-le16.true
     (c.sound.ensures c.if-not-sound.false)
-    c.most-m.ensures.takers_fit c.pieces-need.ensures.value c.pieces-need.ensures.upper_bound
+    most.lower_bound most.takers_fit c.pieces-need.ensures.value c.pieces-need.ensures.upper_bound
 
-pub returns : goal.returns
-returns c = search (rules, needing_laws)
+pub returns-else-need-le16 : goal.returns-else-need-le16
+returns-else-need-le16 c = search (rules, needing_laws)
+
+pub returns-after-loop-rest : goal.returns-after-loop-rest
+returns-after-loop-rest c = search (rules, needing_laws)
+
+pub returns-in_default : goal.returns-in_default
+returns-in_default c = search (rules, needing_laws)

@@ -1,9 +1,11 @@
-use Rattle.judge_bounds.proofs.PartLaws.{pieces_laws}
-use borrow.Author.Rules.{rules}
+use Rattle.judge_bounds.proofs.PartLaws.{pieces_is, pieces_few}
 use Rattle.judge_bounds.proofs.parts.pieces.Goals as goal
 
-pub overflow_add-result : goal.overflow_add-result
-overflow_add-result c = search (rules, pieces_laws)
-
 pub returns : goal.returns
-returns c = search (rules, pieces_laws)
+returns c =
+    let size = c.size.ensures in
+    let ceil = c.div_ceil.ensures in
+    record {
+      value = pieces_is _ _ _ _ c.requires.0 size ceil;
+      upper_bound = pieces_few _ _ _ _ c.requires.0 size ceil c.ranges.part.fits c.requires.1;
+    }

@@ -5,9 +5,6 @@ use Rattle.judge_bounds.proofs.rounds.round.Goals as goal
 pub loop-k-init : goal.loop-k-init
 loop-k-init c = search (rules, summing_laws)
 
-pub loop-k-smaller : goal.loop-k-smaller
-loop-k-smaller c = search (rules, summing_laws)
-
 pub loop-k-preserved : goal.loop-k-preserved
 loop-k-preserved c = search (rules, summing_laws)
 

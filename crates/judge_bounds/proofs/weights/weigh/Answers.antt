@@ -1,18 +1,27 @@
-use Rattle.judge_bounds.proofs.WeightLaws.{weighing_laws}
+use Prim.Native.Nat.{◌+◌, ◌-◌, ◌≤◌}
+use native.Mathlib.Omega.{arith}
+use lib.Bits.{and_le_r}
+use Rattle.judge_bounds.proofs.WeightLaws.{weighing_laws, weighing_more, weighing_done, weighing_small}
 use borrow.Author.Rules.{rules}
 use Rattle.judge_bounds.proofs.weights.weigh.Goals as goal
 
-pub loop-at-init : goal.loop-at-init
-loop-at-init c = search (rules, weighing_laws)
+pub loop-rest-smaller : goal.loop-rest-smaller
+loop-rest-smaller c = omega (arith, and_le_r c.loop-rest.rest (c.loop-rest.rest - 1))
 
-pub returns-then-rest-eq0 : goal.returns-then-rest-eq0
-returns-then-rest-eq0 c = search (rules, weighing_laws)
+pub loop-rest-preserved : goal.loop-rest-preserved
+loop-rest-preserved c = search (rules, weighing_laws)
 
-pub loop-at-smaller : goal.loop-at-smaller
-loop-at-smaller c = search (rules, weighing_laws)
-
-pub loop-at-preserved : goal.loop-at-preserved
-loop-at-preserved c = search (rules, weighing_laws)
+pub overflow_add-total : goal.overflow_add-total
+overflow_add-total c =
+    let more = weighing_more _ _ _ _ c.loop-rest.invariant _ _ c.lowest.ensures c.from-total.ensures in
+    let small : c.loop-rest.total + c.from-total.result ≤ 8388480 =
+    weighing_small _ _ _ _ more c.told-weights c.fits-weights in
+    search rules
 
 pub returns : goal.returns
-returns c = search (rules, weighing_laws)
+returns c =
+    let s = c.loop-rest.invariant in
+    record {
+      value = weighing_done _ _ _ _ s c.loop-rest-test.false;
+      upper_bound = weighing_small _ _ _ _ s c.told-weights c.fits-weights;
+    }

@@ -3,8 +3,8 @@ use Rattle.judge_call.proofs.JudgementLaws.{environment_from_laws}
 use Rattle.std.proofs.Common.{rules}
 use Rattle.judge_call.proofs.judgement.environment_from.Goals as goal
 
-pub returns-in-Refused : goal.returns-in-Refused
-returns-in-Refused c = search (rules, environment_from_laws)
+pub returns-in_err-values_checked : goal.returns-in_err-values_checked
+returns-in_err-values_checked c = search (rules, environment_from_laws)
 
-pub returns-in-Good : goal.returns-in-Good
-returns-in-Good c = search (rules, environment_from_laws)
+pub returns : goal.returns
+returns c = search (rules, environment_from_laws)

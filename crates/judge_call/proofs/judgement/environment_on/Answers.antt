@@ -3,8 +3,8 @@ use Rattle.judge_call.proofs.JudgementLaws.{environment_on_laws}
 use Rattle.std.proofs.Common.{rules}
 use Rattle.judge_call.proofs.judgement.environment_on.Goals as goal
 
-pub returns-in-Out : goal.returns-in-Out
-returns-in-Out c = search (rules, environment_on_laws)
+pub returns-in_err-p : goal.returns-in_err-p
+returns-in_err-p c = search (rules, environment_on_laws)
 
-pub returns-in-In : goal.returns-in-In
-returns-in-In c = search (rules, environment_on_laws)
+pub returns : goal.returns
+returns c = search (rules, environment_on_laws)

@@ -3,8 +3,8 @@ use Rattle.judge_call.proofs.JudgementLaws.{step_from_laws}
 use Rattle.std.proofs.Common.{rules}
 use Rattle.judge_call.proofs.judgement.step_from.Goals as goal
 
-pub returns-in-Refused : goal.returns-in-Refused
-returns-in-Refused c = search (rules, step_from_laws)
+pub returns-in_err-state_checked : goal.returns-in_err-state_checked
+returns-in_err-state_checked c = search (rules, step_from_laws)
 
-pub returns-in-Good : goal.returns-in-Good
-returns-in-Good c = search (rules, step_from_laws)
+pub returns : goal.returns
+returns c = search (rules, step_from_laws)

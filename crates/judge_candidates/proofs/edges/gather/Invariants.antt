@@ -1,12 +1,10 @@
--- `judge_candidates::edges::gather` meets its contract: k automata have been passed. The measure is the automata left.
-use Prim.Native.Nat.{◌-◌}
+-- `judge_candidates::edges::gather` meets its contract: k automata have been passed.
 use Rattle.judge_candidates.specs.Walk.{kept, gathering, gather_from}
 use Rattle.judge_candidates.proofs.WalkLaws.{Passing}
 use Rattle.judge_candidates.proofs.edges.gather.Given as goal
 
 abbrev pub invariant-loop-k : goal.invariant-loop-k
-invariant-loop-k l = Passing l.words l.before l.after l.edges l.old l.new l.action (gather_from l.words l.before l.after l.edges l.old l.new l.action l.automata l.initial.masks l.initial.first) l.automata l.k
+invariant-loop-k l =
+    Passing l.words l.before l.after l.edges l.old l.new l.action
+    (gather_from l.words l.before l.after l.edges l.old l.new l.action l.automata l.initial.masks l.initial.first) l.automata l.k
     (gathering (kept l.masks l.count) l.first)
-
-abbrev pub decreases-loop-k : goal.decreases-loop-k
-decreases-loop-k l = l.automata - l.k

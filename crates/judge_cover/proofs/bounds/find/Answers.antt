@@ -7,6 +7,3 @@ loop-k-init c = search (rules, bounding_laws)
 
 pub loop-k-preserved : goal.loop-k-preserved
 loop-k-preserved c = search (rules, bounding_laws)
-
-pub returns : goal.returns
-returns c = search (rules, bounding_laws)

@@ -1,4 +1,3 @@
--- src/choice.rt:77:1
 use Rattle.judge_cover.proofs.CodeLaws.{first_is}
 use borrow.Author.Rules.{rules}
 use Rattle.judge_cover.proofs.choice.first.Goals as goal

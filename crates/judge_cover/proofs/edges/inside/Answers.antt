@@ -1,4 +1,3 @@
--- src/edges.rt:15:1
 use Rattle.judge_cover.proofs.CodeLaws.{inside_is}
 use borrow.Author.Rules.{rules}
 use Rattle.judge_cover.proofs.edges.inside.Goals as goal

@@ -1,4 +1,3 @@
--- src/edges.rt:25:9
 use Rattle.judge_cover.proofs.CodeLaws.{left_is}
 use borrow.Author.Rules.{rules}
 use Rattle.judge_cover.proofs.edges.left_by.Goals as goal

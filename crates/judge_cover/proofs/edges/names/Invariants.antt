@@ -9,6 +9,3 @@ use Rattle.judge_cover.proofs.edges.names.Given as goal
 
 abbrev pub invariant-loop-i : goal.invariant-loop-i
 invariant-loop-i l = exists (λ j. not (bit (get_or l.masks j 0) l.v)) (count_up l.i (l.to - l.i)) ≡ named_in l.masks l.from l.to l.v
-
-abbrev pub decreases-loop-i : goal.decreases-loop-i
-decreases-loop-i l = l.to - l.i

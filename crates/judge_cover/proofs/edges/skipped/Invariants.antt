@@ -6,6 +6,3 @@ use Rattle.judge_cover.proofs.edges.skipped.Given as goal
 
 abbrev pub invariant-loop-j : goal.invariant-loop-j
 invariant-loop-j l = exists (dominated l.masks l.u l.i) (count_up l.j (l.to - l.j)) ≡ skipped_at l.masks l.from l.to l.u l.i
-
-abbrev pub decreases-loop-j : goal.decreases-loop-j
-decreases-loop-j l = l.to - l.j

@@ -7,6 +7,3 @@ use Rattle.judge_cover.proofs.places.all_filled.Given as goal
 
 abbrev pub invariant-loop-k : goal.invariant-loop-k
 invariant-loop-k l = every (has_edge l.starts l.ends) (count_up l.k (l.n - l.k)) ≡ all_filled l.starts l.ends l.n
-
-abbrev pub decreases-loop-k : goal.decreases-loop-k
-decreases-loop-k l = l.n - l.k

@@ -1,4 +1,3 @@
--- src/places.rt:34:27
 use Rattle.judge_cover.proofs.CodeLaws.{step_laws}
 use borrow.Author.Rules.{rules}
 use Rattle.judge_cover.proofs.places.past.Goals as goal

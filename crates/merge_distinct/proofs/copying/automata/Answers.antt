@@ -1,4 +1,4 @@
--- `merge_distinct::copying::automata` meets its contract: what is copied and what is left make up the whole. The measure is the automata left.
+-- `merge_distinct::copying::automata` meets its contract: what is copied and what is left make up the whole.
 use Rattle.merge_distinct.proofs.CopyingLaws.{automata_laws}
 use borrow.Author.Rules.{rules}
 use Rattle.merge_distinct.proofs.copying.automata.Goals as goal

@@ -1,12 +1,10 @@
--- `merge_distinct::equality::hash` meets its contract: from each turn on, the definition goes on to the same number. The measure is the words left.
+-- `merge_distinct::equality::hash` meets its contract: from each turn on, the definition goes on to the same number.
 use mathlib.Core.Path.{◌≡◌}
-use Prim.Native.Nat.{◌<◌}
+use Prim.Native.Nat.{◌-◌, ◌<◌}
 use Rattle.merge_append.specs.Runs.{run}
 use Rattle.merge_distinct.specs.Equality.{hash_from, hash_at}
 use Rattle.merge_distinct.proofs.equality.hash.Given as goal
 
-abbrev pub invariant-loop-left : goal.invariant-loop-left
-invariant-loop-left l = (l.sum < 4096) × (hash_from l.sum (run l.t l.place l.left) ≡ hash_at l.t l.at)
-
-abbrev pub decreases-loop-left : goal.decreases-loop-left
-decreases-loop-left l = l.left
+abbrev pub invariant-loop : goal.invariant-loop
+invariant-loop l =
+    (l.sum < 4096) × (hash_from l.sum (run l.t l.place (l.length - l.counter)) ≡ hash_at l.t l.at)

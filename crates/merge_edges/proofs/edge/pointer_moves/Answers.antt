@@ -1,4 +1,4 @@
--- `merge_edges::edge::pointer_moves` meets its contract: what is done and what is left make up the whole. The measure is the places left.
+-- `merge_edges::edge::pointer_moves` meets its contract: what is done and what is left make up the whole.
 use Rattle.merge_edges.proofs.EdgeLaws.{moves_laws}
 use borrow.Author.Rules.{rules}
 use Rattle.merge_edges.proofs.edge.pointer_moves.Goals as goal

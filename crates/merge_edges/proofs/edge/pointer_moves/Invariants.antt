@@ -1,12 +1,10 @@
--- `merge_edges::edge::pointer_moves` meets its contract: what is done and what is left make up the whole. The measure is the places left.
-use Prim.Native.Nat.{◌-◌, ◌≤◌}
+-- `merge_edges::edge::pointer_moves` meets its contract: what is done and what is left make up the whole.
 use lib.ListN.{drop}
 use Rattle.merge_append.proofs.AppendLaws.{Underway}
 use Rattle.merge_edges.specs.Edge.{moves_at}
 use Rattle.merge_edges.proofs.edge.pointer_moves.Given as goal
 
 abbrev pub invariant-loop-i : goal.invariant-loop-i
-invariant-loop-i l = (l.i ≤ 16) × Underway (moves_at l.t l.variables 0 l.places) l.at l.initial.out (moves_at l.t l.variables l.i (drop l.i l.places)) l.next l.out
-
-abbrev pub decreases-loop-i : goal.decreases-loop-i
-decreases-loop-i l = 16 - l.i
+invariant-loop-i l =
+    Underway (moves_at l.t l.variables 0 l.place-items) l.at l.initial.out
+    (moves_at l.t l.variables l.i (drop l.i l.place-items)) l.next l.out

@@ -1,13 +1,13 @@
--- `merge_edges::edge::takers_operands` meets its contract: from each turn on, the definition goes on to the same sum. The measure is the places left.
-use Rattle.merge_edges.proofs.EdgeLaws.{takers_operands_laws}
-use borrow.Author.Rules.{rules}
+-- `merge_edges::edge::takers_operands` meets its contract: the chain adds what the definition adds.
+use mathlib.Core.Path.{◌≡◌, ◌∙◌}
+use Rattle.std.specs.List.{fold}
+use Rattle.std.proofs.Common.{rules}
+use Rattle.std.proofs.iter.runs.Made.{chains}
+use Rattle.merge_edges.specs.Edge.{taker_operands}
+use Rattle.merge_edges.proofs.EdgeLaws.{operands_folded}
 use Rattle.merge_edges.proofs.edge.takers_operands.Goals as goal
 
-pub loop-i-init : goal.loop-i-init
-loop-i-init c = search (rules, takers_operands_laws)
-
-pub loop-i-preserved : goal.loop-i-preserved
-loop-i-preserved c = search (rules, takers_operands_laws)
-
 pub returns : goal.returns
-returns c = search (rules, takers_operands_laws)
+returns c =
+    let h : c.fold.result ≡ fold taker_operands 0 c.args.places = search (rules, chains) in
+    h ∙ operands_folded 0 c.args.places

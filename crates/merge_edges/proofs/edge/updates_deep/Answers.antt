@@ -1,16 +1,16 @@
--- `merge_edges::edge::updates_deep` meets its contract: from each turn on, the definition goes on to the same answer. The measure is the places left.
-use Rattle.merge_edges.proofs.EdgeLaws.{updates_deep_laws}
-use borrow.Author.Rules.{rules}
+-- `merge_edges::edge::updates_deep` meets its contract: the chain asks of each place what the definition asks.
+use mathlib.Core.Path.{◌≡◌, ◌∙◌}
+use Rattle.std.specs.List.{list_any}
+use Rattle.std.proofs.Common.{rules, tests}
+use Rattle.std.proofs.lemmas.Iterator.{YieldsList-from_slice}
+use Rattle.std.proofs.lemmas.Iterator.Search.{any_from_yields_List}
+use Rattle.merge_edges.specs.Edge.{update_deep}
+use Rattle.merge_edges.proofs.EdgeLaws.{some_deep}
 use Rattle.merge_edges.proofs.edge.updates_deep.Goals as goal
 
-pub loop-i-init : goal.loop-i-init
-loop-i-init c = search (rules, updates_deep_laws)
-
-pub returns-then-update_deep : goal.returns-then-update_deep
-returns-then-update_deep c = search (rules, updates_deep_laws)
-
-pub loop-i-preserved : goal.loop-i-preserved
-loop-i-preserved c = search (rules, updates_deep_laws)
-
 pub returns : goal.returns
-returns c = search (rules, updates_deep_laws)
+returns c =
+    let h : c.any.result ≡ list_any (update_deep c.args.t.now) c.args.places =
+    any_from_yields_List (update_deep c.args.t.now) _ _ c.any.result c.any.ensures.ran
+    (YieldsList-from_slice c.args.places cc) (λ x b q k. search (rules, tests)) in
+    h ∙ some_deep c.args.t.now c.args.places

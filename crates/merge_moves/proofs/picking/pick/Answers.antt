@@ -5,4 +5,4 @@ use Rattle.merge_moves.proofs.picking.pick.Goals as goal
 
 pub returns : goal.returns
 unfolding pick_at
-returns c = ap (λ (p : Picked). p.edges) c.pick_at.ensures
+returns c = ap (λ (p : Picked). p.edges) c.pick.ensures

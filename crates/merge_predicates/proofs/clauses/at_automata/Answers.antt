@@ -1,4 +1,4 @@
--- `merge_predicates::clauses::at_automata` meets its contract: what is done and what is left make up the whole. The measure is the automata left.
+-- `merge_predicates::clauses::at_automata` meets its contract: what is done and what is left make up the whole.
 use Rattle.merge_predicates.proofs.ClauseLaws.{automata_laws}
 use borrow.Author.Rules.{rules}
 use Rattle.merge_predicates.proofs.clauses.at_automata.Goals as goal

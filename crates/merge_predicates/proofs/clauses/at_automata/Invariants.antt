@@ -1,11 +1,10 @@
--- `merge_predicates::clauses::at_automata` meets its contract: what is done and what is left make up the whole. The measure is the automata left.
-use Prim.Native.Nat.{◌-◌, ◌≤◌}
+-- `merge_predicates::clauses::at_automata` meets its contract: what is done and what is left make up the whole.
+use Prim.Native.Nat.{◌-◌}
 use Rattle.merge_append.proofs.AppendLaws.{Underway}
 use Rattle.merge_predicates.specs.Clauses.{function_clauses}
 use Rattle.merge_predicates.proofs.clauses.at_automata.Given as goal
 
 abbrev pub invariant-loop-i : goal.invariant-loop-i
-invariant-loop-i l = (l.count ≤ 16) × (l.i ≤ l.count) × Underway (function_clauses l.t l.domains l.places l.variables 0 l.count 0) l.at l.initial.out (function_clauses l.t l.domains l.places l.variables l.i (l.count - l.i) l.first) l.next l.out
-
-abbrev pub decreases-loop-i : goal.decreases-loop-i
-decreases-loop-i l = l.count - l.i
+invariant-loop-i l =
+    Underway (function_clauses l.t l.f.domains l.f.places l.x.variables 0 l.count 0) l.at l.initial.out
+    (function_clauses l.t l.f.domains l.f.places l.x.variables l.i (l.count - l.i) l.first) l.next l.out

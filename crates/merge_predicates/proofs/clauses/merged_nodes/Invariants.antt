@@ -1,11 +1,10 @@
--- `merge_predicates::clauses::merged_nodes` meets its contract: from each turn on, the definition goes on to the same sum. The measure is the values left.
+-- `merge_predicates::clauses::merged_nodes` meets its contract: from each turn on, the definition goes on to the same
+-- sum.
 use mathlib.Core.Path.{◌≡◌}
-use Prim.Native.Nat.{◌-◌, ◌≤◌}
+use Prim.Native.Nat.{◌-◌}
 use Rattle.merge_predicates.specs.Clauses.{value_nodes}
 use Rattle.merge_predicates.proofs.clauses.merged_nodes.Given as goal
 
 abbrev pub invariant-loop-i : goal.invariant-loop-i
-invariant-loop-i l = (l.i ≤ l.count) × (value_nodes l.t l.places l.i (l.count - l.i) l.sum ≡ value_nodes l.t l.places 0 l.count 1)
-
-abbrev pub decreases-loop-i : goal.decreases-loop-i
-decreases-loop-i l = l.count - l.i
+invariant-loop-i l =
+    value_nodes l.t l.places l.i (l.count - l.i) l.sum ≡ value_nodes l.t l.places 0 l.count 1

@@ -5,18 +5,3 @@ use Rattle.merge_predicates.proofs.depth.operands_of.Goals as goal
 
 pub returns-in-All : goal.returns-in-All
 returns-in-All c = search (rules, arity_laws)
-
-pub returns-in-Any : goal.returns-in-Any
-returns-in-Any c = search (rules, arity_laws)
-
-pub returns-in-Not : goal.returns-in-Not
-returns-in-Not c = search (rules, arity_laws)
-
-pub returns-in-Imp : goal.returns-in-Imp
-returns-in-Imp c = search (rules, arity_laws)
-
-pub returns-in-If : goal.returns-in-If
-returns-in-If c = search (rules, arity_laws)
-
-pub returns-in_default : goal.returns-in_default
-returns-in_default c = search (rules, arity_laws)

@@ -1,10 +1,7 @@
--- `merge_predicates::functions::functions_of` meets its contract: what is gathered and what is left make up the whole. The measure is the automata left.
+-- `merge_predicates::functions::functions_of` meets its contract: what is gathered and what is left make up the whole.
 use Rattle.merge_predicates.proofs.FunctionLaws.{gathering_laws}
 use borrow.Author.Rules.{rules}
 use Rattle.merge_predicates.proofs.functions.functions_of.Goals as goal
-
-pub loop-i-init : goal.loop-i-init
-loop-i-init c = search (rules, gathering_laws)
 
 pub loop-i-preserved : goal.loop-i-preserved
 loop-i-preserved c = search (rules, gathering_laws)

@@ -1,10 +1,7 @@
--- `merge_takers::taking::takers_of` meets its contract: the places so far, and those to come. The measure is the automata left.
+-- `merge_takers::taking::takers_of` meets its contract: the places so far, and those to come.
 use Rattle.merge_takers.proofs.TakingLaws.{taking_laws}
 use borrow.Author.Rules.{rules}
 use Rattle.merge_takers.proofs.taking.takers_of.Goals as goal
-
-pub loop-i-init : goal.loop-i-init
-loop-i-init c = search (rules, taking_laws)
 
 pub loop-i-preserved : goal.loop-i-preserved
 loop-i-preserved c = search (rules, taking_laws)

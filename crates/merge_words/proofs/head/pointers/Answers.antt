@@ -1,13 +1,15 @@
--- `merge_words::head::pointers` meets its contract: what is done and what is left make up the whole. The measure is the automata left.
+-- What is done and what is left make up the whole.
 use Rattle.merge_words.proofs.HeadLaws.{pointers_laws}
+use Rattle.merge_words.specs.Head.{pointers_from}
 use borrow.Author.Rules.{rules}
 use Rattle.merge_words.proofs.head.pointers.Goals as goal
 
-pub loop-i-init : goal.loop-i-init
-loop-i-init c = search (rules, pointers_laws)
+pub loop-place-init : goal.loop-place-init
+loop-place-init c = search (rules, pointers_laws)
 
-pub loop-i-preserved : goal.loop-i-preserved
-loop-i-preserved c = search (rules, pointers_laws)
+pub loop-place-preserved : goal.loop-place-preserved
+loop-place-preserved c = search (rules, pointers_laws)
 
 pub returns : goal.returns
+unfolding pointers_from
 returns c = search (rules, pointers_laws)

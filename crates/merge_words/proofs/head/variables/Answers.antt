@@ -1,4 +1,4 @@
--- `merge_words::head::variables` meets its contract: what is done and what is left make up the whole. The measure is the variables left.
+-- What is done and what is left make up the whole.
 use Rattle.merge_words.proofs.HeadLaws.{variables_laws}
 use borrow.Author.Rules.{rules}
 use Rattle.merge_words.proofs.head.variables.Goals as goal

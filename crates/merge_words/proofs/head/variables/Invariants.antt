@@ -1,11 +1,9 @@
--- `merge_words::head::variables` meets its contract: what is done and what is left make up the whole. The measure is the variables left.
+-- What is done and what is left make up the whole.
+use Prim.Native.Nat.{◌-◌}
 use Rattle.merge_append.proofs.AppendLaws.{Underway}
 use Rattle.merge_words.specs.Head.{variables_from}
-use Prim.Native.Nat.{◌-◌, ◌≤◌}
 use Rattle.merge_words.proofs.head.variables.Given as goal
 
 abbrev pub invariant-loop-k : goal.invariant-loop-k
-invariant-loop-k l = (l.k ≤ l.count) × Underway (variables_from l.t 0 l.count) l.at l.initial.out (variables_from l.t l.k (l.count - l.k)) l.next l.out
-
-abbrev pub decreases-loop-k : goal.decreases-loop-k
-decreases-loop-k l = l.count - l.k
+invariant-loop-k l =
+    Underway (variables_from l.t 0 l.count) l.at l.initial.out (variables_from l.t l.k (l.count - l.k)) l.next l.out

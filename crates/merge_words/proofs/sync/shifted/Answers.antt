@@ -1,10 +1,7 @@
--- `merge_words::sync::shifted` meets its contract: each way out is a law of SyncLaws.
-use Rattle.merge_words.proofs.SyncLaws.{shifted_laws}
+-- `merge_words::sync::shifted` meets its contract.
+use Rattle.merge_words.proofs.SyncLaws.{shifted_is}
 use borrow.Author.Rules.{rules}
 use Rattle.merge_words.proofs.sync.shifted.Goals as goal
 
-pub returns-then-b : goal.returns-then-b
-returns-then-b c = search (rules, shifted_laws)
-
-pub returns-else-b : goal.returns-else-b
-returns-else-b c = search (rules, shifted_laws)
+pub returns : goal.returns
+returns c = search (rules, shifted_is)

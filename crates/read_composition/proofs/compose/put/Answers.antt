@@ -23,6 +23,3 @@ returns-in-Ini c = search (rules, put_laws)
 
 pub returns-in-Leaf : goal.returns-in-Leaf
 returns-in-Leaf c = search (rules, put_laws)
-
-pub returns-in-Stray : goal.returns-in-Stray
-returns-in-Stray c = search (rules, put_laws)

@@ -1,39 +1,33 @@
--- `read_composition::lists::lists_sound` meets its contract: the definition goes on from the place `at`, after a `syn` or not.
--- The measure is what is left of the text.
-use Rattle.read_composition.proofs.ListsLaws.{lists_laws}
-use Rattle.text_bytes.proofs.Parting.{turn_laws}
-use borrow.Author.Rules.{rules}
+use Rattle.std.proofs.Common.{length, eqb, rules, tests}
+use Rattle.std.proofs.lemmas.List.{length_push}
+use Rattle.std.proofs.lemmas.Iterator.Consumers.{YieldsList-at, YieldsList-turn, YieldsList-end}
+use Rattle.std.proofs.lemmas.Iterator.Splits.{YieldsList-from_slice_split}
+use Rattle.text_bytes.proofs.Splits.{parts_turn, parts_over}
+use Rattle.read_composition.proofs.ListsLaws.{lists_laws, lists_start, lists_end, lists_go}
 use Rattle.read_composition.proofs.lists.lists_sound.Goals as goal
 
-pub loop-at-init : goal.loop-at-init
-loop-at-init c = search (rules, lists_laws)
-
-pub slice_bounds-list_kept-count : goal.slice_bounds-list_kept-count
-slice_bounds-list_kept-count c = search (rules, turn_laws)
-
-pub slice_bounds-list_kept-start : goal.slice_bounds-list_kept-start
-slice_bounds-list_kept-start c = search (rules, turn_laws)
-
-pub slice_bounds-list_kept-end : goal.slice_bounds-list_kept-end
-slice_bounds-list_kept-end c = search (rules, turn_laws)
+pub loop-token-init : goal.loop-token-init
+loop-token-init c = lists_start c.args.part.now c.args.actions
 
 pub returns-then-not-list_kept : goal.returns-then-not-list_kept
-returns-then-not-list_kept c = search (rules, lists_laws)
+returns-then-not-list_kept c =
+    let turn = YieldsList-turn
+    (YieldsList-at c.into_iter-token-iterator.ensures.into_iter_gives (YieldsList-from_slice_split _ (λ b. eqb b 32) c.args.part.now c.split-token-items.ensures.rest c.split-token-items.ensures.done c.split-token-items.ensures.closure (λ x r q k. search (rules, tests))))
+    c.loop-token.yielded _ c.loop-token.yielded_by _ _ c.in-Some.token c.in-Some.is c.next.ensures.steps in
+    let more = parts_turn 32 c.args.part.now (length c.loop-token.yielded) c.in-Some.token.now turn in
+    search (rules, lists_laws)
 
-pub slice_bounds-says_syn-count : goal.slice_bounds-says_syn-count
-slice_bounds-says_syn-count c = search (rules, turn_laws)
-
-pub slice_bounds-says_syn-start : goal.slice_bounds-says_syn-start
-slice_bounds-says_syn-start c = search (rules, turn_laws)
-
-pub slice_bounds-says_syn-end : goal.slice_bounds-says_syn-end
-slice_bounds-says_syn-end c = search (rules, turn_laws)
-
-pub loop-at-smaller : goal.loop-at-smaller
-loop-at-smaller c = search (rules, turn_laws)
-
-pub loop-at-preserved : goal.loop-at-preserved
-loop-at-preserved c = search (rules, lists_laws)
+pub loop-token-preserved : goal.loop-token-preserved
+loop-token-preserved c =
+    let turn = YieldsList-turn
+    (YieldsList-at c.into_iter-token-iterator.ensures.into_iter_gives (YieldsList-from_slice_split _ (λ b. eqb b 32) c.args.part.now c.split-token-items.ensures.rest c.split-token-items.ensures.done c.split-token-items.ensures.closure (λ x r q k. search (rules, tests))))
+    c.loop-token.yielded _ c.loop-token.yielded_by _ _ c.in-Some.token c.in-Some.is c.next.ensures.steps in
+    let more = parts_turn 32 c.args.part.now (length c.loop-token.yielded) c.in-Some.token.now turn in
+    lists_go _ _ _ _ c.loop-token.invariant _ more _ c.list_kept.ensures c.if-not-list_kept.false _ c.says_syn-due.ensures _ (length_push c.loop-token.yielded c.in-Some.token)
 
 pub returns : goal.returns
-returns c = search (rules, lists_laws)
+returns c =
+    let over = YieldsList-end
+    (YieldsList-at c.into_iter-token-iterator.ensures.into_iter_gives (YieldsList-from_slice_split _ (λ b. eqb b 32) c.args.part.now c.split-token-items.ensures.rest c.split-token-items.ensures.done c.split-token-items.ensures.closure (λ x r q k. search (rules, tests))))
+    c.loop-token.yielded _ c.loop-token.yielded_by _ _ c.in-None.is c.next.ensures.steps in
+    lists_end _ _ _ _ c.loop-token.invariant (parts_over 32 c.args.part.now (length c.loop-token.yielded) over.1)

@@ -1,11 +1,7 @@
--- The first `ini` from the first place on is that from `at` on. The measure is what is left.
-use Prim.Native.Nat.{◌+◌, ◌-◌}
-use lib.ListN.{length}
+-- The first `ini` from the first place on is that from `at` on, and the tokens that are left reach to the end.
+use Rattle.std.proofs.Common.{length}
 use Rattle.read_extent.proofs.PlacesLaws.{Seeks}
 use Rattle.read_extent.proofs.places.next.Given as goal
 
-abbrev pub invariant-loop-at : goal.invariant-loop-at
-invariant-loop-at l = Seeks l.part l.from l.at
-
-abbrev pub decreases-loop-at : goal.decreases-loop-at
-decreases-loop-at l = length l.part + 1 - l.at
+abbrev pub invariant-loop-token : goal.invariant-loop-token
+invariant-loop-token l = Seeks l.part l.from (length l.yielded) l.at

@@ -1,16 +1,20 @@
 -- `one_number` meets its contract.
-use Rattle.read_numbers.proofs.NumberLaws.{number_laws}
 use borrow.Author.Rules.{rules}
+use Rattle.std.proofs.lemmas.Result.{err_from_is_err_and}
+use Rattle.read_numbers.proofs.NumberLaws.{number_laws, number_out, number_is}
 use Rattle.read_numbers.proofs.number.one_number.Goals as goal
 
 pub returns-then-misformed : goal.returns-then-misformed
 returns-then-misformed c = search (rules, number_laws)
 
-pub returns-then-k-low : goal.returns-then-k-low
-returns-then-k-low c = search (rules, number_laws)
+pub returns-in_err-n : goal.returns-in_err-n
+returns-in_err-n c =
+    let p = err_from_is_err_and c.from_residual.result c.from_residual.ensures.1 in
+    rw (p.1, p.2) (number_out _ _ _ _ _ _ c.misformed.ensures c.if-misformed.false _ c.value.ensures _ c.natural.ensures _ c.in_err-n.ensures.value)
 
-pub returns-else-k-low : goal.returns-else-k-low
-returns-else-k-low c = search (rules, number_laws)
+pub returns-then-n-low : goal.returns-then-n-low
+returns-then-n-low c = search (rules, number_laws)
 
-pub returns-in-Out : goal.returns-in-Out
-returns-in-Out c = search (rules, number_laws)
+pub returns : goal.returns
+returns c =
+    number_is _ _ _ _ _ _ c.misformed.ensures c.if-misformed.false _ c.value.ensures _ c.natural.ensures _ c.in_ok-n.ensures.value c.if-n-low.false

@@ -7,6 +7,3 @@ use Rattle.read_predicate.proofs.formed.well_formed.Given as goal
 
 abbrev pub invariant-loop-i : goal.invariant-loop-i
 invariant-loop-i l = (l.n ≤ length l.initial.sorts) × (l.n ≤ length l.words) × Sorted l.words l.n l.sorts l.height l.i × Scratch l.initial.sorts l.sorts
-
-abbrev pub decreases-loop-i : goal.decreases-loop-i
-decreases-loop-i l = l.i

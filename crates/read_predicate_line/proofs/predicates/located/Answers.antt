@@ -1,16 +1,22 @@
 -- `located` meets its contract: each way out is a law of PredicateLaws.
-use Rattle.read_predicate_line.proofs.PredicateLaws.{located_laws, scratch_laws}
 use borrow.Author.Rules.{rules}
+use Rattle.std.proofs.lemmas.Result.{err_from_is_err_and}
+use Rattle.read_predicate_line.proofs.PredicateLaws.{located_laws, located_row, located_row_kept}
 use Rattle.read_predicate_line.proofs.predicates.located.Goals as goal
 
-pub append_nodes-requires : goal.append_nodes-requires
-append_nodes-requires c = search (rules, located_laws)
+pub returns-in_err-n-clause-value : goal.returns-in_err-n-clause-value
+returns-in_err-n-clause-value c =
+    let p = err_from_is_err_and c.from_residual.result c.from_residual.ensures.1 in
+    rw (p.1, p.2) (located_row _ _ _ _ _ _ _ c.in_err-n.ensures.value)
 
-pub returns-in-Are : goal.returns-in-Are
-returns-in-Are c = record { value = search (rules, located_laws); words_after = search (rules, located_laws); scratch = search (rules, scratch_laws) }
+pub returns-in_err-n-clause-words_after : goal.returns-in_err-n-clause-words_after
+returns-in_err-n-clause-words_after c = located_row_kept _ _ _ _ _ _ _ c.in_err-n.ensures.value
 
-pub returns-in-Unsound : goal.returns-in-Unsound
-returns-in-Unsound c = record { value = search (rules, located_laws); words_after = search (rules, located_laws); scratch = search (rules, scratch_laws) }
+pub append_nodes-next-requires : goal.append_nodes-next-requires
+append_nodes-next-requires c = search (rules, located_laws, c.in_ok-n.ensures.value)
 
-pub returns-in-Full : goal.returns-in-Full
-returns-in-Full c = record { value = search (rules, located_laws); words_after = search (rules, located_laws); scratch = search (rules, scratch_laws) }
+pub returns-clause-value : goal.returns-clause-value
+returns-clause-value c = search (rules, located_laws, c.in_ok-n.ensures.value)
+
+pub returns-clause-words_after : goal.returns-clause-words_after
+returns-clause-words_after c = search (rules, located_laws, c.in_ok-n.ensures.value)

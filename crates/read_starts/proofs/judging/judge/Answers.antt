@@ -3,17 +3,14 @@ use Rattle.read_starts.proofs.JudgingLaws.{judge_laws}
 use borrow.Author.Rules.{rules}
 use Rattle.read_starts.proofs.judging.judge.Goals as goal
 
-pub loop-from-init : goal.loop-from-init
-loop-from-init c = search (rules, judge_laws)
+pub loop-at-init : goal.loop-at-init
+loop-at-init c = search (rules, judge_laws)
 
-pub returns-in_default : goal.returns-in_default
-returns-in_default c = search (rules, judge_laws)
+pub loop-at-smaller : goal.loop-at-smaller
+loop-at-smaller c = search (rules, judge_laws)
 
-pub loop-from-smaller : goal.loop-from-smaller
-loop-from-smaller c = search (rules, judge_laws)
-
-pub loop-from-preserved : goal.loop-from-preserved
-loop-from-preserved c = search (rules, judge_laws)
+pub loop-at-preserved : goal.loop-at-preserved
+loop-at-preserved c = search (rules, judge_laws)
 
 pub returns : goal.returns
 returns c = search (rules, judge_laws)

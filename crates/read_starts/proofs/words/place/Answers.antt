@@ -1,10 +1,7 @@
--- src/words.rt:13:1
-use Rattle.read_starts.proofs.WordsLaws.{place_laws}
-use borrow.Author.Rules.{rules}
+use Rattle.std.proofs.Common.{arith}
+use Rattle.std.proofs.lemmas.Grind.{common_steps}
+use Rattle.read_starts.proofs.WordsLaws.{place_by}
 use Rattle.read_starts.proofs.words.place.Goals as goal
 
-pub returns-then-at-gt-WORDS : goal.returns-then-at-gt-WORDS
-returns-then-at-gt-WORDS c = search (rules, place_laws)
-
-pub returns-else-at-gt-WORDS : goal.returns-else-at-gt-WORDS
-returns-else-at-gt-WORDS c = search (rules, place_laws)
+pub returns : goal.returns
+returns c = place_by c.args.at c.min.result (λ h. grind (arith, common_steps)) (λ h. grind (arith, common_steps))

@@ -1,29 +1,15 @@
--- The items from `at` on are still to be judged. The measure is what is left of the bytes.
-use Rattle.text_bytes.proofs.Parting.{turn_laws}
-use Rattle.read_tokens.proofs.NumbersLaws.{list_laws}
-use borrow.Author.Rules.{rules}
+use Rattle.std.proofs.Common.{rules, tests, ◌∙◌, pos}
+use Rattle.std.proofs.lemmas.Iterator.Search.{all_from_yields_List}
+use Rattle.std.proofs.lemmas.Iterator.Splits.{YieldsList-from_slice_split}
+use Rattle.model.specs.Bounds.{max_actions}
+use Rattle.format.specs.Number.{within}
+use Rattle.format.specs.Bytes.{comma}
+use Rattle.read_tokens.proofs.NumbersLaws.{every_part}
 use Rattle.read_tokens.proofs.numbers.list_sound.Goals as goal
 
-pub loop-at-init : goal.loop-at-init
-loop-at-init c = search (rules, list_laws)
-
-pub slice_bounds-natural_fits-count : goal.slice_bounds-natural_fits-count
-slice_bounds-natural_fits-count c = search (rules, turn_laws)
-
-pub slice_bounds-natural_fits-start : goal.slice_bounds-natural_fits-start
-slice_bounds-natural_fits-start c = search (rules, turn_laws)
-
-pub slice_bounds-natural_fits-end : goal.slice_bounds-natural_fits-end
-slice_bounds-natural_fits-end c = search (rules, turn_laws)
-
-pub returns-then-not-natural_fits : goal.returns-then-not-natural_fits
-returns-then-not-natural_fits c = search (rules, list_laws)
-
-pub loop-at-smaller : goal.loop-at-smaller
-loop-at-smaller c = search (rules, turn_laws)
-
-pub loop-at-preserved : goal.loop-at-preserved
-loop-at-preserved c = search (rules, list_laws)
-
 pub returns : goal.returns
-returns c = search (rules, list_laws)
+returns c =
+    all_from_yields_List (within (pos 0) (pos max_actions)) _ _ _ c.all.ensures.ran
+    (YieldsList-from_slice_split _ _ c.args.part.now c.split.ensures.rest c.split.ensures.done c.split.ensures.closure (λ x r q k. search (rules, tests)))
+    (λ x b q k. search (rules, tests))
+    ∙ every_part (within (pos 0) (pos max_actions)) comma c.args.part.now

@@ -3,8 +3,8 @@ use Rattle.reader.proofs.SheetLaws.{list_laws}
 use borrow.Author.Rules.{rules}
 use Rattle.reader.proofs.sheet.list.Goals as goal
 
-pub returns-in-Fault : goal.returns-in-Fault
-returns-in-Fault c = search (rules, list_laws)
+pub returns-in-Err : goal.returns-in-Err
+returns-in-Err c = search (rules, list_laws)
 
 pub returns-then-writes_others : goal.returns-then-writes_others
 returns-then-writes_others c = search (rules, list_laws)

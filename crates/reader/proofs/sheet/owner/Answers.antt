@@ -3,8 +3,8 @@ use Rattle.reader.proofs.SheetLaws.{owner_laws}
 use borrow.Author.Rules.{rules}
 use Rattle.reader.proofs.sheet.owner.Goals as goal
 
-pub returns-in-Fault : goal.returns-in-Fault
-returns-in-Fault c = search (rules, owner_laws)
+pub returns-in-Err : goal.returns-in-Err
+returns-in-Err c = search (rules, owner_laws)
 
-pub returns-in-Sound : goal.returns-in-Sound
-returns-in-Sound c = search (rules, owner_laws)
+pub returns-in-Ok : goal.returns-in-Ok
+returns-in-Ok c = search (rules, owner_laws)

@@ -1,16 +1,9 @@
--- `table_line::one_line::edge` meets its contract: each way out is a law of CodeLaws.
-use Rattle.table_line.proofs.CodeLaws.{edge_laws}
+-- `table_line::one_line::edge` meets its contract: the last of its ways out where it has no line.
 use borrow.Author.Rules.{rules}
+use Rattle.table_line.proofs.CodeLaws.{edge_foreign}
 use Rattle.table_line.proofs.one_line.edge.Goals as goal
 
-pub returns-then-t-at : goal.returns-then-t-at
-returns-then-t-at c = search (rules, edge_laws)
-
-pub returns-then-t-at-le2 : goal.returns-then-t-at-le2
-returns-then-t-at-le2 c = search (rules, edge_laws)
-
-pub returns-then-not-ends_sound : goal.returns-then-not-ends_sound
-returns-then-not-ends_sound c = search (rules, edge_laws)
-
-pub returns : goal.returns
-returns c = search (rules, edge_laws)
+pub returns-then-not-owns : goal.returns-then-not-owns
+returns-then-not-owns c =
+    let was = c.in_ok-line.was in
+    search (rules, edge_foreign)

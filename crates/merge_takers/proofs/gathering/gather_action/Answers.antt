@@ -1,7 +1,0 @@
--- `merge_takers::gathering::gather_action` meets its contract.
-use Rattle.merge_takers.proofs.GatheringLaws.{action_is}
-use borrow.Author.Rules.{rules}
-use Rattle.merge_takers.proofs.gathering.gather_action.Goals as goal
-
-pub returns : goal.returns
-returns c = search (rules, action_is)

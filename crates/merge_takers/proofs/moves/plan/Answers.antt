@@ -1,7 +1,0 @@
--- `merge_takers::moves::plan` meets its contract.
-use Rattle.merge_takers.proofs.MovesLaws.{plan_is}
-use borrow.Author.Rules.{rules}
-use Rattle.merge_takers.proofs.moves.plan.Goals as goal
-
-pub returns : goal.returns
-returns c = search (rules, plan_is)

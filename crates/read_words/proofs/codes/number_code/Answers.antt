@@ -1,9 +1,0 @@
-use Rattle.read_words.proofs.CodeLaws.{number_laws}
-use borrow.Author.Rules.{rules}
-use Rattle.read_words.proofs.codes.number_code.Goals as goal
-
-pub returns-in-In : goal.returns-in-In
-returns-in-In c = search (rules, number_laws)
-
-pub returns-in-Out : goal.returns-in-Out
-returns-in-Out c = search (rules, number_laws)

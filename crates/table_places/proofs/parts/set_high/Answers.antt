@@ -1,7 +1,0 @@
--- `table_places::parts::set_high` meets its contract: a law of CodeLaws.
-use Rattle.table_places.proofs.CodeLaws.{part_laws}
-use borrow.Author.Rules.{rules}
-use Rattle.table_places.proofs.parts.set_high.Goals as goal
-
-pub returns : goal.returns
-returns c = search (rules, part_laws)

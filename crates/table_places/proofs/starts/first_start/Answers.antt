@@ -1,7 +1,0 @@
--- `table_places::starts::first_start` meets its contract: a law of StartLaws.
-use Rattle.table_places.proofs.StartLaws.{starts_laws}
-use borrow.Author.Rules.{rules}
-use Rattle.table_places.proofs.starts.first_start.Goals as goal
-
-pub returns : goal.returns
-returns c = search (rules, starts_laws)
