@@ -156,7 +156,7 @@ def functions_of(text):
     """The functions of a source file, those of an impl by TYPE::NAME: all of them, and the public ones."""
     every, public, owner = [], [], ''
     for line in text.splitlines():
-        begun = re.match(r'impl (\w+)', line)
+        begun = re.match(r"impl(?:<[^>]*>)? (\w+)", line)
         owner = begun.group(1) + '::' if begun else '' if line.startswith('}') else owner
         head = re.match(r' *(pub )?(?:extern "C" )?fn (\w+)', line)
         if head:

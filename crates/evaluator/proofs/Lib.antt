@@ -1,3 +1,4 @@
+pub mod ReadBack
 pub mod Items
 pub mod Steps
 pub mod NodeLaws

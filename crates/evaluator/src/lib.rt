@@ -50,6 +50,7 @@ impl<'a> Step<'a> {
     // `count` predicates, one after the other, from `at` on. All are read, also when the answer is known, to find the
     // end. Where no node is left, no further predicate can stand there, so not all hold.
     #[cycle(step)]
+    #[tactic(auto, using(crate::proofs::NodeLaws::gather_stops))]
     fn operands(&self, at: usize, count: usize, left: usize) -> Gathered
         ensures { result ≡ gather (predicate_at self.now.words.now self.now.before.now self.now.after.now)
             count left at true false }
@@ -145,6 +146,7 @@ impl<'a> Step<'a> {
 }
 
 // Whether the predicate whose node words stand from `at` on holds, between the values before and after a step.
+#[tactic(auto, unfolding(crate::specs::Evaluate::evaluate))]
 pub fn holds(words: &[u32], at: usize, before: &[i32], after: &[i32]) -> bool
     ensures { result ≡ evaluate words.now before.now after.now at }
 {

@@ -1,5 +1,7 @@
 // What one node says, from what its operands say. Each answer has the place after the node's words (`next`), and how
 // many nodes are left there (`left`).
+#![tactic(auto, using(crate::proofs::ReadBack::read_back))]
+
 ghost use Rattle.std.specs.Prelude.{◌≡◌, false, not, cond, ◌||◌, pos, ◌+ℤ◌, ◌-ℤ◌, ◌*ℤ◌, get_or};
 ghost use Rattle.std.specs.Int.Signed.{le_z};
 ghost use Rattle.model.specs.Basic.{eq_z};
@@ -8,7 +10,7 @@ ghost use Rattle.arithmetic.specs.Cut.{cut};
 ghost use Rattle.evaluator.specs.Evaluate.{truth, valued};
 
 // What a predicate says.
-#[derive(Clone, Copy)]
+#[derive(Clone, Copy, Debug, PartialEq, Eq)]
 pub struct Truth {
     pub holds: bool,
     pub next: usize,
@@ -16,7 +18,7 @@ pub struct Truth {
 }
 
 // An expression's number.
-#[derive(Clone, Copy)]
+#[derive(Clone, Copy, Debug, PartialEq, Eq)]
 pub struct Value {
     pub number: i64,
     pub next: usize,
@@ -24,7 +26,7 @@ pub struct Value {
 }
 
 // What a row of operands says: whether all hold, whether any does.
-#[derive(Clone, Copy)]
+#[derive(Clone, Copy, Debug, PartialEq, Eq)]
 pub struct Gathered {
     pub all: bool,
     pub any: bool,
@@ -33,7 +35,7 @@ pub struct Gathered {
 }
 
 // The numbers of two expressions in a row.
-#[derive(Clone, Copy)]
+#[derive(Clone, Copy, Debug, PartialEq, Eq)]
 pub struct Pair {
     pub first: i64,
     pub second: i64,

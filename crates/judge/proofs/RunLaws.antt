@@ -191,11 +191,11 @@ module _ (t : List ℕ) (m : Model) (e : open_table t ≡ opened m) where
         go true f =
             ap answer_of (to_environment f ∙ ap (environment_from t x (held u) v') (stays f) ∙
             environment_from_on t x u.locations u.values shaped.known phase (phase_for u.phase) (read_back u.phase) v') ∙
-            environment_good t phase u.locations u.values v' (Ok tt) good refl x refl _ refl ∙ sym (asked_environment f)
+            environment_good t phase u.locations u.values v' (Ok tt) good refl t x refl refl _ refl ∙ sym (asked_environment f)
         go false f =
             ap answer_of (to_step f ∙ ap (step_from t x own (held u) a l' v') (moves f) ∙
             step_from_on t x u.locations u.values shaped.known phase (phase_for u.phase) (read_back u.phase) own a l' v') ∙
-            step_good t phase u.locations u.values a l' v' (Ok tt) good refl x own refl refl _ refl ∙ sym (asked_step f)
+            step_good t phase u.locations u.values a l' v' (Ok tt) good refl t x own refl refl refl _ refl ∙ sym (asked_step f)
 
     turn_state : (turn_on t x own (held u) a l' v').state ≡ held (goes asked u (proposed u (proposal_of a l' v')))
     unfolding turn_on

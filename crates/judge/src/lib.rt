@@ -15,7 +15,7 @@ use model::Row;
 // Puts a list of proposals to the judges, over one check of the table and one walk over it. For each: its action, or
 // 4294967295 for the environment judge; its locations, which that judge does not read; its values. A yes moves the run
 // to the proposed state. The answers' numbers go into `answers`, the locations and values at the end into the other
-// two, and what follows them is as it was.
+// two, and what follows them is as it was. The lists are parameters of their own: the C interface hands them so.
 pub fn run(
     table: &[u32],
     phase: u32,
@@ -68,6 +68,7 @@ pub struct TableSize {
 }
 
 // Those of the table, or the row that refuses it.
+#[tactic(auto, using(crate::proofs::SizeLaws::size_laws))]
 pub fn size(table: &[u32]) -> Result<TableSize, Row>
     ensures { result ≡ size_of (open_table table.now) }
 {

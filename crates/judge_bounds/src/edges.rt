@@ -11,7 +11,7 @@ const TAKERS: usize = 6;
 const EDGES: usize = 48;
 
 // The set of the automata that take an action, and all edges: automaton k's are `masks[first[k] .. first[k + 1]]`.
-#[derive(Clone, Copy)]
+#[derive(Clone, Copy, Debug, PartialEq, Eq)]
 pub(crate) struct Takers<'a> {
     pub(crate) masks: &'a [u64],
     pub(crate) first: &'a [usize],

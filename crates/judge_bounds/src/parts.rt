@@ -115,6 +115,7 @@ fn fit_of(t: &Takers<'_>, k: usize, part: u64, out: u64, least: usize) -> Option
 
 // How many variables of the part an edge covers at most, and no less than 1; none where one mentions variables of the
 // part and others outside.
+#[tactic(auto, using(crate::proofs::PartLaws::spreading_laws))]
 fn most(t: &Takers<'_>, part: u64, out: u64) -> Option<usize>
     ensures takers_fit { IfSome result (TakersFit t.now.masks.now t.now.first.now t.now.set part out) }
     ensures lower_bound { IfSome result (λ m. 0 < m) }
@@ -128,6 +129,7 @@ fn most(t: &Takers<'_>, part: u64, out: u64) -> Option<usize>
 }
 
 // How many edges a part needs, if none covers more than m of it.
+#[tactic(auto, using(crate::proofs::PartLaws::pieces_is, crate::proofs::PartLaws::pieces_few))]
 fn pieces(part: u64, m: usize) -> usize
     requires { (0 < m) × (m ≤ 64) }
     ensures value { result ≡ pieces m part }
@@ -144,6 +146,7 @@ fn sound(rest: u64, part: u64, out: u64) -> bool
 }
 
 // How many edges are needed to cover u, by its parts. It stops where there are more than any takers have.
+#[tactic(auto, using(crate::proofs::PartLaws::needing_laws))]
 fn needed(t: &Takers<'_>, u: u64) -> usize
     ensures { AtLeast t.now.masks.now t.now.first.now t.now.set u result }
 {
@@ -163,6 +166,7 @@ fn needed(t: &Takers<'_>, u: u64) -> usize
 }
 
 // Do the parts need more edges than there are takers?
+#[tactic(auto, using(crate::proofs::PartLaws::short_is))]
 pub(crate) fn short(t: &Takers<'_>, u: u64) -> bool
     ensures { result ≡ true → coverable (groups_of t.now.masks.now t.now.first.now t.now.set) u ≡ false }
 {

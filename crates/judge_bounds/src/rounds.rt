@@ -13,14 +13,14 @@ use judge_cover::{mask_at, place};
 const ROUNDS: usize = 256;
 
 // The most that an edge covers, as a weight, and what that edge leaves.
-#[derive(Clone, Copy)]
+#[derive(Clone, Copy, Debug, PartialEq, Eq)]
 pub struct Choice {
     pub took: usize,
     pub rest: u64,
 }
 
 // What the best edges cover together, what there was, and what none of them mentions.
-#[derive(Clone, Copy)]
+#[derive(Clone, Copy, Debug, PartialEq, Eq)]
 pub struct Tally {
     pub total: usize,
     pub all: usize,
@@ -70,6 +70,7 @@ fn best_of(t: &Takers<'_>, k: usize, u: u64, weights: &[u16; 64]) -> Choice
 }
 
 // One round over all takers. `next` loses a step where a best edge mentions the variable.
+#[tactic(auto, using(crate::proofs::RoundLaws::summing_laws))]
 fn round(t: &Takers<'_>, u: u64, weights: &[u16; 64], next: &mut [u16; 64], step: u16) -> Tally
     ensures next_len_2 { length next.new ≡ 64 }
     ensures u_value { result.total < result.all

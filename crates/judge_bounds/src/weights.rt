@@ -3,6 +3,7 @@ ghost use Rattle.std.specs.Prelude.{◌≡◌, ◌≤◌, ◌<◌, length};
 ghost use Rattle.judge_bounds.specs.Bounds.{weight, Lowest};
 
 // The first variable of a set.
+#[tactic(auto, using(crate::proofs::WeightLaws::lowest_is))]
 fn lowest(set: u64) -> usize
     requires { 0 < set }
     ensures { Lowest set result }

@@ -128,10 +128,10 @@ module _ (t : List ℕ) (phase : ℕ) (l : List ℕ) (v v' : List ℤ) where
         let out : Err row ≡ environment_at t phase l v v' = rw (sym e ∙ f) in
         ap answer_of out ∙ environment_exact
 
-    pub environment_good : x ≡ Ok tt → (y : Layout) → y ≡ layout_of t → (r : Result Answer Row) → r ≡ environment_on t y phase l v v' → answer_of r ≡ J.environment_answer t phase l v v'
+    pub environment_good : x ≡ Ok tt → (w : List ℕ) (y : Layout) → w ≡ t → y ≡ layout_of t → (r : Result Answer Row) → r ≡ environment_on w y phase l v v' → answer_of r ≡ J.environment_answer t phase l v v'
     unfolding environment_at then_answer
-    environment_good f y h r g =
-        let out : r ≡ environment_at t phase l v v' = rw (sym e ∙ f) (rw h at g) in
+    environment_good f w y same h r g =
+        let out : r ≡ environment_at t phase l v v' = rw (sym e ∙ f) (rw (same, h) at g) in
         ap answer_of out ∙ environment_exact
 
 pub ruleset environment_laws = (environment_bad, environment_good)

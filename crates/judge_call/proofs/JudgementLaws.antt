@@ -118,17 +118,23 @@ module _ (w : List ℕ) (x : Layout) where
       unfolding step_from then_answer
       step_judged f r g = rw (sym e ∙ f) g
 
-pub ruleset environment_by_laws = (environment_unsettled, environment_yes, environment_no)
-
-pub ruleset environment_on_laws = (environment_out, environment_in)
-
-pub ruleset environment_from_laws = (environment_refused, environment_judged)
-
-pub ruleset step_by_laws = (step_24, step_unsettled, step_untaken, step_taken)
-
-pub ruleset step_on_laws = (step_out, step_in)
-
-pub ruleset step_from_laws = (step_refused, step_judged)
+pub ruleset judgement_laws = (
+  environment_unsettled,
+  environment_yes,
+  environment_no,
+  environment_out,
+  environment_in,
+  environment_refused,
+  environment_judged,
+  step_24,
+  step_unsettled,
+  step_untaken,
+  step_taken,
+  step_out,
+  step_in,
+  step_refused,
+  step_judged,
+)
 
 lists_then : (c : Result ⊤ Row) (q : Phase) (rules : Phase → Result Answer Row) → then_rules (then_lists c q) rules ≡ then_answer c (rules q)
 unfolding then_rules then_lists then_answer

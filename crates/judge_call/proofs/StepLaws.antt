@@ -75,11 +75,11 @@ module _ (t : List ℕ) (phase : ℕ) (l : List ℕ) (v : List ℤ) (a : ℕ) (l
         let out : Err row ≡ step_at t phase l v a l' v' = rw (sym e ∙ f) in
         ap answer_of out ∙ step_exact
 
-    pub step_good : x ≡ Ok tt → (y : Layout) (own : List ℕ) → y ≡ layout_of t → own ≡ own_sets t y.sets → (r : Result Answer Row) → r ≡ step_on t y own phase l v a l' v' → answer_of r ≡ J.step_answer t phase l v a l' v'
+    pub step_good : x ≡ Ok tt → (w : List ℕ) (y : Layout) (own : List ℕ) → w ≡ t → y ≡ layout_of t → own ≡ own_sets t y.sets → (r : Result Answer Row) → r ≡ step_on w y own phase l v a l' v' → answer_of r ≡ J.step_answer t phase l v a l' v'
     unfolding step_at then_answer
-    step_good f y own h i r g =
+    step_good f w y own same h i r g =
         let o : own ≡ own_of t = i ∙ ap (λ (z : Layout). own_sets t z.sets) h in
-        let out : r ≡ step_at t phase l v a l' v' = rw (sym e ∙ f) (rw (h, o) at g) in
+        let out : r ≡ step_at t phase l v a l' v' = rw (sym e ∙ f) (rw (same, h, o) at g) in
         ap answer_of out ∙ step_exact
 
 pub ruleset step_laws = (step_bad, step_good)

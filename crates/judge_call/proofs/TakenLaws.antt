@@ -28,6 +28,7 @@ use Rattle.judge_rows.specs.declared.State.{State}
 use Rattle.judge_rows.specs.States.{state_of}
 use Rattle.judge_call.specs.Taken.{taken_in, taken_at, mark_at}
 use Rattle.judge_call.specs.Calls.{own_of}
+use Rattle.judge_rows.proofs.Filled.{front_fits, front_whole}
 use Rattle.judge_rows.proofs.StateLaws.{one_each, one_value, Pass, stands, shows_old, shows_new, in_front_lem}
 
 -- `found`: the two lists keep their lengths
@@ -56,6 +57,8 @@ taken_at_lem w x own a s t n v r e f g = rw (g, e, f)
 pub mark_at_lem : (w : List ℕ) (x : Layout) (own : List ℕ) (a at : ℕ) (r : Bool) → at ≡ nodes_place w x.tree → r ≡ in_set_at w own a at → r ≡ mark_at w x own a
 unfolding mark_at
 mark_at_lem w x own a at r f g = rw (g, f)
+
+pub ruleset taken_laws = (front_fits, front_whole, masks_size, first_size, found_in_lem, taken_at_lem, mark_at_lem)
 
 -- On the words of a lawful model.
 module _ (t : List ℕ) (m : Model) (sheet : Sheet t m) where

@@ -12,6 +12,7 @@ ghost use Rattle.judge_call.specs.Answers.{answer_of, answer_number};
 
 pub use judgement::{environment_from, step_from};
 use model::Row;
+use table_places::Sheet;
 
 // Yes is the environment judge's; the step judge says yes with the mark.
 #[derive(Clone, Copy, Debug, PartialEq, Eq)]
@@ -22,6 +23,7 @@ pub enum Answer {
 }
 
 // May the variables become `new_values` while every automaton is still?
+#[tactic(auto, using(crate::proofs::CallLaws::environment_laws))]
 pub fn environment(
     table: &[u32],
     phase: u32,
@@ -33,11 +35,12 @@ pub fn environment(
         values.now new_values.now }
 {
     table_check::check(table)?;
-    let x = table_places::layout_of(table);
-    judgement::environment_on(table, x, phase, locations, values, new_values)
+    judgement::environment_on(&Sheet::of(table), phase, locations, values, new_values)
 }
 
 // May the composition take the action, from the locations and values to the new ones? Yes comes with the mark.
+// The lists are parameters of their own, here and at `environment`: the C interface hands them so.
+#[tactic(auto, using(crate::proofs::StepLaws::step_laws))]
 pub fn step(
     table: &[u32],
     phase: u32,
@@ -51,11 +54,10 @@ pub fn step(
         action new_locations.now new_values.now }
 {
     table_check::check(table)?;
-    let x = table_places::layout_of(table);
-    let own = table_places::own_sets(table, x);
+    let sheet = Sheet::of(table);
+    let own = table_places::own_sets(table, sheet.layout);
     judgement::step_on(
-        table,
-        x,
+        &sheet,
         &own,
         phase,
         locations,
@@ -68,6 +70,7 @@ pub fn step(
 
 // An answer as one number: 0 no, 1 yes, 2 yes with the mark true; 100 + row refused. The sum wraps on no answer that a
 // judge gives.
+#[tactic(auto, using(crate::proofs::NumberLaws::number_laws))]
 pub fn number(answer: Result<Answer, Row>) -> u32
     ensures { result ≡ answer_number (answer_of answer) % 2 ^ 32 }
 {

@@ -4,9 +4,10 @@ ghost use Rattle.std.specs.Prelude.{◌≡◌};
 ghost use Rattle.judge_call.specs.Owners.{keeps_at, owned_keep_at};
 
 use judge_rows::State;
-use table_places::Layout;
+use table_places::Sheet;
 
 // Variable k has no owner, or the same value in both lists.
+#[tactic(auto, using(crate::proofs::OwnerLaws::keeps_is))]
 fn keeps(words: &[u32], before: &[i32], after: &[i32], k: usize) -> bool
     ensures { result ≡ keeps_at words.now before.now after.now k }
 {
@@ -15,8 +16,9 @@ fn keeps(words: &[u32], before: &[i32], after: &[i32], k: usize) -> bool
 }
 
 // Each variable that has an owner keeps its value from s to t.
-pub(crate) fn owned_keep(words: &[u32], x: Layout, s: State, t: State) -> bool
-    ensures { result ≡ owned_keep_at words.now x s t }
+pub(crate) fn owned_keep(sheet: &Sheet<'_>, s: State, t: State) -> bool
+    ensures { result ≡ owned_keep_at sheet.now.words.now sheet.now.layout s t }
 {
-    (0..table_places::variables_of(x)).all(|k| keeps(words, &s.values, &t.values, k))
+    let v = table_places::variables_of(sheet.layout);
+    (0..v).all(|k| keeps(sheet.words, &s.values, &t.values, k))
 }

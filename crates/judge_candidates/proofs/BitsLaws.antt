@@ -74,4 +74,4 @@ pub still_is : (old new : List ℕ) (n k s : ℕ) → n ≡ at_most max_automata
 unfolding still_bits
 still_is old new n k s e h i l = let z : k ≡ n = omega arith in h ∙ ap (mask (agrees old new)) (z ∙ e)
 
-pub ruleset bits_laws = (with_true, with_false, with_fits, differs_is, agrees_is, noted_start, noted_step, changed_is, still_is)
+pub ruleset bits_laws = (with_true, with_false, with_fits, differs_is, agrees_is, noted_start, noted_room, noted_step, noted_fits, changed_is, still_is)

@@ -4,20 +4,13 @@
 ghost use Rattle.std.specs.Prelude.{◌≡◌, ◌^◌, ◌<◌};
 ghost use Rattle.judge_candidates.specs.Bits.{with_bit, differs, changed_bits, agrees, still_bits};
 
-fn power(k: u32) -> u64
-    requires { k < 64 }
-    ensures { result ≡ 2 ^ k }
-{
-    1u64 << k
-}
-
 // k put into a set of smaller numbers, if the test says so.
 fn with_bit(set: u64, k: usize, test: bool) -> u64
     requires { (k < 64) × (set < 2 ^ k) }
     ensures { result ≡ with_bit set k test }
 {
     if test {
-        return power(k as u32) + set;
+        return table_tree::single(k as u32) + set;
     }
     set
 }

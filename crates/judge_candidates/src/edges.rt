@@ -8,39 +8,19 @@ ghost use Rattle.judge_candidates.specs.Walk.{automaton_on, leg_of, masks_after,
 use table_places::Layout;
 
 // What a step asks of an automaton's edge: from where it leads, its action, and where to.
-#[derive(Clone, Copy)]
+#[derive(Clone, Copy, Debug, PartialEq, Eq)]
 pub struct Leg {
     pub from: usize,
     pub action: usize,
     pub to: usize,
 }
 
-// Where the walk stands in the table, and how many masks it has stored.
-#[derive(Clone, Copy)]
+// Where the walk stands in the table, and how many masks it has stored. The masks stay beside it: a struct that keeps
+// the caller's `&mut` is no plainer, as each function would have to promise too that it is still the same one.
+#[derive(Clone, Copy, Debug, PartialEq, Eq)]
 pub struct Reached {
     pub next: usize,
     pub count: usize,
-}
-
-// An edge's FROM, ACT and TO are the leg's numbers.
-fn fits(words: &[u32], at: usize, leg: Leg) -> bool
-    ensures { result ≡ fits_at words.now leg at }
-{
-    let from = table_places::edge_from(words, at);
-    let action = table_places::edge_action(words, at);
-    let to = table_places::edge_to(words, at);
-    (from == leg.from) & (action == leg.action) & (to == leg.to)
-}
-
-// The edge at a place can be taken. Its update is worked out only where the numbers fit.
-fn takes(words: &[u32], at: usize, leg: Leg, before: &[i32], after: &[i32]) -> bool
-    ensures { result ≡ takes_at words.now before.now after.now leg at }
-{
-    if fits(words, at, leg) {
-        let nodes = table_places::nodes_at(words, table_places::update_at(words, at));
-        return evaluator::holds(words, nodes, before, after);
-    }
-    false
 }
 
 // The mask of the variables that the update of the edge at a place does not mention.
@@ -52,82 +32,85 @@ fn rest_at(words: &[u32], at: usize) -> u64
     table_writes::unwritten(words, table_places::nodes_at(words, update), nodes)
 }
 
-// One edge: its mask is stored if the edge can be taken and there is room.
-fn edge(
-    words: &[u32],
-    at: usize,
+// What an automaton's edges are asked by: a table's words, the leg, and the values before and after the step.
+#[derive(Clone, Copy, Debug, PartialEq, Eq)]
+struct Asked<'a> {
+    words: &'a [u32],
     leg: Leg,
-    before: &[i32],
-    after: &[i32],
-    masks: &mut [u64; 512],
-    count: usize,
-) -> Reached
-    ensures { walk masks.new result.next result.count
-        ≡ edge_on words.now before.now after.now leg
-        (walk masks.old at count) }
-{
-    let next = table_places::after_predicate(words, table_places::update_at(words, at));
-    if model::Model::EDGES <= count {
-        return Reached { next, count };
-    }
-    if takes(words, at, leg, before, after) {
-        masks[count] = rest_at(words, at);
-        return Reached {
-            next,
-            count: count + 1,
-        };
-    }
-    Reached { next, count }
+    before: &'a [i32],
+    after: &'a [i32],
 }
 
-// `number` edges, one after the other, from `at` on.
-fn edges(
-    words: &[u32],
-    at: usize,
-    number: usize,
-    leg: Leg,
-    before: &[i32],
-    after: &[i32],
-    masks: &mut [u64; 512],
-    count: usize,
-) -> Reached
-    ensures { walk masks.new result.next result.count
-        ≡ edges_from words.now before.now after.now leg number
-        (walk masks.old at count) }
-{
-    let mut reached = Reached { next: at, count };
-    for _ in 0..number {
-        reached = edge(
-            words,
-            reached.next,
-            leg,
-            before,
-            after,
-            masks,
-            reached.count,
+impl Asked<'_> {
+    // An edge's FROM, ACT and TO are the leg's numbers.
+    fn fits(&self, at: usize) -> bool
+        ensures { result ≡ fits_at self.now.words.now self.now.leg at }
+    {
+        let from = table_places::edge_from(self.words, at);
+        let action = table_places::edge_action(self.words, at);
+        let to = table_places::edge_to(self.words, at);
+        (from == self.leg.from) & (action == self.leg.action) & (to == self.leg.to)
+    }
+
+    // The edge at a place can be taken. Its update is worked out only where the numbers fit.
+    fn takes(&self, at: usize) -> bool
+        ensures { result ≡ takes_at self.now.words.now self.now.before.now self.now.after.now self.now.leg at }
+    {
+        if self.fits(at) {
+            let update = table_places::update_at(self.words, at);
+            let nodes = table_places::nodes_at(self.words, update);
+            return evaluator::holds(self.words, nodes, self.before, self.after);
+        }
+        false
+    }
+
+    // One edge: its mask is stored if the edge can be taken and there is room.
+    fn edge(&self, at: usize, masks: &mut [u64; 512], count: usize) -> Reached
+        ensures { walk masks.new result.next result.count
+            ≡ edge_on self.now.words.now self.now.before.now self.now.after.now self.now.leg
+            (walk masks.old at count) }
+    {
+        let next = table_places::after_predicate(
+            self.words,
+            table_places::update_at(self.words, at),
         );
+        if model::Model::EDGES <= count {
+            return Reached { next, count };
+        }
+        if self.takes(at) {
+            masks[count] = rest_at(self.words, at);
+            return Reached {
+                next,
+                count: count + 1,
+            };
+        }
+        Reached { next, count }
     }
-    reached
-}
 
-// The edges of an automaton whose number of edges stands at `place`. Gives how many masks are stored then.
-fn automaton(
-    words: &[u32],
-    place: usize,
-    leg: Leg,
-    before: &[i32],
-    after: &[i32],
-    masks: &mut [u64; 512],
-    count: usize,
-) -> usize
-    ensures { kept masks.new result
-        ≡ automaton_on words.now before.now after.now leg place
-        (kept masks.old count) }
-{
-    let number = table_places::word(words, place);
-    let start = table_places::first_edge(words, place);
-    let r = edges(words, start, number, leg, before, after, masks, count);
-    r.count
+    // `number` edges, one after the other, from `at` on.
+    fn edges(&self, at: usize, number: usize, masks: &mut [u64; 512], count: usize) -> Reached
+        ensures { walk masks.new result.next result.count
+            ≡ edges_from self.now.words.now self.now.before.now self.now.after.now self.now.leg number
+            (walk masks.old at count) }
+    {
+        let mut reached = Reached { next: at, count };
+        for _ in 0..number {
+            reached = self.edge(reached.next, masks, reached.count);
+        }
+        reached
+    }
+
+    // The edges of an automaton whose number of edges stands at `place`. Gives how many masks are stored then.
+    fn automaton(&self, place: usize, masks: &mut [u64; 512], count: usize) -> usize
+        ensures { kept masks.new result
+            ≡ automaton_on self.now.words.now self.now.before.now self.now.after.now self.now.leg place
+            (kept masks.old count) }
+    {
+        let number = table_places::word(self.words, place);
+        let start = table_places::first_edge(self.words, place);
+        let r = self.edges(start, number, masks, count);
+        r.count
+    }
 }
 
 // What the step asks of automaton k.
@@ -168,7 +151,13 @@ pub fn gather(
     first[0] = 0;
     for k in 0..automata {
         let leg = leg_of(old, new, action, k);
-        count = automaton(words, edges[k], leg, before, after, masks, count);
+        let asked = Asked {
+            words,
+            leg,
+            before,
+            after,
+        };
+        count = asked.automaton(edges[k], masks, count);
         first[k + 1] = count;
     }
 }

@@ -95,22 +95,25 @@ module _ (masks : List ℕ) (from to u v i x : ℕ) (e : x ≡ get_or masks i 0)
 
 pub ruleset worth_laws = (worth_unnamed, worth_named)
 
--- `names`
-module _ (masks : List ℕ) (from to v i : ℕ) (inv : exists (λ j. not (bit (get_or masks j 0) v)) (count_up i (to - i)) ≡ named_in masks from to v) where
+-- `names`: the edge at a place mentions v
+abbrev pub mentions_at : (masks : List ℕ) (v i : ℕ) → Bool
+mentions_at masks v i = not (bit (get_or masks i 0) v)
+
+module _ (masks : List ℕ) (from to v i : ℕ) (inv : exists (mentions_at masks v) (count_up i (to - i)) ≡ named_in masks from to v) where
   pub names_end : to ≤ i → false ≡ named_in masks from to v
-  names_end l = some_none (λ j. not (bit (get_or masks j 0) v)) i to l ∙ inv
+  names_end l = some_none (mentions_at masks v) i to l ∙ inv
 
   module _ (l : i < to) (x : ℕ) (e : x ≡ get_or masks i 0) (b : Bool) (eb : b ≡ bit x v) where
-    is_named : not (bit (get_or masks i 0) v) ≡ not b
+    is_named : mentions_at masks v i ≡ not b
     is_named = ap (λ y. not (bit y v)) (sym e) ∙ ap not (sym eb)
 
     pub names_here : not b ≡ true → true ≡ named_in masks from to v
-    names_here h = some_here (λ j. not (bit (get_or masks j 0) v)) i to l (is_named ∙ h) ∙ inv
+    names_here h = some_here (mentions_at masks v) i to l (is_named ∙ h) ∙ inv
 
-    pub names_later : not b ≡ false → exists (λ j. not (bit (get_or masks j 0) v)) (count_up (i + 1) (to - (i + 1))) ≡ named_in masks from to v
-    names_later h = some_later (λ j. not (bit (get_or masks j 0) v)) i to l (is_named ∙ h) ∙ inv
+    pub names_later : not b ≡ false → exists (mentions_at masks v) (count_up (i + 1) (to - (i + 1))) ≡ named_in masks from to v
+    names_later h = some_later (mentions_at masks v) i to l (is_named ∙ h) ∙ inv
 
-pub names_start : (masks : List ℕ) (from to v : ℕ) → exists (λ j. not (bit (get_or masks j 0) v)) (count_up from (to - from)) ≡ named_in masks from to v
+pub names_start : (masks : List ℕ) (from to v : ℕ) → exists (mentions_at masks v) (count_up from (to - from)) ≡ named_in masks from to v
 unfolding named_in
 names_start masks from to v = refl
 

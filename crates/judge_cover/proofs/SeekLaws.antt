@@ -24,7 +24,7 @@ use Rattle.judge_cover.proofs.Counting.{map_count, count_at_lem, every_count}
 use Rattle.judge_cover.proofs.CoverLaws.{exists_keep, exists_dropped, filled, nothing_left, one_empty, coverable_falls, above_part, above_kept}
 use Rattle.judge_cover.proofs.Branching.{group_out, through_covers, unnamed_uncovered, worth_is_enough}
 use Rattle.judge_cover.proofs.CodeLaws.{other, some_here, some_later, some_none}
-use Rattle.judge_cover.proofs.PlaceLaws.{laid_before, laid_cut, past_some, map_past}
+use Rattle.judge_cover.proofs.PlaceLaws.{laid_before, laid_cut, past_some, map_past, laid_in, laid_low, laid_more, spans_all, spans_size, last_inside, end_inside}
 use Rattle.judge_cover.proofs.GroupLaws.{group_cons, group_none, group_same}
 use Rattle.judge_cover.proofs.NarrowLaws.{bounded, too_few, from_cons, from_first, from_none}
 
@@ -55,7 +55,7 @@ module _ (masks starts ends : List ℕ) (n u : ℕ) where
   seek_short gains total x s e l =
       sym (too_few (groups masks starts ends n) (map (λ k. get_or gains k 0) (count_up 0 n)) u (bounded masks starts ends n u gains total s) (omega (arith, s.all, e)))
 
-pub ruleset seek_laws = (seek_covered, seek_short)
+pub ruleset seek_laws = (seek_covered, seek_short, spans_all, spans_size)
 
 -- `narrowed`
 module _ (masks from to : List ℕ) (n u : ℕ) (before kept starts ends gains : List ℕ) where
@@ -135,7 +135,7 @@ module _ (masks starts ends : List ℕ) (n u v k : ℕ) (a b : ℕ) (from to : L
       pub tried_later : c ≡ false → exists at (count_up (i + 1) (b - (i + 1))) ≡ through_at masks starts ends n u v k
       tried_later y = some_later at i b l (is_covered ∙ y) ∙ inv
 
-pub ruleset tried_laws = (tried_start, tried_end, tried_skip, tried_here, tried_later)
+pub ruleset tried_laws = (tried_start, tried_end, tried_skip, tried_here, tried_later, end_inside)
 
 -- `branch`
 named_is : (masks : List ℕ) (a b v : ℕ) → named_in masks a b v ≡ exists (λ r. not (bit r v)) (group masks a b)
@@ -272,7 +272,7 @@ module _ (before starts first gains : List ℕ) (n u total v : ℕ) where
           same = dropped ∙ s.same;
         }
 
-pub ruleset branching_laws = (branching_first, branching_here)
+pub ruleset branching_laws = (branching_first, branching_here, branching_none, branching_end, branching_places, last_inside, end_inside, laid_more)
 
 -- `plain::cover`
 abbrev pub chooses_at : (masks starts ends : List ℕ) (k n u i : ℕ) → Bool
@@ -318,4 +318,4 @@ module _ (masks first starts ends : List ℕ) (takers n changed : ℕ) (same : (
   pub covered_empty : (b : Bool) → b ≡ all_filled starts ends n → not b ≡ true → false ≡ coverable (groups_of masks first takers) changed
   covered_empty b e h = covered_by false (sym (one_empty (groups masks starts ends n) changed (sym (all_filled_lem masks starts ends n) ∙ sym e ∙ not-true b h)))
 
-pub ruleset covered_laws = (covered_by, covered_plain, covered_empty)
+pub ruleset covered_laws = (covered_by, covered_plain, covered_empty, laid_in, laid_low)

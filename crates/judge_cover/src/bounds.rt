@@ -7,7 +7,9 @@ use crate::edges::{self};
 use crate::places::{self};
 
 // For each group, how many variables of u an edge of it covers at most; and the sum of these.
-#[derive(Clone, Copy)]
+// `starts`, `ends` and `gains` stay lists side by side, no list of groups: what the search promises, as `groups` and
+// `BoundsOf`, and each law of it, is said over these lists.
+#[derive(Clone, Copy, Debug, PartialEq, Eq)]
 pub struct Bounds {
     pub gains: [usize; 16],
     pub total: usize,

@@ -6,7 +6,7 @@ ghost use Rattle.judge_cover.specs.Steps.{PartOf};
 
 // For each variable how many edges mention it: bit K of the six sets from `ones` up to `more` is that number for
 // variable K, less 64 as often as it came to 64; `over` has the variables for which it did.
-#[derive(Clone, Copy, Default)]
+#[derive(Clone, Copy, Debug, Default, PartialEq, Eq)]
 pub struct Tally {
     pub ones: u64,
     pub twos: u64,
@@ -56,6 +56,7 @@ fn count(masks: &[u64], to: usize, u: u64) -> Tally
 }
 
 // Those of a set that are not in `more`, unless that is none.
+#[tactic(auto, using(crate::proofs::CodeLaws::part_laws))]
 fn fewer(set: u64, more: u64) -> u64
     ensures { PartOf result set }
 {
@@ -63,6 +64,7 @@ fn fewer(set: u64, more: u64) -> u64
     if rest == 0 { set } else { rest }
 }
 
+#[tactic(auto, using(crate::proofs::CodeLaws::part_laws))]
 fn rarest(u: u64, t: Tally) -> u64
     ensures { PartOf result u }
 {
@@ -76,12 +78,14 @@ fn rarest(u: u64, t: Tally) -> u64
 }
 
 // The first variable of a set; 64 if it has none.
+#[tactic(auto, using(crate::proofs::CodeLaws::first_is))]
 fn first(set: u64) -> u32
     ensures { 0 < set → bit set result ≡ true }
 {
     set.trailing_zeros()
 }
 
+#[tactic(auto, using(crate::proofs::CodeLaws::chosen))]
 pub(crate) fn choose(masks: &[u64], to: usize, u: u64) -> u32
     requires { to ≤ length masks.now }
     ensures { 0 < u → bit u result ≡ true }

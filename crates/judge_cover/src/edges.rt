@@ -14,6 +14,7 @@ pub fn size(u: u64) -> usize
 }
 
 // Is every variable of w in u?
+#[tactic(auto, using(crate::proofs::CodeLaws::inside_is))]
 pub fn inside(w: u64, u: u64) -> bool
     ensures { result ≡ within w u }
 {
@@ -21,6 +22,7 @@ pub fn inside(w: u64, u: u64) -> bool
 }
 
 // What edge i leaves uncovered of u.
+#[tactic(auto, using(crate::proofs::CodeLaws::left_is))]
 pub(crate) fn left_by(masks: &[u64], u: u64, i: usize) -> u64
     ensures { result ≡ left_by masks.now u i }
 {
@@ -28,6 +30,7 @@ pub(crate) fn left_by(masks: &[u64], u: u64, i: usize) -> u64
 }
 
 // Is edge i skipped for edge j, which leaves no more? Of two that leave the same the first stays.
+#[tactic(auto, using(crate::proofs::CodeLaws::dominated_is, crate::proofs::CodeLaws::left_is))]
 fn dominated(masks: &[u64], u: u64, i: usize, j: usize) -> bool
     requires { (i < length masks.now) × (j < length masks.now) }
     ensures { result ≡ dominated masks.now u i j }
@@ -37,6 +40,7 @@ fn dominated(masks: &[u64], u: u64, i: usize, j: usize) -> bool
     inside(w, v) & ((j < i) | !inside(v, w))
 }
 
+#[tactic(auto, using(crate::proofs::CodeLaws::skipped_laws))]
 fn skipped(masks: &[u64], from: usize, to: usize, u: u64, i: usize) -> bool
     requires { (i < length masks.now) × (to ≤ length masks.now) }
     ensures { result ≡ skipped_at masks.now from to u i }
@@ -50,6 +54,7 @@ fn skipped(masks: &[u64], from: usize, to: usize, u: u64, i: usize) -> bool
 }
 
 // Is edge i worth a try for the variable v? It mentions v, and no other of its group leaves less.
+#[tactic(auto, using(crate::proofs::CodeLaws::worth_laws))]
 pub(crate) fn worth(masks: &[u64], from: usize, to: usize, u: u64, v: u32, i: usize) -> bool
     requires { (i < length masks.now) × (to ≤ length masks.now) }
     ensures { result ≡ worth masks.now from to u v i }
@@ -61,6 +66,7 @@ pub(crate) fn worth(masks: &[u64], from: usize, to: usize, u: u64, v: u32, i: us
 }
 
 // Does an edge between two places mention v?
+#[tactic(auto, using(crate::proofs::CodeLaws::names_laws))]
 pub(crate) fn names(masks: &[u64], from: usize, to: usize, v: u32) -> bool
     requires { to ≤ length masks.now }
     ensures { result ≡ named_in masks.now from to v }
@@ -74,6 +80,7 @@ pub(crate) fn names(masks: &[u64], from: usize, to: usize, v: u32) -> bool
 }
 
 // Drops the edges between two places that mention v: the others move to the front. The place after them.
+#[tactic(auto, using(crate::proofs::GroupLaws::dropping_laws))]
 pub(crate) fn drop_named(masks: &mut [u64], from: usize, to: usize, v: u32) -> usize
     requires { (from ≤ to) × (to ≤ length masks.old) × (to ≤ 512) }
     ensures { SiftedTo (spares v) masks.old from to masks.old masks.new

@@ -19,6 +19,7 @@ pub use places::{mask_at, place};
 
 // Bit k of `takers` says that automaton k takes the action; its edges are `masks[first[k] .. first[k + 1]]`, each the
 // set of the variables that its update does not mention.
+#[tactic(auto, using(crate::proofs::SeekLaws::covered_laws))]
 pub fn covered(masks: &[u64], first: &[usize], takers: u64, changed: u64) -> bool
     ensures { result ≡ coverable (groups_of masks.now first.now takers) changed }
 {

@@ -7,7 +7,7 @@ use crate::edges::{self};
 use crate::places::{self};
 
 // The place after a group's useful edges, how many variables an edge of it covers at most, and the total with that.
-#[derive(Clone, Copy)]
+#[derive(Clone, Copy, Debug, PartialEq, Eq)]
 pub struct Sifted {
     pub next: usize,
     pub most: usize,
@@ -15,6 +15,7 @@ pub struct Sifted {
 }
 
 // Copies the useful edges between two places, from the place `count` on.
+#[tactic(auto, using(crate::proofs::GroupLaws::passing_laws))]
 fn sift(
     masks: &[u64],
     from: usize,

@@ -17,6 +17,7 @@ pub fn place(places: &[usize], k: usize) -> usize
 }
 
 // Item i of a list without item k is item `past(k, i)` of the list.
+#[tactic(auto, using(crate::proofs::CodeLaws::step_laws))]
 fn past(k: usize, i: usize) -> usize
     requires { i ≤ 16 }
     ensures { result ≡ past k i }
@@ -38,6 +39,7 @@ pub(crate) fn without(list: &[usize], k: usize) -> [usize; 16]
 }
 
 // Every group has an edge.
+#[tactic(auto, using(crate::proofs::CodeLaws::filled_laws))]
 pub(crate) fn all_filled(starts: &[usize], ends: &[usize], n: usize) -> bool
     ensures { result ≡ all_filled starts.now ends.now n }
 {
@@ -79,6 +81,7 @@ pub(crate) fn last(ends: &[usize], n: usize) -> usize
 }
 
 // Would all edges of the groups have room in a list of length 128?
+#[tactic(auto, using(crate::proofs::PlaceLaws::short_is))]
 pub(crate) fn short(starts: &[usize], ends: &[usize], n: usize) -> bool
     requires n_bound { n ≤ 16 }
     requires laid { Laid starts.now ends.now n 512 }
@@ -88,6 +91,7 @@ pub(crate) fn short(starts: &[usize], ends: &[usize], n: usize) -> bool
 }
 
 // The places of the takers' groups, one after the other, and how many there are.
+#[tactic(auto, using(crate::proofs::GroupLaws::gathering_laws))]
 pub(crate) fn groups(
     first: &[usize],
     takers: u64,

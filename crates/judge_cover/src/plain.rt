@@ -7,6 +7,7 @@ use crate::edges::{self};
 use crate::places::{self};
 
 // Can one edge of each group from group k on be chosen so that nothing of u is left?
+#[tactic(auto, using(crate::proofs::SeekLaws::plain_laws))]
 pub(crate) fn cover(
     masks: &[u64],
     starts: &[usize],

@@ -14,6 +14,7 @@ use crate::places::{self};
 // Can one edge of each of the n groups be chosen so that nothing of u is left? No edge of group k covers more than
 // `gains[k]` of u, and `total` is the sum of these.
 #[cycle(branch_narrowed_seek_tried)]
+#[tactic(auto, using(crate::proofs::SeekLaws::seek_laws))]
 pub(crate) fn seek(
     masks: &[u64],
     starts: &[usize],
@@ -46,6 +47,7 @@ pub(crate) fn seek(
 
 // The same, with the useful edges alone.
 #[cycle(branch_narrowed_seek_tried)]
+#[tactic(auto, using(crate::proofs::SeekLaws::narrowed_short))]
 fn narrowed(
     masks: &[u64],
     starts: &[usize],
@@ -76,6 +78,7 @@ fn narrowed(
 // The same, by a variable that is not covered: some group has an edge that mentions it. Edges that have failed are
 // dropped, so that the later groups are not tried with them again.
 #[cycle(branch_narrowed_seek_tried)]
+#[tactic(auto, using(crate::proofs::SeekLaws::branching_laws))]
 fn branch(
     kept: &mut [u64],
     starts: &[usize],
@@ -112,6 +115,7 @@ fn branch(
 
 // Can an edge of group k that mentions v be chosen, and an edge of each of the other groups?
 #[cycle(branch_narrowed_seek_tried)]
+#[tactic(auto, using(crate::proofs::SeekLaws::tried_laws))]
 fn tried(
     masks: &[u64],
     starts: &[usize],

@@ -38,8 +38,6 @@ module _ {A : Type 0} (new old : List A) where
   unfolding placed
   not_put h = rw (lt-leb (length new) (length old) h, placed)
 
-pub ruleset put_laws = (put_there, not_put)
-
 -- `keep`: the items are those of the state
 pub kept_locations : (x : Layout) (n : ℕ) (list old new : List ℕ) → n ≡ automata_of x → new ≡ placed (take n list) old
     → new ≡ placed (take (automata_of x) list) old
@@ -48,6 +46,8 @@ kept_locations x n list old new e f = rw (← e) f
 pub kept_values : (x : Layout) (n : ℕ) (list old new : List ℤ) → n ≡ variables_of x → new ≡ placed (take n list) old
     → new ≡ placed (take (variables_of x) list) old
 kept_values x n list old new e f = rw (← e) f
+
+pub ruleset list_laws = (lengths_for_is, end_fits_is, put_there, not_put, kept_locations, kept_values)
 
 few : {A : Type 0} (n : ℕ) (list : List A) (size : ℕ) → n ≤ size → length (take n list) ≤ size
 few zero list size h = omega arith

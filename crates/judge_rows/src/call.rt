@@ -7,32 +7,32 @@ ghost use Rattle.judge_rows.specs.Checks.{state_checked, values_checked, lists_c
 use crate::Phase;
 use crate::rows::{self};
 use model::Row;
-use table_places::Layout;
+use table_places::Sheet;
 
 // Rows 21 to 23 of one state.
-pub fn state_checked(words: &[u32], x: Layout, locations: &[u32], values: &[i32]) -> Result<(), Row>
-    ensures { result ≡ state_checked words.now x locations.now values.now }
+pub fn state_checked(sheet: &Sheet<'_>, locations: &[u32], values: &[i32]) -> Result<(), Row>
+    ensures { result ≡ state_checked sheet.now.words.now sheet.now.layout locations.now values.now }
 {
-    if !rows::lengths(x, locations.len(), values.len()) {
+    if !rows::lengths(&sheet.layout, locations.len(), values.len()) {
         return Err(Row(21));
     }
-    if !rows::locations_known(words, x, locations) {
+    if !rows::locations_known(sheet, locations) {
         return Err(Row(22));
     }
-    if !rows::values_known(words, x, values) {
+    if !rows::values_known(sheet, values) {
         return Err(Row(23));
     }
     Ok(())
 }
 
 // Rows 21 and 23 of values for locations that have passed.
-pub fn values_checked(words: &[u32], x: Layout, values: &[i32]) -> Result<(), Row>
-    ensures { result ≡ values_checked words.now x values.now }
+pub fn values_checked(sheet: &Sheet<'_>, values: &[i32]) -> Result<(), Row>
+    ensures { result ≡ values_checked sheet.now.words.now sheet.now.layout values.now }
 {
-    if values.len() != x.variables {
+    if values.len() != sheet.layout.variables {
         return Err(Row(21));
     }
-    if !rows::values_known(words, x, values) {
+    if !rows::values_known(sheet, values) {
         return Err(Row(23));
     }
     Ok(())
@@ -40,27 +40,24 @@ pub fn values_checked(words: &[u32], x: Layout, values: &[i32]) -> Result<(), Ro
 
 // Rows 21 to 23: the lists before and after.
 fn lists(
-    words: &[u32],
-    x: Layout,
+    sheet: &Sheet<'_>,
     locations: &[u32],
     values: &[i32],
     new_locations: &[u32],
     new_values: &[i32],
 ) -> Result<(), Row>
-    ensures { result ≡ lists_checked words.now x locations.now values.now
+    ensures { result ≡ lists_checked sheet.now.words.now sheet.now.layout locations.now values.now
         new_locations.now new_values.now }
 {
-    if !rows::lengths(x, locations.len(), values.len())
-        | !rows::lengths(x, new_locations.len(), new_values.len())
+    if !rows::lengths(&sheet.layout, locations.len(), values.len())
+        | !rows::lengths(&sheet.layout, new_locations.len(), new_values.len())
     {
         return Err(Row(21));
     }
-    if !rows::locations_known(words, x, locations)
-        | !rows::locations_known(words, x, new_locations)
-    {
+    if !rows::locations_known(sheet, locations) | !rows::locations_known(sheet, new_locations) {
         return Err(Row(22));
     }
-    if !rows::values_known(words, x, values) | !rows::values_known(words, x, new_values) {
+    if !rows::values_known(sheet, values) | !rows::values_known(sheet, new_values) {
         return Err(Row(23));
     }
     Ok(())
@@ -68,33 +65,26 @@ fn lists(
 
 // Rows 20 to 23: the phase of a call that passes, or the first row that refuses it.
 pub fn admit(
-    words: &[u32],
-    x: Layout,
+    sheet: &Sheet<'_>,
     phase: u32,
     locations: &[u32],
     values: &[i32],
     new_locations: &[u32],
     new_values: &[i32],
 ) -> Result<Phase, Row>
-    ensures { result ≡ admitted_on words.now x phase locations.now values.now
+    ensures { result ≡ admitted_on sheet.now.words.now sheet.now.layout phase locations.now values.now
         new_locations.now new_values.now }
 {
     let p = Phase::try_from(phase)?;
-    lists(words, x, locations, values, new_locations, new_values)?;
+    lists(sheet, locations, values, new_locations, new_values)?;
     Ok(p)
 }
 
 // Rows 20 to 23 of one state: the phase that a run starts in, or the first row that refuses it.
-pub fn begun(
-    words: &[u32],
-    x: Layout,
-    phase: u32,
-    locations: &[u32],
-    values: &[i32],
-) -> Result<Phase, Row>
-    ensures { result ≡ begun_on words.now x locations.now values.now phase }
+pub fn begun(sheet: &Sheet<'_>, phase: u32, locations: &[u32], values: &[i32]) -> Result<Phase, Row>
+    ensures { result ≡ begun_on sheet.now.words.now sheet.now.layout locations.now values.now phase }
 {
     let p = Phase::try_from(phase)?;
-    state_checked(words, x, locations, values)?;
+    state_checked(sheet, locations, values)?;
     Ok(p)
 }

@@ -18,7 +18,7 @@ pub enum Phase {
 }
 
 // The phase, each automaton's location and each variable's value; what the model has none of is 0.
-#[derive(Clone, Copy)]
+#[derive(Clone, Copy, Debug, PartialEq, Eq)]
 pub struct State {
     pub phase: Phase,
     pub locations: [u32; 16],

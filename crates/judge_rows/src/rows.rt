@@ -10,7 +10,7 @@ ghost use Rattle.judge_rows.specs.RowTests.{range_has, values_known, action_know
 
 use crate::Phase;
 use model::Row;
-use table_places::Layout;
+use table_places::{Layout, Sheet};
 
 // Row 20: the phase that has this number.
 impl TryFrom<u32> for Phase {
@@ -46,10 +46,10 @@ pub fn phase_number(phase: Phase) -> u32
 }
 
 // Row 21: a list of so many locations and one of so many values have one for each automaton and each variable.
-pub(crate) fn lengths(x: Layout, locations: usize, values: usize) -> bool
-    ensures { result ≡ lengths_fit x locations values }
+pub(crate) fn lengths(layout: &Layout, locations: usize, values: usize) -> bool
+    ensures { result ≡ lengths_fit layout.now locations values }
 {
-    (locations == x.automata) & (values == x.variables)
+    (locations == layout.automata) & (values == layout.variables)
 }
 
 // The automaton at `at` has the location that the list gives automaton k.
@@ -60,11 +60,11 @@ fn location_known(words: &[u32], at: usize, locations: &[u32], k: usize) -> bool
 }
 
 // Row 22: each automaton has its location.
-pub(crate) fn locations_known(words: &[u32], x: Layout, locations: &[u32]) -> bool
-    ensures { result ≡ locations_known words.now x locations.now }
+pub(crate) fn locations_known(sheet: &Sheet<'_>, locations: &[u32]) -> bool
+    ensures { result ≡ locations_known sheet.now.words.now sheet.now.layout locations.now }
 {
-    let places = x.sets;
-    (0..table_places::automata_of(x)).all(|k| location_known(words, places[k], locations, k))
+    let n = table_places::automata_of(sheet.layout);
+    (0..n).all(|k| location_known(sheet.words, sheet.layout.sets[k], locations, k))
 }
 
 fn within(low: i64, high: i64, value: i64) -> bool
@@ -84,15 +84,15 @@ fn value_known(words: &[u32], values: &[i32], k: usize) -> bool
 }
 
 // Row 23: each variable's value is in its range.
-pub(crate) fn values_known(words: &[u32], x: Layout, values: &[i32]) -> bool
-    ensures { result ≡ values_known words.now x values.now }
+pub(crate) fn values_known(sheet: &Sheet<'_>, values: &[i32]) -> bool
+    ensures { result ≡ values_known sheet.now.words.now sheet.now.layout values.now }
 {
-    (0..x.variables).all(|k| value_known(words, values, k))
+    (0..sheet.layout.variables).all(|k| value_known(sheet.words, values, k))
 }
 
 // Row 24: the model has the action.
-pub fn action_known(x: Layout, action: u32) -> bool
-    ensures { result ≡ action_known x action }
+pub fn action_known(layout: &Layout, action: u32) -> bool
+    ensures { result ≡ action_known layout.now action }
 {
-    arithmetic::index(action) <= x.actions
+    arithmetic::index(action) <= layout.actions
 }

@@ -8,10 +8,10 @@ use Prim.Native.Nat.{ℕ, zero, suc, ◌+◌, ◌-◌, ◌≤◌, ◌<◌}
 use native.Mathlib.Omega.{arith}
 use native.Mathlib.Numerals.{add-one}
 use lib.IntN.{ℤ}
-use lib.ListN.{length, get_or, take, drop, set, length-set, length-drop, drop_of_length-le}
-use lib.Seq.{drop-cons, drop-drop, drop-length, take_all}
+use lib.ListN.{length, get_or, take, drop, set, drop_of_length-le}
+use lib.Seq.{drop-cons, take_all}
 use lib.Dec.{leb}
-use borrow.Author.Tests.{le-leb, lt-leb, leb-false}
+use borrow.Author.Tests.{le-leb, lt-leb}
 use Rattle.model.proofs.Tests.{not-true, not-false}
 use Rattle.table_places.specs.declared.layout.Layout.{Layout}
 use Rattle.table_places.specs.Layout.{layout_of, automata_of, variables_of}
@@ -83,8 +83,6 @@ pub all_answers : (w : List ℕ) (x : Layout) (own : List ℕ) (n v : ℕ) (acti
 all_answers w x own n v actions ls vs old first answers s ls' vs' k g h e f =
     rw (← e, ← f) (ap (λ (g : Gone). g.answers) (going_ends w x own n v actions _ answers s ls' vs' k g h))
 
-pub ruleset all_laws = (going_first, going_on, all_state, all_answers)
-
 -- `ended`
 pub ended_is : (w : List ℕ) (x : Layout) (own : List ℕ) (s : State) (actions ls : List ℕ) (vs : List ℤ) (answers locations : List ℕ) (values : List ℤ) (end : State) (new l : List ℕ)
     (v : List ℤ) (p : Phase) → end ≡ (go_on w x own (automata_of x) (variables_of x) s answers 0 actions ls vs).state
@@ -137,24 +135,24 @@ module _ (w : List ℕ) (x : Layout) (own : List ℕ) (s : State) (actions ls : 
         listed_ran g r new l v d =
             record { is = rw (even, listed_on, room, listed_on, end_has_room x (length locations) (length values) b f g, listed_on) d.is }
 
-pub ruleset listed_laws = (listed_uneven, listed_short, listed_no_end, listed_ran)
-
 -- `over`
 module _ (w : List ℕ) (phase : ℕ) (l : List ℕ) (v : List ℤ) (actions ls : List ℕ) (vs : List ℤ) (answers locations : List ℕ) (values : List ℤ)
-    (x : Layout) (found : x ≡ layout_of w) (y : Result Phase Row) (i : y ≡ begun_on w x l v phase) where
+    (u : List ℕ) (same : u ≡ w) (x : Layout) (found : x ≡ layout_of w) (y : Result Phase Row) (i : y ≡ begun_on u x l v phase) where
   begun_is : (z : Result Phase Row) → y ≡ z → begun_on w (layout_of w) l v phase ≡ z
-  begun_is z e = ap (λ (k : Layout). begun_on w k l v phase) (sym found) ∙ sym i ∙ e
+  begun_is z e =
+      let j : y ≡ begun_on w (layout_of w) l v phase = rw (same, found) at i in
+      sym j ∙ e
 
   pub over_out : (row : Row) → y ≡ Err row → Leaves (over_on w phase l v actions ls vs answers locations values) (Err (Refused row)) answers locations values
   unfolding over_on
   over_out row e = record { is = rw (begun_is (Err row) e, over_on) }
 
   pub over_in : (q : Phase) → y ≡ Ok q → (own : List ℕ) → own ≡ own_sets w x.sets → (s : State) → s ≡ state_of q l v → (r : Result Phase RunError) (new newl : List ℕ) (newv : List ℤ)
-      → Leaves (listed_on w x own s actions ls vs answers locations values) r new newl newv
+      → Leaves (listed_on u x own s actions ls vs answers locations values) r new newl newv
       → Leaves (over_on w phase l v actions ls vs answers locations values) r new newl newv
   unfolding over_on
   over_in q e own sets s o r new newl newv d =
       let all : own ≡ own_of w = sets ∙ ap (λ (k : Layout). own_sets w k.sets) found in
-      record { is = rw (begun_is (Ok q) e, over_on) (rw (o, all, found) at d.is) }
+      record { is = rw (begun_is (Ok q) e, over_on) (rw (o, all, same, found) at d.is) }
 
-pub ruleset over_laws = (over_out, over_in)
+pub ruleset run_laws = (going_first, all_state, all_answers, end_has_room, listed_uneven, listed_short, listed_no_end)

@@ -14,19 +14,20 @@ use Rattle.table_tree.specs.declared.nodes.Found.{Found}
 use Rattle.table_tree.specs.declared.nodes.Found.TheVariants.{Par, Syn, Leaf, Stray}
 use Rattle.table_tree.specs.Nodes.{node_at, skip_from}
 use Rattle.table_tree.specs.Members.{in_set_at}
-use Rattle.table_tree.proofs.SetLaws.{bit_above}
+use Rattle.table_tree.proofs.SetLaws.{bit_above, word_bit}
 use Rattle.judge_search.specs.Found.{max_duties, shared_bits, taken_by, parted_at, covered_by, seek_by, seek_at, found_in}
 
--- `power`: one taker more fits a word
-pub power_is : (k : ℕ) → k < 16 → ((1 * 2 ^ k) % 2 ^ 64 ≡ 2 ^ k) × ((1 * 2 ^ k) % 2 ^ 64 ≤ 32768)
-power_is k h =
+-- one taker more fits a word
+pub one_fits : (k one takers : ℕ) → k < 16 → one ≡ 2 ^ k → takers < one → takers + one < 2 ^ 64
+one_fits k one takers h e l =
     let up : 2 ^ k ≤ 2 ^ 15 = pow_mono {i = k} {j = 15} (omega arith) in
-    let e = shl_exact 1 k 64 (omega arith) (omega arith) ∙ one-mul (2 ^ k) in
-    (e, omega (arith, e, up))
+    omega (arith, e, up)
 
 -- `is_still`
 pub still_high : (still k : ℕ) → still < 2 ^ 32 → 31 < k → false ≡ bit still k
 still_high still k h l = sym (bit_above still 32 k h l)
+
+pub ruleset still_laws = (still_high, word_bit)
 
 module _ (words sets : List ℕ) (action : ℕ) (masks first : List ℕ) (still changed : ℕ) where
   abbrev S : (left at duties x : ℕ) → Bool
@@ -166,7 +167,7 @@ pub ruleset seek_laws = (seek_done, seek_spent, seek_stray, seek_par, seek_syn, 
 
 pub ruleset parted_laws = (parted_full, parted_rests, parted_both, parted_right, parted_left, parted_last)
 
-pub ruleset taken_laws = (taken_stray, taken_before, taken_joins)
+pub ruleset taken_laws = (one_fits, taken_stray, taken_before, taken_joins)
 
 -- `found`
 pub found_by : (words : List ℕ) (at : ℕ) (sets : List ℕ) (action : ℕ) (masks first : List ℕ) (still changed : ℕ) (r : Bool)

@@ -11,7 +11,7 @@ use table_tree::Found;
 const DUTIES: u64 = 1 << 62;
 
 // The step in question: its action, a bit for each automaton that keeps its location, and the variables that change.
-#[derive(Clone, Copy)]
+#[derive(Clone, Copy, Debug, PartialEq, Eq)]
 pub struct Step {
     pub action: u32,
     pub still: u32,
@@ -19,6 +19,7 @@ pub struct Step {
 }
 
 // Bit k of `still`: does automaton k keep its location?
+#[tactic(auto, using(crate::proofs::FoundSteps::still_laws))]
 fn is_still(still: u32, k: usize) -> bool
     ensures { result ≡ bit still k }
 {
@@ -28,119 +29,100 @@ fn is_still(still: u32, k: usize) -> bool
     (still >> k) % 2 == 1
 }
 
-fn power(k: usize) -> u64
-    requires { k < 16 }
-    ensures { (result ≡ 2 ^ k) × (result ≤ 32768) }
-{
-    1u64 << k
+// What the search reads: a table's words, the automata's own synchronising sets, all candidates (automaton k's are
+// `masks[first[k] .. first[k + 1]]`), and the step.
+#[derive(Clone, Copy, Debug, PartialEq, Eq)]
+pub struct Search<'a> {
+    pub words: &'a [u32],
+    pub sets: &'a [u64],
+    pub masks: &'a [u64],
+    pub first: &'a [usize],
+    pub step: Step,
 }
 
-// Can the duties from `at` on be done, within `left` nodes, so that all takers together mention every changed variable?
-#[cycle(parted_seek_taken)]
-pub fn seek(
-    words: &[u32],
-    sets: &[u64],
-    masks: &[u64],
-    first: &[usize],
-    step: Step,
-    at: usize,
-    left: usize,
-    duties: u64,
-    takers: u64,
-) -> bool
-    ensures { result ≡ seek_at words.now sets.now step.action masks.now
-        first.now step.still step.changed left at duties takers }
-{
-    if duties <= 1 {
-        return judge_bounds::covered(masks, first, takers, step.changed);
-    }
-    if left == 0 {
-        return false;
-    }
-    let f = table_tree::node_at(words, at);
-    let n = left - 1;
-    let rest = duties / 2;
-    match f {
-        Found::Par(next) => parted(words, sets, masks, first, step, next, n, duties, takers),
-        Found::Syn(_, _, next) => seek(words, sets, masks, first, step, next, n, duties, takers),
-        Found::Leaf(k, next) => {
-            if duties % 2 != 0 {
-                return taken(words, sets, masks, first, step, next, n, rest, takers, k);
-            }
-            if is_still(step.still, k) {
-                return seek(words, sets, masks, first, step, next, n, rest, takers);
-            }
-            false
+impl Search<'_> {
+    // Can the duties from `at` on be done, within `left` nodes, so that all takers together mention every changed
+    // variable?
+    #[cycle(parted_seek_taken)]
+    #[tactic(auto, using(crate::proofs::FoundSteps::seek_laws))]
+    pub fn seek(&self, at: usize, left: usize, duties: u64, takers: u64) -> bool
+        ensures { result ≡ seek_at self.now.words.now self.now.sets.now self.now.step.action self.now.masks.now
+            self.now.first.now self.now.step.still self.now.step.changed left at duties takers }
+    {
+        if duties <= 1 {
+            return judge_bounds::covered(self.masks, self.first, takers, self.step.changed);
         }
-        Found::Stray => false,
+        if left == 0 {
+            return false;
+        }
+        let f = table_tree::node_at(self.words, at);
+        let n = left - 1;
+        let rest = duties / 2;
+        match f {
+            Found::Par(next) => self.parted(next, n, duties, takers),
+            Found::Syn(_, _, next) => self.seek(next, n, duties, takers),
+            Found::Leaf(k, next) => {
+                if duties % 2 != 0 {
+                    return self.taken(next, n, rest, takers, k);
+                }
+                let still = is_still(self.step.still, k);
+                if still {
+                    return self.seek(next, n, rest, takers);
+                }
+                false
+            }
+            Found::Stray => false,
+        }
     }
-}
 
-// The first duty is a `par` whose sides stand from `at` on: both take the action, one does and the other rests, or both
-// rest.
-#[cycle(parted_seek_taken)]
-fn parted(
-    words: &[u32],
-    sets: &[u64],
-    masks: &[u64],
-    first: &[usize],
-    step: Step,
-    at: usize,
-    n: usize,
-    duties: u64,
-    takers: u64,
-) -> bool
-    ensures { result ≡ parted_at words.now sets.now step.action
-        (seek_at words.now sets.now step.action masks.now first.now
-        step.still step.changed n) at duties takers }
-{
-    if DUTIES <= duties / 2 {
-        return false;
+    // The first duty is a `par` whose sides stand from `at` on: both take the action, one does and the other rests, or
+    // both rest.
+    #[cycle(parted_seek_taken)]
+    #[tactic(auto, using(crate::proofs::FoundSteps::parted_laws))]
+    fn parted(&self, at: usize, n: usize, duties: u64, takers: u64) -> bool
+        ensures { result ≡ parted_at self.now.words.now self.now.sets.now self.now.step.action
+            (seek_at self.now.words.now self.now.sets.now self.now.step.action self.now.masks.now
+            self.now.first.now self.now.step.still self.now.step.changed n) at duties takers }
+    {
+        if DUTIES <= duties / 2 {
+            return false;
+        }
+        let pair = duties / 2 * 4;
+        if duties % 2 == 0 {
+            return self.seek(at, n, pair, takers);
+        }
+        let here = table_tree::in_set(self.words, at, self.sets, self.step.action);
+        let right = table_tree::skip(self.words, at);
+        let there = table_tree::in_set(self.words, right, self.sets, self.step.action);
+        if here & there {
+            return self.seek(at, n, pair + 3, takers);
+        }
+        if there {
+            return self.seek(at, n, pair + 2, takers);
+        }
+        let alone = self.seek(at, n, pair + 1, takers);
+        if here | alone {
+            return alone;
+        }
+        self.seek(at, n, pair + 2, takers)
     }
-    let pair = duties / 2 * 4;
-    if duties % 2 == 0 {
-        return seek(words, sets, masks, first, step, at, n, pair, takers);
-    }
-    let here = table_tree::in_set(words, at, sets, step.action);
-    let there = table_tree::in_set(words, table_tree::skip(words, at), sets, step.action);
-    if here & there {
-        return seek(words, sets, masks, first, step, at, n, pair + 3, takers);
-    }
-    if there {
-        return seek(words, sets, masks, first, step, at, n, pair + 2, takers);
-    }
-    let alone = seek(words, sets, masks, first, step, at, n, pair + 1, takers);
-    if here | alone {
-        return alone;
-    }
-    seek(words, sets, masks, first, step, at, n, pair + 2, takers)
-}
 
-// The first duty is that automaton k takes the action; the others are `duties`, and stand from `at` on. Takers come in
-// rising order.
-#[cycle(parted_seek_taken)]
-fn taken(
-    words: &[u32],
-    sets: &[u64],
-    masks: &[u64],
-    first: &[usize],
-    step: Step,
-    at: usize,
-    n: usize,
-    duties: u64,
-    takers: u64,
-    k: usize,
-) -> bool
-    ensures { result ≡ taken_by
-        (seek_at words.now sets.now step.action masks.now first.now
-        step.still step.changed n) at duties k takers }
-{
-    if model::Model::AUTOMATA <= k {
-        return false;
+    // The first duty is that automaton k takes the action; the others are `duties`, and stand from `at` on. Takers come
+    // in rising order.
+    #[cycle(parted_seek_taken)]
+    #[tactic(auto, using(crate::proofs::FoundSteps::taken_laws))]
+    fn taken(&self, at: usize, n: usize, duties: u64, takers: u64, k: usize) -> bool
+        ensures { result ≡ taken_by
+            (seek_at self.now.words.now self.now.sets.now self.now.step.action self.now.masks.now
+            self.now.first.now self.now.step.still self.now.step.changed n) at duties k takers }
+    {
+        if model::Model::AUTOMATA <= k {
+            return false;
+        }
+        let one = table_tree::single(k as u32);
+        if one <= takers {
+            return false;
+        }
+        self.seek(at, n, duties, takers + one)
     }
-    let one = power(k);
-    if one <= takers {
-        return false;
-    }
-    seek(words, sets, masks, first, step, at, n, duties, takers + one)
 }

@@ -7,10 +7,12 @@ mod duties;
 ghost use Rattle.std.specs.Prelude.{◌≡◌};
 ghost use Rattle.judge_search.specs.Found.{found_in};
 
+use crate::duties::Search;
 pub use duties::Step;
 
 // Can the tree's automata take the action so that every changed variable is mentioned? The tree's nodes stand from `at`
 // on; `sets` has the automata's own synchronising sets; automaton k's candidates are `masks[first[k] .. first[k + 1]]`.
+#[tactic(auto, using(crate::proofs::FoundSteps::found_by))]
 pub fn found(
     words: &[u32],
     at: usize,
@@ -22,6 +24,12 @@ pub fn found(
     ensures { result ≡ found_in words.now at sets.now step.action masks.now
         first.now step.still step.changed }
 {
-    let nodes = model::Tree::NODES;
-    duties::seek(words, sets, masks, first, step, at, nodes, 3, 0)
+    let search = Search {
+        words,
+        sets,
+        masks,
+        first,
+        step,
+    };
+    search.seek(at, model::Tree::NODES, 3, 0)
 }

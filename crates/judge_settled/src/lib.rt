@@ -7,10 +7,10 @@ ghost use Rattle.judge_settled.specs.Settled.{part_at, part_holds, location_hold
 ghost use Rattle.judge_settled.specs.Settled.{settled_at};
 
 use judge_rows::{Phase, State};
-use table_places::Layout;
+use table_places::Sheet;
 
 // Which of a location's two predicates.
-#[derive(Clone, Copy)]
+#[derive(Clone, Copy, Debug, PartialEq, Eq)]
 pub enum Part {
     Init,
     Inv,
@@ -37,66 +37,66 @@ fn part_at(words: &[u32], part: Part, at: usize, j: usize) -> usize
 }
 
 // The predicate at `at`, its count first, holds of the state's values.
-fn part_holds(words: &[u32], x: Layout, at: usize, s: State) -> bool
-    ensures { result ≡ part_holds words.now x s.values at }
+fn part_holds(sheet: &Sheet<'_>, at: usize, s: State) -> bool
+    ensures { result ≡ part_holds sheet.now.words.now sheet.now.layout s.values at }
 {
-    let n = table_places::variables_of(x);
-    let nodes = table_places::nodes_at(words, at);
+    let n = table_places::variables_of(sheet.layout);
+    let nodes = table_places::nodes_at(sheet.words, at);
     let values = s.values;
     let known = &values[..n];
-    evaluator::holds(words, nodes, known, known)
+    evaluator::holds(sheet.words, nodes, known, known)
 }
 
 // The predicate of automaton k's location holds, where `at` is the automaton's place.
-fn location_holds(words: &[u32], x: Layout, part: Part, s: State, at: usize, k: usize) -> bool
-    ensures { result ≡ location_holds words.now x part s at k }
+fn location_holds(sheet: &Sheet<'_>, part: Part, s: State, at: usize, k: usize) -> bool
+    ensures { result ≡ location_holds sheet.now.words.now sheet.now.layout part s at k }
 {
-    part_holds(words, x, part_at(words, part, at, location(s, k)), s)
+    part_holds(sheet, part_at(sheet.words, part, at, location(s, k)), s)
 }
 
 // The predicate of each automaton's location holds.
-fn all_hold(words: &[u32], x: Layout, part: Part, s: State) -> bool
-    ensures { result ≡ all_hold words.now x part s }
+fn all_hold(sheet: &Sheet<'_>, part: Part, s: State) -> bool
+    ensures { result ≡ all_hold sheet.now.words.now sheet.now.layout part s }
 {
-    let places = x.sets;
-    (0..table_places::automata_of(x)).all(|k| location_holds(words, x, part, s, places[k], k))
+    let n = table_places::automata_of(sheet.layout);
+    (0..n).all(|k| location_holds(sheet, part, s, sheet.layout.sets[k], k))
 }
 
 // Every P holds. They are predicates, one after the other.
-fn starts_hold(words: &[u32], x: Layout, s: State) -> bool
-    ensures { result ≡ starts_hold_at words.now x s }
+fn starts_hold(sheet: &Sheet<'_>, s: State) -> bool
+    ensures { result ≡ starts_hold_at sheet.now.words.now sheet.now.layout s }
 {
-    let place = table_places::starts_at(words, x);
-    let n = table_places::start_count(words, place);
-    let mut at = table_places::first_start(words, place);
+    let place = table_places::starts_at(sheet.words, sheet.layout);
+    let n = table_places::start_count(sheet.words, place);
+    let mut at = table_places::first_start(sheet.words, place);
     for _ in 0..n {
-        if !part_holds(words, x, at, s) {
+        if !part_holds(sheet, at, s) {
             return false;
         }
-        at = table_places::after_predicate(words, at);
+        at = table_places::after_predicate(sheet.words, at);
     }
     true
 }
 
 // In phase Start every init and every P holds; in phase Running they play no part.
-fn started(words: &[u32], x: Layout, s: State) -> bool
-    ensures { result ≡ started words.now x s }
+fn started(sheet: &Sheet<'_>, s: State) -> bool
+    ensures { result ≡ started sheet.now.words.now sheet.now.layout s }
 {
     match s.phase {
-        Phase::Start => all_hold(words, x, Part::Init, s) & starts_hold(words, x, s),
+        Phase::Start => all_hold(sheet, Part::Init, s) & starts_hold(sheet, s),
         Phase::Running => true,
     }
 }
 
 // For a step or a change from s to t: the inits, P's and invs that s needs, and the invs of t.
-pub fn settled(words: &[u32], x: Layout, s: State, t: State) -> bool
-    ensures { result ≡ settled_at words.now x s t }
+pub fn settled(sheet: &Sheet<'_>, s: State, t: State) -> bool
+    ensures { result ≡ settled_at sheet.now.words.now sheet.now.layout s t }
 {
-    if !started(words, x, s) {
+    if !started(sheet, s) {
         return false;
     }
-    if !all_hold(words, x, Part::Inv, s) {
+    if !all_hold(sheet, Part::Inv, s) {
         return false;
     }
-    all_hold(words, x, Part::Inv, t)
+    all_hold(sheet, Part::Inv, t)
 }

@@ -38,10 +38,6 @@ module _ (s : State) (a : ℕ) (l' : List ℕ) (v' : List ℤ) (b : Bool) (h : b
   unfolding proposed_on
   proposed_new i r j = rw (sym h ∙ i, proposed_on) j
 
-pub ruleset judged_laws = (judged_environment, judged_step)
-
-pub ruleset proposed_laws = (proposed_still, proposed_new)
-
 -- `moved`
 module _ (x : Result Answer Row) (s t : State) where
   pub moved_yes : x ≡ Ok Yes → t ≡ moved_to x s t
@@ -60,11 +56,11 @@ module _ (x : Result Answer Row) (s t : State) where
   unfolding moved_to
   moved_refused row e = rw e
 
-pub ruleset moved_laws = (moved_yes, moved_marked, moved_no, moved_refused)
-
 -- `put`
 pub turn_is : (w : List ℕ) (x : Layout) (own : List ℕ) (s : State) (a : ℕ) (l' : List ℕ) (v' : List ℤ) (t : State) (y : Result Answer Row) (num : ℕ) (r : State)
     → t ≡ proposed_on s a l' v' → y ≡ judged_on w x own s a l' v' t → num ≡ answer_number (answer_of y) % 2 ^ 32 → r ≡ moved_to y s t
     → ◌≡◌ {A = Turn} (record { number = num; state = r }) (turn_on w x own s a l' v')
 unfolding turn_on
 turn_is w x own s a l' v' t y num r g e f h = rw (f, h, e, g)
+
+pub ruleset turn_laws = (judged_environment, judged_step, proposed_still, proposed_new, moved_yes, moved_marked, moved_no, moved_refused, turn_is)

@@ -1,6 +1,6 @@
 // One proposal of a run: its answer, and the state after it. The state that the run is in has passed the rows; the
 // proposed one is checked.
-#![tactic(auto)]
+#![tactic(auto, using(crate::proofs::TurnLaws::turn_laws))]
 
 ghost use Rattle.std.specs.Prelude.{◌≡◌, eqb};
 ghost use Rattle.judge_turn.specs.Turns.{environment_mark, judged_on, proposed_on, moved_to, turn_on};
@@ -8,8 +8,10 @@ ghost use Rattle.judge_turn.specs.Turns.{environment_mark, judged_on, proposed_o
 use judge_call::Answer;
 use judge_rows::{Phase, State};
 use model::Row;
-use table_places::Layout;
+use table_places::Sheet;
 
+// The environment stays a number among the actions: the promise of `judge::run` (`run_answer`) and the C interface have
+// it so, and it is asked for here alone.
 fn for_environment(action: u32) -> bool
     ensures { result ≡ eqb action environment_mark }
 {
@@ -18,8 +20,7 @@ fn for_environment(action: u32) -> bool
 
 // The answer to one proposal, from the state s that the run is in to the proposed state t.
 fn judged(
-    words: &[u32],
-    x: Layout,
+    sheet: &Sheet<'_>,
     own: &[u64],
     s: State,
     action: u32,
@@ -27,13 +28,13 @@ fn judged(
     new_values: &[i32],
     t: State,
 ) -> Result<Answer, Row>
-    ensures { result ≡ judged_on words.now x own.now s action new_locations.now
+    ensures { result ≡ judged_on sheet.now.words.now sheet.now.layout own.now s action new_locations.now
         new_values.now t }
 {
     if for_environment(action) {
-        return judge_call::environment_from(words, x, s, new_values, t);
+        return judge_call::environment_from(sheet, s, new_values, t);
     }
-    judge_call::step_from(words, x, own, s, action, new_locations, new_values, t)
+    judge_call::step_from(sheet, own, s, action, new_locations, new_values, t)
 }
 
 // The state that is proposed: for the environment judge the automata keep their locations.
@@ -58,26 +59,25 @@ fn moved(answer: Result<Answer, Row>, s: State, t: State) -> State
 }
 
 // One proposal: the number of its answer, and the state after it.
-#[derive(Clone, Copy)]
+#[derive(Clone, Copy, Debug, PartialEq, Eq)]
 pub struct Turn {
     pub number: u32,
     pub state: State,
 }
 
 pub fn put(
-    words: &[u32],
-    x: Layout,
+    sheet: &Sheet<'_>,
     own: &[u64],
     s: State,
     action: u32,
     new_locations: &[u32],
     new_values: &[i32],
 ) -> Turn
-    ensures { result ≡ turn_on words.now x own.now s action new_locations.now
+    ensures { result ≡ turn_on sheet.now.words.now sheet.now.layout own.now s action new_locations.now
         new_values.now }
 {
     let t = proposed(s, action, new_locations, new_values);
-    let answer = judged(words, x, own, s, action, new_locations, new_values, t);
+    let answer = judged(sheet, own, s, action, new_locations, new_values, t);
     let number = judge_call::number(answer);
     let state = moved(answer, s, t);
     Turn { number, state }

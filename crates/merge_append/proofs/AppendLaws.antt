@@ -11,18 +11,14 @@ use Rattle.table_append.specs.Append.{next_place, put}
 use Rattle.table_append.proofs.Joined.{next_then, put_then}
 use Rattle.table_append.proofs.Stored.{put_sets}
 use Rattle.table_places.specs.Outline.{reach, nodes_place}
-use Rattle.merge_append.specs.Append.{narrow, placed, Appended}
+use Rattle.merge_append.specs.declared.append.Filling.{Filling}
+use Rattle.merge_append.specs.Append.{narrow, placed, Appended, Filled}
 use Rattle.merge_append.specs.Runs.{run, nodes_at}
 
--- nothing; one word; some words and then others
+-- nothing; some words and then others
 pub nothing : (old : List ℕ) (at : ℕ) → Appended [] at old old at
 unfolding placed put
 nothing old at = record { next = refl; memory = refl }
-
-pub put_is : (x y at r : ℕ) (old new : List ℕ) → y ≡ narrow x → r ≡ next_place at 1 → new ≡ put at (y ∷ []) old
-    → Appended (x ∷ []) at old new r
-unfolding placed
-put_is x y at r old new e f g = record { next = f; memory = g ∙ ap (λ (w : ℕ). put at (w ∷ []) old) e }
 
 none_put : (at : ℕ) (old : List ℕ) → put at [] old ≡ old
 unfolding put
@@ -78,72 +74,87 @@ then {ws} {vs} {old} {mid} {new} {at} {a} {r} p q = go ws vs p q
     go (k ∷ ks) [] f g = then_none (k ∷ ks) f g
     go (k ∷ ks) (l ∷ ls) f g = then_some k l ks ls f g
 
+-- the same of a table that is being filled
+pub put_is : (x y n : ℕ) (ws : List ℕ) (old : Filling) → y ≡ narrow x → n ≡ next_place old.length 1
+    → ws ≡ put old.length (y ∷ []) old.words → Filled (x ∷ []) old (record { words = ws; length = n })
+unfolding placed put
+put_is x y n ws old e f g =
+    record {
+      added = record { next = f; memory = g ∙ ap (λ (w : ℕ). put old.length (w ∷ []) old.words) e };
+    }
+
+pub none_filled : (old : Filling) → Filled [] old old
+none_filled old = record { added = nothing old.words old.length }
+
+pub then_filled : {ws vs : List ℕ} {old mid new : Filling} → Filled ws old mid → Filled vs mid new
+    → Filled (ws ++ vs) old new
+then_filled p q = record { added = then p.added q.added }
+
 -- a loop that appends a list part by part: what is done, and what is to come
-pub record Underway (whole : List ℕ) (at : ℕ) (old rest : List ℕ) (next : ℕ) (now : List ℕ) : Type 0 where
+pub record Underway (whole : List ℕ) (old : Filling) (rest : List ℕ) (now : Filling) : Type 0 where
   pub done : List ℕ
   pub parts : done ++ rest ≡ whole
-  pub so_far : Appended done at old now next
+  pub so_far : Filled done old now
 
-pub begun : (whole : List ℕ) (at : ℕ) (old : List ℕ) → Underway whole at old whole at old
-begun whole at old = record { done = []; parts = refl; so_far = nothing old at }
+pub begun : (whole : List ℕ) (old : Filling) → Underway whole old whole old
+begun whole old = record { done = []; parts = refl; so_far = none_filled old }
 
-module _ {whole old rest now : List ℕ} {at next : ℕ} (u : Underway whole at old rest next now) where
-  pub on_by : {ws others new : List ℕ} {r : ℕ} → rest ≡ ws ++ others → Appended ws next now new r
-      → Underway whole at old others r new
+module _ {whole rest : List ℕ} {old now : Filling} (u : Underway whole old rest now) where
+  pub on_by : {ws others : List ℕ} {new : Filling} → rest ≡ ws ++ others → Filled ws now new
+      → Underway whole old others new
   on_by {ws} {others} e p =
       record {
         done = u.done ++ ws;
         parts = append_assoc u.done ws others ∙ ap (λ (l : List ℕ). u.done ++ l) (sym e)
             ∙ u.parts;
-        so_far = then u.so_far p;
+        so_far = then_filled u.so_far p;
       }
 
-  pub ended : rest ≡ [] → Appended whole at old now next
+  pub ended : rest ≡ [] → Filled whole old now
   ended e =
       let d : u.done ≡ whole = sym (append-nil u.done) ∙ ap (λ (l : List ℕ). u.done ++ l) (sym e) ∙ u.parts in
       rw d at u.so_far
 
 -- each way out of a turn of `put_all`
-module _ (xs old now : List ℕ) (at i next : ℕ) (u : Underway xs at old (drop i xs) next now) where
-  pub all_turn : i < length xs → (r : ℕ) (new : List ℕ) → Appended (get_or xs i 0 ∷ []) next now new r
-      → Underway xs at old (drop (i + 1) xs) r new
-  all_turn h r new a =
+module _ (xs : List ℕ) (old now : Filling) (i : ℕ) (u : Underway xs old (drop i xs) now) where
+  pub all_turn : i < length xs → (new : Filling) → Filled (get_or xs i 0 ∷ []) now new
+      → Underway xs old (drop (i + 1) xs) new
+  all_turn h new a =
       let one : drop i xs ≡ get_or xs i 0 ∷ drop (i + 1) xs = rw (add-one i) (drop-cons xs i 0 h) in
       on_by u one a
 
-  pub all_end : length xs ≤ i → Appended xs at old now next
+  pub all_end : length xs ≤ i → Filled xs old now
   all_end h = ended u (drop_of_length-le xs h)
 
 pub ruleset all_laws = (begun, all_turn, all_end)
 
 -- each way out of a turn of `copy`
-module _ (t whole old now : List ℕ) (at place count i next : ℕ)
-    (u : Underway whole at old (run t place (count - i)) next now) where
-  pub copy_turn : i < count → (x p r : ℕ) (new : List ℕ) → x ≡ get_or t place 0 → Appended (x ∷ []) next now new r
-      → p ≡ reach t place 1 → Underway whole at old (run t p (count - (i + 1))) r new
+module _ (t whole : List ℕ) (old now : Filling) (place count i : ℕ)
+    (u : Underway whole old (run t place (count - i)) now) where
+  pub copy_turn : i < count → (x p : ℕ) (new : Filling) → x ≡ get_or t place 0 → Filled (x ∷ []) now new
+      → p ≡ reach t place 1 → Underway whole old (run t p (count - (i + 1))) new
   unfolding run
-  copy_turn h x p r new e a f =
+  copy_turn h x p new e a f =
       let n : count - i ≡ suc (count - (i + 1)) = omega arith in
       rw f
       (on_by u
       (ap (run t place) n ∙ ap (λ (w : ℕ). (w ∷ []) ++ run t (reach t place 1) (count - (i + 1))) (sym e)) a)
 
-  pub copy_end : count ≤ i → Appended whole at old now next
+  pub copy_end : count ≤ i → Filled whole old now
   unfolding run
   copy_end h = let n : count - i ≡ 0 = omega arith in ended u (ap (run t place) n)
 
-pub copy_begun : (t : List ℕ) (from count at : ℕ) (old : List ℕ)
-    → Underway (run t from count) at old (run t from (count - 0)) at old
-copy_begun t from count at old =
-    let z : count - 0 ≡ count = omega arith in rw z (begun (run t from count) at old)
+pub copy_begun : (t : List ℕ) (from count : ℕ) (old : Filling)
+    → Underway (run t from count) old (run t from (count - 0)) old
+copy_begun t from count old = let z : count - 0 ≡ count = omega arith in rw z (begun (run t from count) old)
 
 pub ruleset copy_laws = (copy_begun, copy_turn, copy_end)
 
 -- `nodes`
-pub nodes_are : (t : List ℕ) (p at a n r : ℕ) (old new : List ℕ) → a ≡ nodes_place t p → n ≡ get_or t p 0
-    → Appended (run t a n) at old new r → Appended (nodes_at t p) at old new r
+pub nodes_are : (t : List ℕ) (p a n : ℕ) (old new : Filling) → a ≡ nodes_place t p → n ≡ get_or t p 0
+    → Filled (run t a n) old new → Filled (nodes_at t p) old new
 unfolding nodes_at
-nodes_are t p at a n r old new e f h = rw (← e, ← f) h
+nodes_are t p a n old new e f h = rw (← e, ← f) h
 
 -- Within the table, and where the words have 32 bits, the words stand in their place and the rest is as it was.
 pub appended_is : (ws : List ℕ) (at : ℕ) (old new : List ℕ) (r : ℕ) → Appended ws at old new r → map narrow ws ≡ ws

@@ -1,2 +1,3 @@
 pub mod AppendLaws
+pub mod Fronts
 pub mod NodeLaws

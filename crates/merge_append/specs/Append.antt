@@ -1,5 +1,6 @@
 -- What it means to append words to a table that is being filled.
 use Rattle.std.specs.Prelude.{◌≡◌, List, map, ℕ, zero, suc, ◌%◌, length}
+use Rattle.merge_append.specs.declared.append.Filling.{Filling}
 use Rattle.table_append.specs.Append.{next_place, put}
 
 -- a word has 32 bits
@@ -15,3 +16,7 @@ placed at (suc n) = next_place at (suc n)
 pub record Appended (ws : List ℕ) (at : ℕ) (old new : List ℕ) (r : ℕ) : Type 0 where
   pub next : r ≡ placed at (length ws)
   pub memory : new ≡ put at (map narrow ws) old
+
+-- The same of a table that is being filled: they stand at its end, and it has so many more.
+pub record Filled (ws : List ℕ) (old new : Filling) : Type 0 where
+  pub added : Appended ws old.length old.words new.words new.length

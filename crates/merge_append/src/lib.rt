@@ -5,7 +5,7 @@
 mod append;
 mod words;
 
-pub use append::{copy, narrow, nodes, put, put_all};
+pub use append::{Filling, narrow};
 pub use words::{
     add, all_node, eq_node, imp_node, new_node, number_node, old_node, pointer, upward,
 };

@@ -11,8 +11,9 @@ use Rattle.table_places.specs.declared.layout.Layout.{Layout}
 use Rattle.table_places.specs.Outline.{first_automaton}
 use Rattle.table_places.specs.Layout.{automata_of}
 use Rattle.table_places.specs.Starts.{starts_at, start_count, first_start, start_at}
-use Rattle.merge_append.specs.Append.{Appended}
-use Rattle.merge_append.proofs.AppendLaws.{then}
+use Rattle.merge_append.specs.declared.append.Filling.{Filling}
+use Rattle.merge_append.specs.Append.{Filled}
+use Rattle.merge_append.proofs.AppendLaws.{then_filled}
 use Rattle.merge_distinct.specs.Firsts.{edges_of, first_ones, Gathered}
 use Rattle.merge_distinct.specs.Distinct.{repeats_from, repeats_in, part, automata_words, tree_end, distinct_words}
 
@@ -65,10 +66,9 @@ unfolding tree_end
 tree_end_is t x at first count r e f g h = rw (h, f, g, e)
 
 -- `distinct`
-pub distinct_is : (t : List ℕ) (x : Layout) (first end a b r : ℕ) (old mid new last : List ℕ)
-    → first ≡ first_automaton t → Appended (part t 0 first) 0 old mid a
-    → Appended (automata_words t x.sets x.edges 0 (automata_of x)) a mid new b → end ≡ tree_end t x
-    → Appended (part t x.tree end) b new last r
-    → Appended (distinct_words t x) 0 old last r
+pub distinct_is : (t : List ℕ) (x : Layout) (first end : ℕ) (old mid new last : Filling)
+    → first ≡ first_automaton t → Filled (part t 0 first) old mid
+    → Filled (automata_words t x.sets x.edges 0 (automata_of x)) mid new → end ≡ tree_end t x
+    → Filled (part t x.tree end) new last → Filled (distinct_words t x) old last
 unfolding distinct_words
-distinct_is t x first end a b r old mid new last ef p q ee s = rw (← ef, ← ee) (then p (then q s))
+distinct_is t x first end old mid new last ef p q ee s = rw (← ef, ← ee) (then_filled p (then_filled q s))

@@ -1,6 +1,6 @@
 // The words that are copied: all but the edges that are repeats.
 ghost use Rattle.std.specs.Prelude.{◌≡◌, length, take};
-ghost use Rattle.merge_append.specs.Append.{Appended};
+ghost use Rattle.merge_append.specs.Append.{Filled};
 ghost use Rattle.merge_append.specs.Runs.{run};
 ghost use Rattle.merge_distinct.specs.Equality.{edge_length};
 ghost use Rattle.merge_distinct.specs.Distinct.{part, edge_words, automaton_words, automata_words};
@@ -8,72 +8,54 @@ ghost use Rattle.table_places.specs.Layout.{automata_of};
 
 use crate::equality::{self};
 use crate::firsts::{self};
+use merge_append::Filling;
 use model::Model;
 use table_places::Layout;
 
 // From one place up to another; nothing, if that is not behind.
-pub fn part(t: &[u32], from: usize, to: usize, out: &mut [u32; Model::WORDS], at: usize) -> usize
-    ensures { Appended (part t.now from to) at out.old out.new result }
+pub fn part(t: &[u32], from: usize, to: usize, out: &mut Filling)
+    ensures { Filled (part t.now from to) out.old out.new }
 {
-    merge_append::copy(t, from, to.saturating_sub(from), out, at)
+    out.copy(t, from, to.saturating_sub(from));
 }
 
 // The edge at a place.
-fn edge(t: &[u32], place: usize, out: &mut [u32; Model::WORDS], at: usize) -> usize
-    ensures { Appended (run t.now place (edge_length t.now place))
-        at out.old out.new result }
+#[tactic(auto, using(crate::proofs::CopyingLaws::edge_is))]
+fn edge(t: &[u32], place: usize, out: &mut Filling)
+    ensures { Filled (run t.now place (edge_length t.now place)) out.old out.new }
 {
-    merge_append::copy(t, place, equality::edge_length(t, place), out, at)
+    out.copy(t, place, equality::edge_length(t, place));
 }
 
 // The first n edges that are listed.
-fn edges(
-    t: &[u32],
-    firsts: &[usize; Model::EDGES],
-    n: usize,
-    out: &mut [u32; Model::WORDS],
-    at: usize,
-) -> usize
-    ensures { Appended (edge_words t.now (take n firsts.now))
-        at out.old out.new result }
+fn edges(t: &[u32], firsts: &[usize; Model::EDGES], n: usize, out: &mut Filling)
+    ensures { Filled (edge_words t.now (take n firsts.now)) out.old out.new }
 {
-    let mut next = at;
     for first in &firsts[..n.min(Model::EDGES)] {
-        next = edge(t, *first, out, next);
+        edge(t, *first, out);
     }
-    next
 }
 
 // The automaton whose set stands at one place, and whose count of edges at another.
-fn automaton(
-    t: &[u32],
-    set: usize,
-    place: usize,
-    seen: &mut [bool; 4096],
-    out: &mut [u32; Model::WORDS],
-    at: usize,
-) -> usize
-    ensures appended { Appended (automaton_words t.now set place)
-        at out.old out.new result }
+fn automaton(t: &[u32], set: usize, place: usize, seen: &mut [bool; 4096], out: &mut Filling)
+    ensures appended { Filled (automaton_words t.now set place) out.old out.new }
     ensures seen_len { length seen.new ≡ 4096 }
 {
     let mut firsts = [0usize; Model::EDGES];
     let n = firsts::gather(t, place, seen, &mut firsts);
-    let a = part(t, set, place, out, at);
-    let b = merge_append::put(n, out, a);
-    edges(t, &firsts, n, out, b)
+    part(t, set, place, out);
+    out.put(n);
+    edges(t, &firsts, n, out);
 }
 
 // All automata.
-pub fn automata(t: &[u32], x: Layout, out: &mut [u32; Model::WORDS], at: usize) -> usize
-    ensures { Appended (automata_words t.now x.sets x.edges 0 (automata_of x))
-        at out.old out.new result }
+pub fn automata(t: &[u32], x: Layout, out: &mut Filling)
+    ensures { Filled (automata_words t.now x.sets x.edges 0 (automata_of x)) out.old out.new }
 {
     let count = table_places::automata_of(x);
     let mut seen = [false; 4096];
-    let mut next = at;
-    for i in 0..count {
-        next = automaton(t, x.sets[i], x.edges[i], &mut seen, out, next);
+    // `edges` keeps its index: with a zip of both slices the goals `preserved` and `returns` stayed open.
+    for (i, set) in x.sets[..count].iter().enumerate() {
+        automaton(t, *set, x.edges[i], &mut seen, out);
     }
-    next
 }

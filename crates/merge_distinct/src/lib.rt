@@ -7,23 +7,24 @@ mod equality;
 mod firsts;
 
 ghost use Rattle.std.specs.Prelude.{◌≡◌};
-ghost use Rattle.merge_append.specs.Append.{Appended};
+ghost use Rattle.merge_append.specs.Append.{Filled};
 ghost use Rattle.merge_distinct.specs.Distinct.{repeats_in, tree_end, distinct_words};
 
+use merge_append::Filling;
 use model::Model;
 use table_places::Layout;
 
 // Has some automaton an edge twice?
+#[tactic(auto, using(crate::proofs::WholeLaws::repeats_laws, merge_append::proofs::Fronts::front_laws))]
 pub fn repeats(t: &[u32], x: Layout) -> bool
     ensures { result ≡ repeats_in t.now x }
 {
     let count = table_places::automata_of(x);
     let mut seen = [false; 4096];
     let mut firsts = [0usize; Model::EDGES];
-    for i in 0..count {
-        let edges = x.edges[i];
-        let n = firsts::gather(t, edges, &mut seen, &mut firsts);
-        if n != firsts::edges_of(t, edges) {
+    for edges in &x.edges[..count] {
+        let n = firsts::gather(t, *edges, &mut seen, &mut firsts);
+        if n != firsts::edges_of(t, *edges) {
             return true;
         }
     }
@@ -31,6 +32,7 @@ pub fn repeats(t: &[u32], x: Layout) -> bool
 }
 
 // Where the tree's words end: after its start conditions.
+#[tactic(auto, using(crate::proofs::WholeLaws::tree_end_is))]
 fn tree_end(t: &[u32], x: Layout) -> usize
     ensures { result ≡ tree_end t.now x }
 {
@@ -39,11 +41,11 @@ fn tree_end(t: &[u32], x: Layout) -> usize
     table_places::start_at(t, first, table_places::start_count(t, at))
 }
 
-// The sheet's words without the repeats, from the table's first word on.
-pub fn distinct(t: &[u32], x: Layout, out: &mut [u32; Model::WORDS]) -> usize
-    ensures { Appended (distinct_words t.now x) 0 out.old out.new result }
+// The sheet's words without the repeats.
+pub fn distinct(t: &[u32], x: Layout, out: &mut Filling)
+    ensures { Filled (distinct_words t.now x) out.old out.new }
 {
-    let a = copying::part(t, 0, table_places::first_automaton(t), out, 0);
-    let b = copying::automata(t, x, out, a);
-    copying::part(t, x.tree, tree_end(t, x), out, b)
+    copying::part(t, 0, table_places::first_automaton(t), out);
+    copying::automata(t, x, out);
+    copying::part(t, x.tree, tree_end(t, x), out);
 }

@@ -6,7 +6,8 @@ use native.Mathlib.Omega.{arith}
 use lib.ListN.{length, get_or, drop}
 use borrow.Author.Tests.{eq-eqb, ne_eqb}
 use Rattle.table_places.specs.Outline.{reach, edge_action}
-use Rattle.merge_append.specs.Append.{Appended}
+use Rattle.merge_append.specs.declared.append.Filling.{Filling}
+use Rattle.merge_append.specs.Append.{Filled}
 use Rattle.merge_append.specs.Runs.{run}
 use Rattle.merge_append.proofs.AppendLaws.{Underway, begun, on_by, ended}
 use Rattle.merge_edges.specs.Edge.{edge_by}
@@ -35,31 +36,30 @@ module _ (t places : List ℕ) (i whole : ℕ) (e : length places ≡ 16) (u : a
 pub ruleset action_laws = (action_none, action_here, action_on)
 
 -- `edge`
-pub edge_is : (t places : List ℕ) (v action at r : ℕ) (old new : List ℕ) → action ≡ action_at t places
-    → Appended (edge_by t v action places) at old new r
-    → Appended (edge_of t v places) at old new r
+pub edge_is : (t places : List ℕ) (v action : ℕ) (old new : Filling) → action ≡ action_at t places
+    → Filled (edge_by t v action places) old new → Filled (edge_of t v places) old new
 unfolding edge_of
-edge_is t places v action at r old new e a = rw (← e) a
+edge_is t places v action old new e a = rw (← e) a
 
 -- `all_edges`
-module _ (t list whole old now : List ℕ) (v at place count i next : ℕ)
-    (u : Underway whole at old (edges_from t v list place (count - i)) next now) where
-  pub all_turn : i < count → (places : List ℕ) (p r : ℕ) (new : List ℕ) → places ≡ run list place 16
-      → Appended (edge_of t v places) next now new r → p ≡ reach list place 16
-      → Underway whole at old (edges_from t v list p (count - (i + 1))) r new
+module _ (t list whole : List ℕ) (old now : Filling) (v place count i : ℕ)
+    (u : Underway whole old (edges_from t v list place (count - i)) now) where
+  pub all_turn : i < count → (places : List ℕ) (p : ℕ) (new : Filling) → places ≡ run list place 16
+      → Filled (edge_of t v places) now new → p ≡ reach list place 16
+      → Underway whole old (edges_from t v list p (count - (i + 1))) new
   unfolding edges_from
-  all_turn h places p r new e a f =
+  all_turn h places p new e a f =
       let n : count - i ≡ suc (count - (i + 1)) = omega arith in
       let others = edges_from t v list (reach list place 16) (count - (i + 1)) in
       rw f (on_by u (ap (edges_from t v list place) n ∙ ap (λ (l : List ℕ). edge_of t v l ++ others) (sym e)) a)
 
-  pub all_end : count ≤ i → Appended whole at old now next
+  pub all_end : count ≤ i → Filled whole old now
   unfolding edges_from
   all_end h = let z : count - i ≡ 0 = omega arith in ended u (ap (edges_from t v list place) z)
 
-pub all_begun : (t list : List ℕ) (v count at : ℕ) (old : List ℕ)
-    → Underway (edges_from t v list 0 count) at old (edges_from t v list 0 (count - 0)) at old
-all_begun t list v count at old =
-    let z : count - 0 ≡ count = omega arith in rw z (begun (edges_from t v list 0 count) at old)
+pub all_begun : (t list : List ℕ) (v count : ℕ) (old : Filling)
+    → Underway (edges_from t v list 0 count) old (edges_from t v list 0 (count - 0)) old
+all_begun t list v count old =
+    let z : count - 0 ≡ count = omega arith in rw z (begun (edges_from t v list 0 count) old)
 
 pub ruleset all_laws = (all_begun, all_turn, all_end)

@@ -2,84 +2,67 @@
 #![tactic(auto, using(crate::proofs::EdgeLaws::edge_laws))]
 
 ghost use Rattle.std.specs.Prelude.{◌≡◌, [], ◌∷◌};
-ghost use Rattle.merge_append.specs.Append.{Appended};
+ghost use Rattle.merge_append.specs.Append.{Filled};
 ghost use Rattle.merge_append.specs.NodeWords.{number_node, eq_node};
 ghost use Rattle.merge_edges.specs.Edge.{update_at, move_at, updates_at, moves_at, taker_nodes, takers_nodes};
 ghost use Rattle.merge_edges.specs.Edge.{taker_operands, takers_operands, edge_by, update_deep, updates_deep};
 
+use merge_append::Filling;
 use model::Model;
 
 // A taker's update.
-fn update(t: &[u32], place: usize, out: &mut [u32; Model::WORDS], at: usize) -> usize
-    ensures { Appended (update_at t.now place) at out.old out.new result }
+fn update(t: &[u32], place: usize, out: &mut Filling)
+    ensures { Filled (update_at t.now place) out.old out.new }
 {
     if place == 0 {
-        return at;
+        return;
     }
-    merge_append::nodes(t, table_places::update_at(t, place), out, at)
+    out.nodes(t, table_places::update_at(t, place));
 }
 
 // `eq` of an old or a new pointer and a location.
-fn equal(pointer: usize, location: usize, out: &mut [u32; Model::WORDS], at: usize) -> usize
-    ensures { Appended (eq_node ∷ pointer ∷ number_node location ∷ [])
-        at out.old out.new result }
+#[tactic(auto, using(crate::proofs::EdgeLaws::equal_is))]
+fn equal(pointer: usize, location: usize, out: &mut Filling)
+    ensures { Filled (eq_node ∷ pointer ∷ number_node location ∷ []) out.old out.new }
 {
     let words = [
         merge_append::eq_node(),
         pointer,
         merge_append::number_node(location),
     ];
-    merge_append::put_all(&words, out, at)
+    out.put_all(&words);
 }
 
 // A taker's pointer was FROM and becomes TO.
-fn pointer_move(
-    t: &[u32],
-    k: usize,
-    place: usize,
-    out: &mut [u32; Model::WORDS],
-    at: usize,
-) -> usize
-    ensures { Appended (move_at t.now k place) at out.old out.new result }
+fn pointer_move(t: &[u32], k: usize, place: usize, out: &mut Filling)
+    ensures { Filled (move_at t.now k place) out.old out.new }
 {
     if place == 0 {
-        return at;
+        return;
     }
     let from = table_places::edge_from(t, place);
     let to = table_places::edge_to(t, place);
-    let a = equal(merge_append::old_node(k), from, out, at);
-    equal(merge_append::new_node(k), to, out, a)
+    equal(merge_append::old_node(k), from, out);
+    equal(merge_append::new_node(k), to, out);
 }
 
 // The updates of all takers.
-fn updates(t: &[u32], places: [usize; 16], out: &mut [u32; Model::WORDS], at: usize) -> usize
-    ensures { Appended (updates_at t.now places)
-        at out.old out.new result }
+fn updates(t: &[u32], places: [usize; 16], out: &mut Filling)
+    ensures { Filled (updates_at t.now places) out.old out.new }
 {
-    let mut next = at;
     for place in places {
-        next = update(t, place, out, next);
+        update(t, place, out);
     }
-    next
 }
 
 // The pointers of all takers, after so many variables.
-fn pointer_moves(
-    t: &[u32],
-    variables: usize,
-    places: [usize; 16],
-    out: &mut [u32; Model::WORDS],
-    at: usize,
-) -> usize
-    ensures { Appended (moves_at t.now variables 0 places)
-        at out.old out.new result }
+fn pointer_moves(t: &[u32], variables: usize, places: [usize; 16], out: &mut Filling)
+    ensures { Filled (moves_at t.now variables 0 places) out.old out.new }
 {
-    let mut next = at;
     for (i, place) in places.iter().enumerate() {
         let pointer = merge_append::pointer(variables, i);
-        next = pointer_move(t, pointer, *place, out, next);
+        pointer_move(t, pointer, *place, out);
     }
-    next
 }
 
 // The nodes of a taker, its update's and six, added to a sum.
@@ -122,23 +105,15 @@ fn takers_operands(places: [usize; 16]) -> usize
 }
 
 // The merged edge of these takers, with pointers after so many variables.
-pub fn edge(
-    t: &[u32],
-    variables: usize,
-    action: usize,
-    places: [usize; 16],
-    out: &mut [u32; Model::WORDS],
-    at: usize,
-) -> usize
-    ensures { Appended (edge_by t.now variables action places)
-        at out.old out.new result }
+pub fn edge(t: &[u32], variables: usize, action: usize, places: [usize; 16], out: &mut Filling)
+    ensures { Filled (edge_by t.now variables action places) out.old out.new }
 {
     let nodes = takers_nodes(t, places);
     let operands = takers_operands(places);
     let head = [0, action, 0, nodes, merge_append::all_node(operands)];
-    let a = merge_append::put_all(&head, out, at);
-    let b = updates(t, places, out, a);
-    pointer_moves(t, variables, places, out, b)
+    out.put_all(&head);
+    updates(t, places, out);
+    pointer_moves(t, variables, places, out);
 }
 
 // Is a taker's update so deep that the merged edge's, one deeper, is too deep?

@@ -2,10 +2,11 @@
 #![tactic(auto, using(crate::proofs::EdgesLaws::action_laws))]
 
 ghost use Rattle.std.specs.Prelude.{◌≡◌};
-ghost use Rattle.merge_append.specs.Append.{Appended};
+ghost use Rattle.merge_append.specs.Append.{Filled};
 ghost use Rattle.merge_edges.specs.Edges.{action_at, edge_of, edges_from};
 
 use crate::edge::{self};
+use merge_append::Filling;
 use model::Model;
 
 // The action of the first taker's edge; 0 if there is no taker.
@@ -21,18 +22,11 @@ fn action_of(t: &[u32], places: [usize; 16]) -> usize
 }
 
 // The merged edge of these takers, with pointers after so many variables.
-fn edge(
-    t: &[u32],
-    variables: usize,
-    places: [usize; 16],
-    out: &mut [u32; Model::WORDS],
-    at: usize,
-) -> usize
-    ensures { Appended (edge_of t.now variables places)
-        at out.old out.new result }
+fn edge(t: &[u32], variables: usize, places: [usize; 16], out: &mut Filling)
+    ensures { Filled (edge_of t.now variables places) out.old out.new }
 {
     let action = action_of(t, places);
-    edge::edge(t, variables, action, places, out, at)
+    edge::edge(t, variables, action, places, out);
 }
 
 // The merged edges whose takers are the first `count` of the list, after so many variables.
@@ -41,18 +35,14 @@ pub fn all_edges(
     variables: usize,
     list: &[u32; Model::WORDS],
     count: usize,
-    out: &mut [u32; Model::WORDS],
-    at: usize,
-) -> usize
-    ensures { Appended (edges_from t.now variables list.now 0 count)
-        at out.old out.new result }
+    out: &mut Filling,
+)
+    ensures { Filled (edges_from t.now variables list.now 0 count) out.old out.new }
 {
     let mut place = 0;
-    let mut next = at;
     for _ in 0..count {
         let places = merge_takers::places_at(list, place);
-        next = edge(t, variables, places, out, next);
+        edge(t, variables, places, out);
         place = table_places::step(list, place, 16);
     }
-    next
 }

@@ -71,4 +71,4 @@ cell_is true count x v hx e = rw (hx, e)
 cell_is false count x v hx e = let z : x * 2 + v ≡ x * 2 = omega arith in rw (z, hx)
 
 -- what the equations in src/capping.rt need
-pub ruleset capping_laws = (capped_is, sides_product, sides_left, sides_right, sides_sum, cell_is)
+pub ruleset capping_laws = (product_fits, capped_is, sides_product, sides_left, sides_right, sides_sum, cell_is)

@@ -238,4 +238,14 @@ module _ (words cells : List ℕ) (root : ℕ) where
       unfolding pick_sides
       pick_nobody u = rw (pick_par, u)
 
-pub ruleset pick_laws = (pick_none, pick_syn, pick_leaf, pick_stray, pick_both, pick_left, pick_right, pick_nobody)
+pub ruleset pick_laws = (
+  pick_none,
+  pick_syn,
+  pick_leaf,
+  pick_stray,
+  pick_both,
+  pick_left,
+  pick_right,
+  pick_nobody,
+  pick_left_over,
+)

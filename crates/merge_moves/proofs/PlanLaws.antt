@@ -217,7 +217,7 @@ module _ (words sets under : List ℕ) (action root : ℕ) where
       unfolding fill_by
       fill_stray h p hp hn = fill_own cells (rw h) p (plan_stray p h p hp refl) hn
 
-pub ruleset plan_laws = (plan_none, plan_par, plan_syn, plan_leaf, plan_stray)
+pub ruleset plan_laws = (plan_none, plan_par, plan_syn, plan_leaf, plan_stray, plan_left)
 
 pub ruleset fill_laws = (fill_none, fill_par, fill_syn, fill_leaf, fill_stray)
 

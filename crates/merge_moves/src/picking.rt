@@ -10,6 +10,7 @@ use crate::planning::{self};
 use table_tree::Found;
 
 // Which sides of a `par` take part, each with the number of its own move.
+// Nobody stays a variant: with an Option five of the six arms of `divide` would say `Some(Taking::..)`.
 #[derive(Clone, Copy, Debug, PartialEq, Eq)]
 pub enum Taking {
     Both(u32, u32),
@@ -18,6 +19,7 @@ pub enum Taking {
     Nobody,
 }
 
+#[tactic(auto, using(crate::proofs::PickLaws::cell_at_is))]
 fn cell_at(cells: &[u32; 192], root: usize, at: usize) -> u32
     ensures { result ≡ cell_at cells.now root at }
 {
@@ -77,6 +79,7 @@ impl PlannedTree<'_> {
 
     // Move k of the subtree at `at`, with `left` nodes left: its own node uses one, and the rest goes from side to
     // side. The answer is how many are left.
+    #[tactic(auto, using(crate::proofs::PickLaws::pick_laws))]
     fn pick(&self, at: usize, left: usize, k: u32, edges: &mut [u32; 16]) -> usize
         ensures { picked edges.new result
             ≡ picked_at self.now.words.now self.now.cells.now self.now.root left at k edges.old }
@@ -110,6 +113,7 @@ impl PlannedTree<'_> {
 
 // For each automaton 1 + the number, among its edges under the action, of the edge that it takes in move k; 0 if it
 // takes none.
+#[tactic(auto, unfolding(crate::specs::Pick::pick_at))]
 pub fn pick(words: &[u32], at: usize, cells: &[u32; 192], k: u32) -> [u32; 16]
     ensures { result ≡ pick_at words.now cells.now at max_tree_nodes at k (replicate 16 0) }
 {

@@ -69,6 +69,7 @@ fn no_plan(at: usize, left: usize) -> Planned
 }
 
 // A node's cell is filled where there is one: a tree of 64 nodes has at most 192 words.
+#[tactic(auto, using(crate::proofs::PlanLaws::store_laws))]
 fn store(cells: &mut [u32; 192], root: usize, at: usize, p: Planned) -> Planned
     ensures { (result ≡ p) × (cells.new ≡ stored root at p cells.old) }
 {
@@ -105,6 +106,7 @@ impl Planning<'_> {
 
     // The subtree at `at`, with `left` nodes left: its own node uses one, and the rest goes from side to side. So on
     // any words no more nodes are read than were given.
+    #[tactic(auto, using(crate::proofs::PlanLaws::plan_laws, crate::proofs::PlanLaws::fill_laws))]
     fn plan(&self, at: usize, left: usize, cells: &mut [u32; 192]) -> Planned
         ensures { PlansTree self.now.words.now self.now.sets.now self.now.under.now self.now.action
             self.now.root left at cells.old cells.new result }

@@ -29,26 +29,18 @@ use Rattle.reader.specs.declared.Refusal.{Refusal}
 use Rattle.merge_output.specs.declared.Printed.{Printed}
 use Rattle.merger.specs.Answers.{merge_of}
 use Rattle.merger.specs.Outcome.{passed_on, outcome, outcome_after}
-use Rattle.merge_output.specs.Printed.{place_of, printed, Put, Stands}
-
--- `put` and `digits`
-place_is : (w : Option ℕ) → unwrap_or w 0 ≡ place_of w
-unfolding place_of
-place_is (Some n) = refl
-place_is None = refl
-
-pub put_by : (t : Bytes) (at : ℕ) (old new : Bytes) (w : Option ℕ) (n : ℕ) → Wrote t at old new w → n ≡ unwrap_or w 0 → Put t at old new n
-put_by t at old new w n x e = record { end = e ∙ place_is w ∙ ap place_of x.answer; memory = x.memory; long = x.long }
+use Rattle.merge_output.specs.Printed.{printed, Stands}
 
 -- `refusal`: a text is written on behind what stands in the first bytes
-stands_none : (old : Bytes) → Stands [] old old 0
+stands_none : (old : Bytes) → Stands [] old old (Some 0)
 unfolding with_text
 stands_none old = record { end = refl; memory = refl; long = refl }
 
-stands_then : (t u old mid new : Bytes) (n k : ℕ) → Stands t old mid n → Put u n mid new k → length t + length u ≤ length old → Stands (t ++ u) old new k
-unfolding written_to after fits place_of with_text
-stands_then t u old mid new n k s x room =
-    let n-is = s.end in
+stands_then : (t u old mid new : Bytes) (n : ℕ) (w : Option ℕ) → Stands t old mid (Some n) → Wrote u n mid new w → length t + length u ≤ length old → Stands (t ++ u) old new w
+unfolding written_to after fits with_text
+stands_then t u old mid new n w s x room =
+    let at : ◌≡◌ {A = Option ℕ} (Some n) (Some (length t)) = s.end in
+    let n-is : n ≡ length t = cc in
     let mid-long = s.long in
     let h : n + length u ≤ length mid = omega arith in
     let f : leb (n + length u) (length mid) ≡ true = le-leb (n + length u) (length mid) h in
@@ -63,36 +55,86 @@ stands_then t u old mid new n k s x room =
     drop-drop (length u) (length t) old ∙
     ap (λ (i : ℕ). drop i old) (sym both) in
     record {
-      end = x.end ∙ ap place_of r ∙ ap (λ (i : ℕ). i + length u) n-is ∙ sym both;
+      end = x.answer ∙ r ∙ ap (λ (i : ℕ). Some i) (ap (λ (i : ℕ). i + length u) n-is ∙ sym both);
       memory = m ∙ ap₂ (λ (a b : Bytes). (a ++ u) ++ b) first rest;
       long = x.long ∙ mid-long;
     }
 
--- it is short: a number of 32 bits has at most ten digits
-pub refusal_is : (row line k : ℕ) (old m1 m2 m3 m4 new : Bytes) (a b c d r : ℕ) → 30 ≤ length old → row < 4294967296 → Put (bytes "refused=") 0 old m1 a → Put (decimal row) a m1 m2 b
-    → Put (bytes ",") b m2 m3 c → k ≡ line % 4294967296 → Put (decimal k) c m3 m4 d → Put (bytes "\n") d m4 new r → Stands (refusal row (line % 4294967296)) old new r
-unfolding refusal
-refusal_is row line k old m1 m2 m3 m4 new a b c d r room low p q s e t z =
-    let row-short = decimal_width 9 row (omega arith) in
-    let k_low : k < 4294967296 = subst (λ (n : ℕ). n < 4294967296) (sym e) (mod-lt line (omega arith)) in
-    let k-short = decimal_width 9 k (omega arith) in
-    let t1 = bytes "refused=" in
-    let t2 = t1 ++ decimal row in
-    let t3 = t2 ++ bytes "," in
-    let t4 = t3 ++ decimal k in
-    let l2 = length-append t1 (decimal row) in
-    let l3 = length-append t2 (bytes ",") in
-    let l4 = length-append t3 (decimal k) in
-    let s1 = stands_then [] t1 old old m1 0 a (stands_none old) p (omega arith) in
-    let s2 = stands_then t1 (decimal row) old m1 m2 a b s1 q (omega arith) in
-    let s3 = stands_then t2 (bytes ",") old m2 m3 b c s2 s (omega arith) in
-    let s4 = stands_then t3 (decimal k) old m3 m4 c d s3 t (omega arith) in
-    let s5 = stands_then t4 (bytes "\n") old m4 new d r s4 z (omega arith) in
-    let right : t4 ++ bytes "\n" ≡ refusal row k = joined_right t1 (decimal row) (bytes ",") (decimal k) (bytes "\n") in
-    subst (λ (b : Bytes). Stands b old new r) (right ∙ ap (refusal row) e) s5
-  where
-    joined_right : (a b c d e : Bytes) → (((a ++ b) ++ c) ++ d) ++ e ≡ a ++ (b ++ (c ++ (d ++ e)))
-    joined_right a b c d e = simp append_assoc
+-- what stands there has an end
+no_end : {P : Type 0} (t old new : Bytes) → Stands t old new None → P
+no_end t old new s =
+    let at : ◌≡◌ {A = Option ℕ} None (Some (length t)) = s.end in
+    let z : ◌≡◌ {A = ℕ} 0 1 = cc in
+    absurd (omega arith)
+
+-- its five parts are short: a number of 32 bits has at most ten digits
+module _ (row line : ℕ) (old : Bytes) (room : 30 ≤ length old) (low : row < 4294967296) where
+  row_short : length (decimal row) ≤ 10
+  row_short = decimal_width 9 row (omega arith)
+
+  line_short : (k : ℕ) → k ≡ line % 4294967296 → length (decimal k) ≤ 10
+  line_short k e =
+      let low : k < 4294967296 = subst (λ (n : ℕ). n < 4294967296) (sym e) (mod-lt line (omega arith)) in
+      decimal_width 9 k (omega arith)
+
+  abbrev t1 : Bytes
+  t1 = bytes "refused="
+
+  abbrev t2 : Bytes
+  t2 = t1 ++ decimal row
+
+  abbrev t3 : Bytes
+  t3 = t2 ++ bytes ","
+
+  l2 : length t2 ≤ 18
+  l2 = omega (arith, length-append t1 (decimal row), row_short)
+
+  l3 : length t3 ≤ 19
+  l3 = omega (arith, length-append t2 (bytes ","), l2)
+
+  one : (m : Bytes) (w : Option ℕ) → Wrote t1 0 old m w → Stands t1 old m w
+  one m w x = stands_then [] t1 old old m 0 w (stands_none old) x (omega arith)
+
+  module _ (m1 : Bytes) (a : ℕ) (x1 : Wrote t1 0 old m1 (Some a)) where
+    two : (m : Bytes) (w : Option ℕ) → Wrote (decimal row) a m1 m w → Stands t2 old m w
+    two m w x = stands_then t1 (decimal row) old m1 m a w (one m1 (Some a) x1) x (omega (arith, row_short))
+
+    module _ (m2 : Bytes) (b : ℕ) (x2 : Wrote (decimal row) a m1 m2 (Some b)) where
+      three : (m : Bytes) (w : Option ℕ) → Wrote (bytes ",") b m2 m w → Stands t3 old m w
+      three m w x = stands_then t2 (bytes ",") old m2 m b w (two m2 (Some b) x2) x (omega (arith, l2))
+
+      module _ (m3 : Bytes) (c : ℕ) (x3 : Wrote (bytes ",") b m2 m3 (Some c)) where
+        module _ (k : ℕ) (e : k ≡ line % 4294967296) where
+          abbrev t4 : Bytes
+          t4 = t3 ++ decimal k
+
+          l4 : length t4 ≤ 29
+          l4 = omega (arith, length-append t3 (decimal k), l3, line_short k e)
+
+          four : (m : Bytes) (w : Option ℕ) → Wrote (decimal k) c m3 m w → Stands t4 old m w
+          four m w x = stands_then t3 (decimal k) old m3 m c w (three m3 (Some c) x3) x (omega (arith, l3, line_short k e))
+
+          pub refusal_is : (m4 : Bytes) (d : ℕ) → Wrote (decimal k) c m3 m4 (Some d) → (new : Bytes) (w : Option ℕ) → Wrote (bytes "\n") d m4 new w → Stands (refusal row (line % 4294967296)) old new w
+          unfolding refusal
+          refusal_is m4 d x4 new w x =
+              let whole = stands_then t4 (bytes "\n") old m4 new d w (four m4 (Some d) x4) x (omega (arith, l4)) in
+              let right : t4 ++ bytes "\n" ≡ refusal row k = joined_right t1 (decimal row) (bytes ",") (decimal k) (bytes "\n") in
+              subst (λ (b : Bytes). Stands b old new w) (right ∙ ap (refusal row) e) whole
+            where
+              joined_right : (a b c d e : Bytes) → (((a ++ b) ++ c) ++ d) ++ e ≡ a ++ (b ++ (c ++ (d ++ e)))
+              joined_right a b c d e = simp append_assoc
+
+          pub line_fits : (m : Bytes) (r : Option ℕ) → Wrote (decimal k) c m3 m None → Stands (refusal row (line % 4294967296)) old m r
+          line_fits m r x = no_end t4 old m (four m None x)
+
+      pub comma_fits : (m : Bytes) (r : Option ℕ) → Wrote (bytes ",") b m2 m None → Stands (refusal row (line % 4294967296)) old m r
+      comma_fits m r x = no_end t3 old m (three m None x)
+
+    pub row_fits : (m : Bytes) (r : Option ℕ) → Wrote (decimal row) a m1 m None → Stands (refusal row (line % 4294967296)) old m r
+    row_fits m r x = no_end t2 old m (two m None x)
+
+  pub key_fits : (m : Bytes) (r : Option ℕ) → Wrote t1 0 old m None → Stands (refusal row (line % 4294967296)) old m r
+  key_fits m r x = no_end t1 old m (one m None x)
 
 -- `output`: the outcome for a buffer of 65,536 bytes, and the program's output: a text, or a refusal
 record Printing (text new : Bytes) (n : ℕ) : Type 0 where
@@ -195,7 +237,7 @@ module _ (text : Bytes) (o : Result Merged Refusal) (e : o ≡ outcome text (len
     refusing : Refusing text new r.row.0 r.line
     refusing = subst (λ (b : Bytes). Refusing text b r.row.0 r.line) (sym g) (in_row text (replicate 65536 0) refl r (sym e ∙ f))
 
-    module _ (end : Bytes) (n : ℕ) (s : Stands (refusal r.row.0 (r.line % 4294967296)) new end n) where
+    module _ (end : Bytes) (w : Option ℕ) (s : Stands (refusal r.row.0 (r.line % 4294967296)) new end w) (n : ℕ) (at : n ≡ unwrap_or w 0) where
       spelled : Printing text end n
       unfolding with_text
       spelled =
@@ -204,7 +246,7 @@ module _ (text : Bytes) (o : Result Merged Refusal) (e : o ≡ outcome text (len
           let is : refusal r.row.0 (r.line % 4294967296) ≡ program_output text = ap (refusal r.row.0) (mod-eq_of_lt k) ∙ sym refusing.prints in
           let whole = ap length s.memory in
           let parts = length-append (refusal r.row.0 (r.line % 4294967296)) (drop (length (refusal r.row.0 (r.line % 4294967296))) new) in
-          let size = s.end in
+          let size : n ≡ length (refusal r.row.0 (r.line % 4294967296)) = at ∙ ap (λ (o : Option ℕ). unwrap_or o 0) s.end in
           record { size = size ∙ ap length is; memory = s.memory ∙ ap₂ with_text is refusing.same; within = omega arith }
 
       pub output_refusal : ◌≡◌ {A = Printed} (record { bytes = end; length = n }) (printed (program_output text))

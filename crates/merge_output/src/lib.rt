@@ -2,9 +2,8 @@
 #![tactic(auto)]
 
 ghost use Rattle.std.specs.Prelude.{◌≡◌, ◌%◌, ◌≤◌, length};
-ghost use Rattle.format.specs.Number.{decimal};
 ghost use Rattle.format.specs.Program.{refusal, program_output};
-ghost use Rattle.merge_output.specs.Printed.{printed, Put, Stands};
+ghost use Rattle.merge_output.specs.Printed.{printed, Stands};
 
 use merger::Refusal;
 
@@ -15,30 +14,16 @@ pub struct Printed {
     pub length: usize,
 }
 
-// Bytes from a place on, and where they end; 0 where there is no room for them.
-fn put(s: &[u8], out: &mut [u8], at: usize) -> usize
-    ensures { Put s.now at out.old out.new result }
-{
-    text_bytes::copy(s, out, at).unwrap_or(0)
-}
-
-// The same for a number's digits.
-fn digits(n: u32, out: &mut [u8], at: usize) -> usize
-    ensures { Put (decimal n) at out.old out.new result }
-{
-    text_bytes::decimal(n, out, at).unwrap_or(0)
-}
-
-// `refused=ROW,LINE` with LF. No text has a line of more than 32 bits.
-fn refusal(r: Refusal, out: &mut [u8]) -> usize
+// `refused=ROW,LINE` with LF, and where it ends. No text has a line of more than 32 bits.
+fn refusal(r: Refusal, out: &mut [u8]) -> Option<usize>
     requires { 30 ≤ length out.old }
     ensures { Stands (refusal r.row.0 (r.line % 4294967296)) out.old out.new result }
 {
-    let a = put(b"refused=", out, 0);
-    let b = digits(r.row.0, out, a);
-    let c = put(b",", out, b);
-    let d = digits((r.line % 4294967296) as u32, out, c);
-    put(b"\n", out, d)
+    let a = text_bytes::copy(b"refused=", out, 0)?;
+    let b = text_bytes::decimal(r.row.0, out, a)?;
+    let c = text_bytes::copy(b",", out, b)?;
+    let d = text_bytes::decimal((r.line % 4294967296) as u32, out, c)?;
+    text_bytes::copy(b"\n", out, d)
 }
 
 // The merged text of a sheet text, or the line that refuses it; zeros follow.
@@ -52,7 +37,7 @@ pub fn output(text: &[u8]) -> Printed
             length: merged.length,
         },
         Err(r) => {
-            let length = refusal(r, &mut bytes);
+            let length = refusal(r, &mut bytes).unwrap_or(0);
             Printed { bytes, length }
         }
     }

@@ -7,7 +7,8 @@ use lib.ListN.{get_or}
 use Rattle.table_places.specs.declared.layout.Layout.{Layout}
 use Rattle.table_places.specs.Outline.{after_predicate}
 use Rattle.table_places.specs.Starts.{starts_at, start_count, first_start}
-use Rattle.merge_append.specs.Append.{Appended}
+use Rattle.merge_append.specs.declared.append.Filling.{Filling}
+use Rattle.merge_append.specs.Append.{Filled}
 use Rattle.merge_append.specs.Runs.{nodes_at}
 use Rattle.merge_append.specs.NodeWords.{capped}
 use Rattle.merge_append.proofs.AppendLaws.{Underway, begun, on_by, ended}
@@ -42,22 +43,22 @@ module _ (t : List ℕ) (place count i sum whole : ℕ) (u : add_starts t place 
 pub ruleset start_laws = (starts_is, none_is, sum_turn, sum_end)
 
 -- `copied`
-module _ (t whole old now : List ℕ) (at place count i next : ℕ)
-    (u : Underway whole at old (start_nodes_at t place (count - i)) next now) where
-  pub copied_turn : i < count → (p r : ℕ) (new : List ℕ) → Appended (nodes_at t place) next now new r
-      → p ≡ after_predicate t place → Underway whole at old (start_nodes_at t p (count - (i + 1))) r new
+module _ (t whole : List ℕ) (old now : Filling) (place count i : ℕ)
+    (u : Underway whole old (start_nodes_at t place (count - i)) now) where
+  pub copied_turn : i < count → (p : ℕ) (new : Filling) → Filled (nodes_at t place) now new
+      → p ≡ after_predicate t place → Underway whole old (start_nodes_at t p (count - (i + 1))) new
   unfolding start_nodes_at
-  copied_turn h p r new a e =
+  copied_turn h p new a e =
       let m : count - i ≡ suc (count - (i + 1)) = omega arith in
       rw e (on_by u (ap (start_nodes_at t place) m) a)
 
-  pub copied_end : count ≤ i → Appended whole at old now next
+  pub copied_end : count ≤ i → Filled whole old now
   unfolding start_nodes_at
   copied_end h = let z : count - i ≡ 0 = omega arith in ended u (ap (start_nodes_at t place) z)
 
-pub copied_begun : (t : List ℕ) (place count at : ℕ) (old : List ℕ)
-    → Underway (start_nodes_at t place count) at old (start_nodes_at t place (count - 0)) at old
-copied_begun t place count at old =
-    let z : count - 0 ≡ count = omega arith in rw z (begun (start_nodes_at t place count) at old)
+pub copied_begun : (t : List ℕ) (place count : ℕ) (old : Filling)
+    → Underway (start_nodes_at t place count) old (start_nodes_at t place (count - 0)) old
+copied_begun t place count old =
+    let z : count - 0 ≡ count = omega arith in rw z (begun (start_nodes_at t place count) old)
 
 pub ruleset copied_laws = (copied_begun, copied_turn, copied_end)

@@ -5,26 +5,19 @@
 
 ghost use Rattle.std.specs.Prelude.{◌≡◌, [], ◌∷◌};
 ghost use Rattle.table_places.specs.Layout.{automata_of};
-ghost use Rattle.merge_append.specs.Append.{Appended};
+ghost use Rattle.merge_append.specs.Append.{Filled};
 ghost use Rattle.merge_append.specs.NodeWords.{all_node};
 ghost use Rattle.merge_predicates.specs.Clauses.{clause_words, value_clauses, function_clauses, value_nodes};
 ghost use Rattle.merge_predicates.specs.Clauses.{merged_nodes, merged_operands, merged_words};
 
 use crate::functions::{self, Functions};
 use crate::starts::{self, Starts};
-use model::Model;
+use merge_append::Filling;
 use table_places::Layout;
 
 // `imp eq vK J` with the predicate at a place.
-fn clause(
-    t: &[u32],
-    k: usize,
-    j: usize,
-    part: usize,
-    out: &mut [u32; Model::WORDS],
-    at: usize,
-) -> usize
-    ensures { Appended (clause_words t.now k j part) at out.old out.new result }
+fn clause(t: &[u32], k: usize, j: usize, part: usize, out: &mut Filling)
+    ensures { Filled (clause_words t.now k j part) out.old out.new }
 {
     let equation = [
         merge_append::imp_node(),
@@ -32,8 +25,8 @@ fn clause(
         merge_append::old_node(k),
         merge_append::number_node(j),
     ];
-    let next = merge_append::put_all(&equation, out, at);
-    merge_append::nodes(t, part, out, next)
+    out.put_all(&equation);
+    out.nodes(t, part);
 }
 
 // For the `count` locations of an automaton with the pointer k, whose values begin at index `first`.
@@ -43,42 +36,28 @@ fn at_locations(
     first: usize,
     k: usize,
     count: usize,
-    out: &mut [u32; Model::WORDS],
-    at: usize,
-) -> usize
-    ensures { Appended (value_clauses t.now places.now first k 0 count)
-        at out.old out.new result }
+    out: &mut Filling,
+)
+    ensures { Filled (value_clauses t.now places.now first k 0 count) out.old out.new }
 {
-    let mut next = at;
     for j in 0..count {
         let place = functions::value(places, merge_append::add(first, j));
-        next = clause(t, k, j, place, out, next);
+        clause(t, k, j, place, out);
     }
-    next
 }
 
 // For each automaton, by its pointer.
-fn at_automata(
-    t: &[u32],
-    x: Layout,
-    f: &Functions,
-    out: &mut [u32; Model::WORDS],
-    at: usize,
-) -> usize
-    ensures { Appended
-        (function_clauses t.now f.now.domains f.now.places x.variables 0 (automata_of x) 0)
-        at out.old out.new result }
+fn at_automata(t: &[u32], x: Layout, f: &Functions, out: &mut Filling)
+    ensures { Filled (function_clauses t.now f.now.domains f.now.places x.variables 0 (automata_of x) 0)
+        out.old out.new }
 {
     let count = table_places::automata_of(x);
     let mut first = 0;
-    let mut next = at;
-    for i in 0..count {
+    for (i, locations) in f.domains[..count].iter().enumerate() {
         let pointer = merge_append::pointer(x.variables, i);
-        let locations = f.domains[i];
-        next = at_locations(t, &f.places, first, pointer, locations, out, next);
-        first = merge_append::add(first, locations);
+        at_locations(t, &f.places, first, pointer, *locations, out);
+        first = merge_append::add(first, *locations);
     }
-    next
 }
 
 // The nodes of the merged init, or of the merged inv, of which the first `count` values stand at these places; those of
@@ -95,27 +74,19 @@ pub fn merged_nodes(t: &[u32], places: &[usize], count: usize) -> usize
 }
 
 // The count of nodes of the merged init, or of the merged inv, and its first node.
-fn opening(t: &[u32], f: &Functions, s: Starts, out: &mut [u32; Model::WORDS], at: usize) -> usize
-    ensures { Appended (merged_nodes t.now f.now s ∷ all_node (merged_operands f.now s) ∷ [])
-        at out.old out.new result }
+fn opening(t: &[u32], f: &Functions, s: Starts, out: &mut Filling)
+    ensures { Filled (merged_nodes t.now f.now s ∷ all_node (merged_operands f.now s) ∷ []) out.old out.new }
 {
     let nodes = starts::starts_nodes(t, s, merged_nodes(t, &f.places, f.total));
     let operands = merge_append::add(f.total, s.count);
-    merge_append::put_all(&[nodes, merge_append::all_node(operands)], out, at)
+    out.put_all(&[nodes, merge_append::all_node(operands)]);
 }
 
 // The merged init, or the merged inv, whole: the clauses, and the start conditions after them.
-pub fn merged(
-    t: &[u32],
-    x: Layout,
-    f: Functions,
-    s: Starts,
-    out: &mut [u32; Model::WORDS],
-    at: usize,
-) -> usize
-    ensures { Appended (merged_words t.now x f s) at out.old out.new result }
+pub fn merged(t: &[u32], x: Layout, f: Functions, s: Starts, out: &mut Filling)
+    ensures { Filled (merged_words t.now x f s) out.old out.new }
 {
-    let a = opening(t, &f, s, out, at);
-    let b = at_automata(t, x, &f, out, a);
-    starts::copied(t, s, out, b)
+    opening(t, &f, s, out);
+    at_automata(t, x, &f, out);
+    starts::copied(t, s, out);
 }

@@ -21,7 +21,8 @@ pub struct Functions {
     pub total: usize,
 }
 
-// Of the location at a place, its init, or its inv.
+// Of the location at a place, its init, or its inv. The flag stays: it is given at two calls, for fs and for gs, and
+// read here alone, so an enum of its own would say no more than its name.
 fn part(t: &[u32], inv: bool, at: usize) -> usize
     ensures { result ≡ part_at t.now inv at }
 {
@@ -71,10 +72,10 @@ pub fn functions_of(t: &[u32], x: Layout, inv: bool) -> Functions
     let mut domains = [0usize; Model::AUTOMATA];
     let mut places = [0usize; VALUES];
     let mut total = 0;
-    for i in 0..count {
-        let at = x.sets[i];
-        let locations = domain(t, at);
-        let first = table_places::first_location(t, at);
+    // `domains` keeps its index: of what a zip with its `iter_mut` writes the library says only the length.
+    for (i, at) in x.sets[..count].iter().enumerate() {
+        let locations = domain(t, *at);
+        let first = table_places::first_location(t, *at);
         domains[i] = locations;
         total = values(t, inv, locations, first, &mut places, total);
     }

@@ -3,10 +3,10 @@
 #![tactic(auto, using(crate::proofs::StartLaws::start_laws))]
 
 ghost use Rattle.std.specs.Prelude.{◌≡◌};
-ghost use Rattle.merge_append.specs.Append.{Appended};
+ghost use Rattle.merge_append.specs.Append.{Filled};
 ghost use Rattle.merge_predicates.specs.Starts.{starts_of, no_starts, add_starts, start_nodes_at};
 
-use model::Model;
+use merge_append::Filling;
 use table_places::Layout;
 
 // Where the first P stands, and how many there are.
@@ -47,15 +47,12 @@ pub fn starts_nodes(t: &[u32], s: Starts, sum: usize) -> usize
 }
 
 // Their nodes, without the counts.
-pub fn copied(t: &[u32], s: Starts, out: &mut [u32; Model::WORDS], at: usize) -> usize
-    ensures { Appended (start_nodes_at t.now s.first s.count)
-        at out.old out.new result }
+pub fn copied(t: &[u32], s: Starts, out: &mut Filling)
+    ensures { Filled (start_nodes_at t.now s.first s.count) out.old out.new }
 {
     let mut place = s.first;
-    let mut next = at;
     for _ in 0..s.count {
-        next = merge_append::nodes(t, place, out, next);
+        out.nodes(t, place);
         place = table_places::after_predicate(t, place);
     }
-    next
 }

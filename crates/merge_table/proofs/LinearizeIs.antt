@@ -4,7 +4,7 @@ use mathlib.Core.Path.{◌≡◌, refl, sym, ap, ap₂, ◌∙◌}
 use mathlib.Core.Bool.{Bool, true, false}
 use mathlib.Core.List.{List, ◌++◌, map}
 use mathlib.Core.Option.{Option, none, some}
-use Prim.Native.Nat.{ℕ, suc}
+use Prim.Native.Nat.{ℕ}
 use native.Mathlib.Omega.{arith}
 use lib.ListN.{length, replicate, length-replicate}
 use lib.Dec.{ltb}
@@ -26,7 +26,8 @@ use Rattle.merge_words.specs.declared.Linearization.{Linearization}
 use Rattle.table_append.specs.Append.{put}
 use Rattle.table_append.proofs.AppendLaws.{put_kept}
 use Rattle.merge_distinct.specs.Distinct.{repeats_in, distinct_words}
-use Rattle.merge_append.specs.Append.{narrow, placed, Appended}
+use Rattle.merge_append.specs.declared.append.Filling.{Filling}
+use Rattle.merge_append.specs.Append.{narrow, placed, Appended, Filled}
 use Rattle.table_places.specs.declared.layout.Layout.{Layout}
 use Rattle.table_places.specs.Layout.{layout_of}
 use Rattle.merge_takers.specs.Gather.{gathered}
@@ -156,15 +157,20 @@ module _ (m : Model) (lawful : Lawful m) (t rest : List ℕ) (e : t ≡ sheet_wo
       linear_by_is (distinct m) (lawful_distinct m lawful) (distinct_table t) s.0 s.1 ∙ distinct_model m lawful
 
 -- `linearize_once`: with repeats, and without
-pub copied_long : (ws old new : List ℕ) (r : ℕ) → Appended ws 0 old new r → length old ≡ table_words → table_words ≡ length new
-copied_long ws old new r a l = sym (ap (length {A = ℕ}) a.memory ∙ put_kept (map narrow ws) 0 old ∙ l)
+pub copied_long : (ws : List ℕ) (old new : Filling) → Filled ws old new → length old.words ≡ table_words
+    → table_words ≡ length new.words
+copied_long ws old new a l =
+    sym (ap (length {A = ℕ}) a.added.memory ∙ put_kept (map narrow ws) old.length old.words ∙ l)
 
 module _ (t : List ℕ) (x : Layout) (e : x ≡ layout_of t) (b : Bool) (f : b ≡ repeats_in t x) (r : Linearization) where
-  pub once_repeats : (old new : List ℕ) (n : ℕ) → b ≡ true → old ≡ replicate table_words 0 → Appended (distinct_words t x) 0 old new n → r ≡ linear_by new → r ≡ linear_by (distinct_table t)
+  pub once_repeats : (new : Filling) → b ≡ true
+      → Filled (distinct_words t x) (record { words = replicate table_words 0; length = 0 }) new → r ≡ linear_by new.words
+      → r ≡ linear_by (distinct_table t)
   unfolding distinct_table
-  once_repeats old new n g z a h =
+  once_repeats new g a h =
       let p : repeats_in t (layout_of t) ≡ true = ap (repeats_in t) (sym e) ∙ sym f ∙ g in
-      let q : new ≡ put 0 (map narrow (distinct_words t (layout_of t))) (replicate table_words 0) = a.memory ∙ ap₂ (λ (y : Layout) (l : List ℕ). put 0 (map narrow (distinct_words t y)) l) e z in
+      let q : new.words ≡ put 0 (map narrow (distinct_words t (layout_of t))) (replicate table_words 0) =
+      a.added.memory ∙ ap (λ (y : Layout). put 0 (map narrow (distinct_words t y)) (replicate table_words 0)) e in
       h ∙ ap linear_by q ∙ rw (p, distinct_table)
 
   pub once_as_it_is : b ≡ false → r ≡ linear_by t → r ≡ linear_by (distinct_table t)

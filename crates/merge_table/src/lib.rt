@@ -5,6 +5,7 @@ ghost use Rattle.std.specs.Prelude.{◌≡◌};
 ghost use Rattle.merge_words.specs.Linearize.{linear_by};
 ghost use Rattle.merge_table.specs.Linearization.{distinct_table, linearization};
 
+use merge_append::Filling;
 pub use merge_words::Linearization;
 use model::Model;
 
@@ -15,9 +16,12 @@ fn linearize_once(t: &[u32]) -> Linearization
 {
     let x = table_places::layout_of(t);
     if merge_distinct::repeats(t, x) {
-        let mut words = [0u32; Model::WORDS];
-        let _end = merge_distinct::distinct(t, x, &mut words);
-        return merge_words::linearize(&words);
+        let mut once = Filling {
+            words: [0u32; Model::WORDS],
+            length: 0,
+        };
+        merge_distinct::distinct(t, x, &mut once);
+        return merge_words::linearize(&once.words);
     }
     merge_words::linearize(t)
 }

@@ -10,70 +10,69 @@ use borrow.Author.Tests.{lt-ltb, le-ltb}
 use Rattle.model.specs.Bounds.{max_edges}
 use Rattle.table_places.specs.declared.layout.Layout.{Layout}
 use Rattle.table_places.specs.Outline.{reach}
-use Rattle.merge_append.specs.Append.{Appended}
+use Rattle.merge_append.specs.declared.append.Filling.{Filling}
+use Rattle.merge_append.specs.Append.{Filled}
 use Rattle.merge_append.specs.Runs.{run}
 use Rattle.merge_append.proofs.AppendLaws.{Underway, begun, on_by, ended}
 use Rattle.merge_takers.specs.declared.moves.ActionPlan.{ActionPlan}
 use Rattle.merge_takers.specs.Moves.{plan_of, places_of, last_action, moves_in}
-use Rattle.merge_takers.specs.Gather.{takers_from, takers_under, takers_of, takers_in, gathered}
+use Rattle.merge_takers.specs.Gather.{takers_from, takers_under, takers_of, takers_in, gathered, gathered_length}
 
 -- `gather_move`
-pub move_is : (t cells places : List ℕ) (x : Layout) (action k at r : ℕ) (old new : List ℕ)
-    → places ≡ places_of t x cells action k → Appended places at old new r
-    → Appended (places_of t x cells action k) at old new r
-move_is t cells places x action k at r old new e a = rw (← e) a
+pub move_is : (t cells places : List ℕ) (x : Layout) (action k : ℕ) (old new : Filling)
+    → places ≡ places_of t x cells action k → Filled places old new → Filled (places_of t x cells action k) old new
+move_is t cells places x action k old new e a = rw (← e) a
 
 -- `gather_moves`
-pub moves_begun : (t cells : List ℕ) (x : Layout) (action count at : ℕ) (old : List ℕ)
-    → Underway (takers_from t x cells action 0 count) at old (takers_from t x cells action 0 (count - 0)) at old
-moves_begun t cells x action count at old =
-    let z : count - 0 ≡ count = omega arith in rw z (begun (takers_from t x cells action 0 count) at old)
+pub moves_begun : (t cells : List ℕ) (x : Layout) (action count : ℕ) (old : Filling)
+    → Underway (takers_from t x cells action 0 count) old (takers_from t x cells action 0 (count - 0)) old
+moves_begun t cells x action count old =
+    let z : count - 0 ≡ count = omega arith in rw z (begun (takers_from t x cells action 0 count) old)
 
-module _ (t cells whole old now : List ℕ) (x : Layout) (action at k count next : ℕ)
-    (u : Underway whole at old (takers_from t x cells action k (count - k)) next now) where
-  pub moves_turn : k < count → (r : ℕ) (new : List ℕ) → Appended (places_of t x cells action k) next now new r
-      → Underway whole at old (takers_from t x cells action (k + 1) (count - (k + 1))) r new
+module _ (t cells whole : List ℕ) (old now : Filling) (x : Layout) (action k count : ℕ)
+    (u : Underway whole old (takers_from t x cells action k (count - k)) now) where
+  pub moves_turn : k < count → (new : Filling) → Filled (places_of t x cells action k) now new
+      → Underway whole old (takers_from t x cells action (k + 1) (count - (k + 1))) new
   unfolding takers_from
-  moves_turn h r new a =
+  moves_turn h new a =
       let n : count - k ≡ suc (count - (k + 1)) = omega arith in on_by u (ap (takers_from t x cells action k) n) a
 
-  pub moves_end : count ≤ k → Appended whole at old now next
+  pub moves_end : count ≤ k → Filled whole old now
   unfolding takers_from
   moves_end h = let n : count - k ≡ 0 = omega arith in ended u (ap (takers_from t x cells action k) n)
 
 pub ruleset moves_laws = (moves_begun, moves_turn, moves_end)
 
 -- `gather_action`
-pub action_is : (t own : List ℕ) (x : Layout) (action a at r : ℕ) (old new : List ℕ) (p : ActionPlan)
+pub action_is : (t own : List ℕ) (x : Layout) (action a : ℕ) (old new : Filling) (p : ActionPlan)
     → p ≡ plan_of t x own action → a ≡ action
-    → Appended (takers_from t x p.cells a 0 p.count) at old new r → Appended (takers_under t x own action) at old new r
+    → Filled (takers_from t x p.cells a 0 p.count) old new → Filled (takers_under t x own action) old new
 unfolding takers_under plan_of
-action_is t own x action a at r old new p ep e h = rw (ep, e) at h
+action_is t own x action a old new p ep e h = rw (ep, e) at h
 
 -- `gather_all`
-pub all_begun : (t own : List ℕ) (x : Layout) (last at : ℕ) (old : List ℕ) → last ≡ last_action x
-    → Underway (takers_in t x own) at old (takers_of t x own 0 (last + 1 - 0)) at old
+pub all_begun : (t own : List ℕ) (x : Layout) (last : ℕ) (old : Filling) → last ≡ last_action x
+    → Underway (takers_in t x own) old (takers_of t x own 0 (last + 1 - 0)) old
 unfolding takers_in
-all_begun t own x last at old e =
-    let z : last + 1 - 0 ≡ last + 1 = omega arith in rw (z, e) (begun (takers_of t x own 0 (last_action x + 1)) at old)
+all_begun t own x last old e =
+    let z : last + 1 - 0 ≡ last + 1 = omega arith in rw (z, e) (begun (takers_of t x own 0 (last_action x + 1)) old)
 
-module _ (t own whole old now : List ℕ) (x : Layout) (at action last next : ℕ)
-    (u : Underway whole at old (takers_of t x own action (last + 1 - action)) next now) where
-  pub all_turn : action ≤ last → (r : ℕ) (new : List ℕ) → Appended (takers_under t x own action) next now new r
-      → Underway whole at old (takers_of t x own (action + 1) (last + 1 - (action + 1))) r new
+module _ (t own whole : List ℕ) (old now : Filling) (x : Layout) (action last : ℕ)
+    (u : Underway whole old (takers_of t x own action (last + 1 - action)) now) where
+  pub all_turn : action ≤ last → (new : Filling) → Filled (takers_under t x own action) now new
+      → Underway whole old (takers_of t x own (action + 1) (last + 1 - (action + 1))) new
   unfolding takers_of
-  all_turn h r new a =
+  all_turn h new a =
       let n : last + 1 - action ≡ suc (last + 1 - (action + 1)) = omega arith in on_by u
       (ap (takers_of t x own action) n) a
 
   -- after the last action none is left
-  pub all_last : action ≤ last → last ≤ action → (r : ℕ) (new : List ℕ)
-      → Appended (takers_under t x own action) next now new r
-      → Appended whole at old new r
+  pub all_last : action ≤ last → last ≤ action → (new : Filling) → Filled (takers_under t x own action) now new
+      → Filled whole old new
   unfolding takers_of
-  all_last h k r new a =
+  all_last h k new a =
       let n : last + 1 - (action + 1) ≡ 0 = omega arith in
-      ended (all_turn h r new a) (ap (takers_of t x own (action + 1)) n)
+      ended (all_turn h new a) (ap (takers_of t x own (action + 1)) n)
 
 pub ruleset all_laws = (all_begun, all_turn, all_last)
 
@@ -83,12 +82,21 @@ module _ (t own old : List ℕ) (x : Layout) (count : ℕ) (e : count ≡ moves_
   unfolding gathered
   gather_none h = rw (← e, lt-ltb max_edges count h, gathered)
 
-  pub gather_is : count ≤ max_edges → (r : ℕ) (new : List ℕ) → Appended (takers_in t x own) 0 old new r
-      → new ≡ gathered t x own old
+  pub gather_is : count ≤ max_edges → (new : Filling)
+      → Filled (takers_in t x own) (record { words = old; length = 0 }) new → new.words ≡ gathered t x own old
   unfolding gathered
-  gather_is h r new a = rw (← e, le-ltb max_edges count h, gathered) a.memory
+  gather_is h new a = rw (← e, le-ltb max_edges count h, gathered) a.added.memory
 
-pub ruleset gather_laws = (gather_none, gather_is)
+  pub length_none : max_edges < count → (long : ℕ) → long ≡ gathered_length t x own long
+  unfolding gathered_length
+  length_none h long = rw (← e, lt-ltb max_edges count h, gathered_length)
+
+  pub length_is : count ≤ max_edges → (before : ℕ) (new : Filling)
+      → Filled (takers_in t x own) (record { words = old; length = 0 }) new → new.length ≡ gathered_length t x own before
+  unfolding gathered_length
+  length_is h before new a = rw (← e, le-ltb max_edges count h, gathered_length) a.added.next
+
+pub ruleset gather_laws = (gather_none, gather_is, length_none, length_is)
 
 -- `places_at`: the places so far, and those to come
 pub record Reading (list : List ℕ) (at place i : ℕ) (places : List ℕ) : Type 0 where

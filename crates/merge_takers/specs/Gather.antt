@@ -1,10 +1,10 @@
 -- The takers of all merged edges, gathered: for each merged edge sixteen places, where the edges stand that the
 -- automata take, 0 for an automaton that takes none (the wild-card).
-use Rattle.std.specs.Prelude.{true, false, List, [], ◌++◌, map, ℕ, zero, suc, ◌+◌, ltb}
+use Rattle.std.specs.Prelude.{true, false, List, [], ◌++◌, length, map, ℕ, zero, suc, ◌+◌, ltb}
 use Rattle.model.specs.Bounds.{max_edges}
 use Rattle.table_append.specs.Append.{put}
 use Rattle.table_places.specs.declared.layout.Layout.{Layout}
-use Rattle.merge_append.specs.Append.{narrow}
+use Rattle.merge_append.specs.Append.{narrow, placed}
 use Rattle.merge_takers.specs.Moves.{cells_of, move_total, places_of, last_action, moves_in}
 
 module _ (t : List ℕ) (x : Layout) where
@@ -28,3 +28,8 @@ module _ (t : List ℕ) (x : Layout) where
   unfoldable pub gathered : (own old : List ℕ) → List ℕ
   gathered own old =
       elim (ltb max_edges (moves_in t x own)) [ true ↦ old | false ↦ put 0 (map narrow (takers_in own)) old ]
+
+  -- and how many of its words are filled
+  unfoldable pub gathered_length : (own : List ℕ) (before : ℕ) → ℕ
+  gathered_length own before =
+      elim (ltb max_edges (moves_in t x own)) [ true ↦ before | false ↦ placed 0 (length (takers_in own)) ]

@@ -67,8 +67,9 @@ impl Composition<'_> {
     {
         let count = table_places::automata_of(self.layout);
         let mut under = [0u32; 16];
-        for i in 0..count {
-            under[i] = merge_append::narrow(under_at(self.words, action, self.layout.edges[i]));
+        // `under` keeps its index: of what a zip with its `iter_mut` writes the library says only the length.
+        for (i, edges) in self.layout.edges[..count].iter().enumerate() {
+            under[i] = merge_append::narrow(under_at(self.words, action, *edges));
         }
         under
     }

@@ -57,8 +57,9 @@ pub fn takers_of(t: &[u32], x: Layout, action: usize, picks: &[u32; 16]) -> [usi
 {
     let count = table_places::automata_of(x);
     let mut places = [0usize; 16];
-    for i in 0..count {
-        places[i] = taken(t, action, arithmetic::index(picks[i]), x.edges[i]);
+    // `places` keeps its index: of what a zip with its `iter_mut` writes the library says only the length.
+    for (i, edges) in x.edges[..count].iter().enumerate() {
+        places[i] = taken(t, action, arithmetic::index(picks[i]), *edges);
     }
     places
 }

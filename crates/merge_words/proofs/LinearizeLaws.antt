@@ -12,7 +12,8 @@ use Rattle.model.specs.Row.{row}
 use Rattle.model.specs.Bounds.{table_words}
 use Rattle.table_places.specs.declared.layout.Layout.{Layout}
 use Rattle.table_places.specs.Layout.{layout_of}
-use Rattle.merge_append.specs.Append.{Appended}
+use Rattle.merge_append.specs.declared.append.Filling.{Filling}
+use Rattle.merge_append.specs.Append.{Filled}
 use Rattle.merge_append.specs.NodeWords.{pointer_of}
 use Rattle.merge_predicates.specs.declared.functions.Functions.{Functions}
 use Rattle.merge_predicates.specs.declared.starts.Starts.{Starts}
@@ -70,10 +71,11 @@ module _ (t takers : List ℕ) (g : Gathered) where
 pub ruleset fault_laws = (fault_32, fault_33, fault_34, fault_none)
 
 -- `merged`
-pub merged_is : (t takers : List ℕ) (g : Gathered) (r : ℕ) (new : List ℕ) → Appended (merged_sheet t g takers) 0 (replicate table_words 0) new r
-    → record { row = None; edges = g.edges; table = new } ≡ merged_to g.edges (sheet_table t g takers)
+pub merged_is : (t takers : List ℕ) (g : Gathered) (new : Filling)
+    → Filled (merged_sheet t g takers) (record { words = replicate table_words 0; length = 0 }) new
+    → record { row = None; edges = g.edges; table = new.words } ≡ merged_to g.edges (sheet_table t g takers)
 unfolding merged_to sheet_table
-merged_is t takers g r new p = ap (merged_to g.edges) p.memory
+merged_is t takers g new p = ap (merged_to g.edges) p.added.memory
 
 -- `admitted`
 module _ (t takers : List ℕ) (g : Gathered) (f : Result ⊤ Row) (e : f ≡ fault_by t g takers) (r : Linearization) where

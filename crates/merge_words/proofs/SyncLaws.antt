@@ -1,8 +1,8 @@
 -- Each way out of the code of src/sync.rt.
-use mathlib.Core.Path.{◌≡◌, refl, ap, ◌∙◌}
+use mathlib.Core.Path.{◌≡◌, ap, ◌∙◌}
 use mathlib.Core.Bool.{Bool, true, false}
 use mathlib.Core.List.{List, [], ◌∷◌}
-use Prim.Native.Nat.{ℕ, zero, suc, ◌+◌, ◌-◌, ◌*◌, ◌%◌, ◌≤◌, ◌<◌}
+use Prim.Native.Nat.{ℕ, suc, ◌+◌, ◌-◌, ◌*◌, ◌%◌, ◌≤◌, ◌<◌}
 use native.Mathlib.Omega.{arith}
 use Rattle.std.proofs.Common.{add-zero}
 use mir.Val.{bool_byte}
@@ -10,11 +10,11 @@ use borrow.Author.Tests.{eq-eqb, ne_eqb, le-leb, lt-leb}
 use Rattle.table_tree.specs.Members.{in_set_at}
 use Rattle.table_places.specs.declared.layout.Layout.{Layout}
 use Rattle.table_places.specs.Outline.{nodes_place}
-use Rattle.merge_append.specs.Append.{Appended}
+use Rattle.merge_append.specs.declared.append.Filling.{Filling}
+use Rattle.merge_append.specs.Append.{Filled}
 use Rattle.table_places.specs.Own.{own_sets}
 use Rattle.merge_words.specs.declared.sync.Sets.{Sets}
 use Rattle.merge_words.specs.Sync.{is_shared, shifted, bits_from, sets_of, words_of}
-use Rattle.merge_append.proofs.AppendLaws.{then}
 
 -- `shared`
 module _ (t own : List ℕ) (x : Layout) (action : ℕ) where
@@ -61,6 +61,7 @@ unfolding sets_of
 gather_is t own x low high eo el eh = rw (el, eh, eo)
 
 -- `write`
-pub write_is : (s : Sets) (l h at a r : ℕ) (old mid new : List ℕ) → l ≡ s.low → h ≡ s.high → Appended (l ∷ []) at old mid a → Appended (h ∷ []) a mid new r → Appended (words_of s) at old new r
+pub write_is : (s : Sets) (l h : ℕ) (old new : Filling) → l ≡ s.low → h ≡ s.high → Filled (l ∷ h ∷ []) old new
+    → Filled (words_of s) old new
 unfolding words_of
-write_is s l h at a r old mid new el eh p q = rw (← el, ← eh) (then p q)
+write_is s l h old new el eh p = rw (← el, ← eh) p

@@ -1,7 +1,7 @@
 -- The linearization as the code finds it over the words of a table. On the table of a model it is Definition 4's: the
 -- law linear_by_is of crate `merge_table`.
 use Rattle.std.specs.Prelude.{Bool, true, false, List, map, ℕ, replicate, ltb}
-use Rattle.std.specs.Prelude.{Option, Some, None, Result, Ok, Err, ⊤}
+use Rattle.std.specs.Prelude.{Some, None, Result, Ok, Err, ⊤}
 use Rattle.model.specs.declared.Row.{Row}
 use Rattle.model.specs.Row.{row}
 use Rattle.model.specs.Bounds.{max_variables, max_edges, max_nodes, table_words}

@@ -1,9 +1,10 @@
-// What Definition 4 needs of a composition, in its order. The edges' takers stand in a list of their own.
+// What Definition 4 needs of a composition, in its order. The edges' takers stand in a list of their own. The layout
+// stays apart from the words, in the whole merger: it is the definition's wild-cards, the first part that is gathered.
 use crate::sync::Sets;
 use merge_predicates::{Functions, Starts};
 use table_places::Layout;
 
-#[derive(Clone, Copy)]
+#[derive(Clone, Copy, Debug, PartialEq, Eq)]
 pub struct Gathered {
     // #: a wild-card for each automaton: how many there are, and where each stands
     pub wildcards: Layout,

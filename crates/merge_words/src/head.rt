@@ -1,10 +1,11 @@
 // The merged sheet's words before its automaton, and after it.
 ghost use Rattle.std.specs.Prelude.{◌≡◌, [], ◌∷◌};
 ghost use Rattle.table_places.specs.Layout.{automata_of};
-ghost use Rattle.merge_append.specs.Append.{Appended};
+ghost use Rattle.merge_append.specs.Append.{Filled};
 ghost use Rattle.merge_words.specs.Head.{format_in, last_location_at, merged_owner_word, pointer_owner_word};
 ghost use Rattle.merge_words.specs.Head.{variable_at, variables_from, pointers_from, head_words};
 
+use merge_append::Filling;
 use model::Model;
 use table_places::Layout;
 
@@ -30,73 +31,52 @@ fn pointer_owner(format: usize) -> usize
     if format < Model::OWNERS_FORMAT { 0 } else { 1 }
 }
 
-// Three words.
-fn three(
-    first: usize,
-    second: usize,
-    third: usize,
-    out: &mut [u32; Model::WORDS],
-    at: usize,
-) -> usize
-    ensures { Appended (first ∷ second ∷ third ∷ []) at out.old out.new result }
-{
-    let a = merge_append::put(first, out, at);
-    let b = merge_append::put(second, out, a);
-    merge_append::put(third, out, b)
-}
-
 // The variable at a place: its range, and who owns it now.
-fn variable(t: &[u32], place: usize, out: &mut [u32; Model::WORDS], at: usize) -> usize
-    ensures { Appended (variable_at t.now place) at out.old out.new result }
+fn variable(t: &[u32], place: usize, out: &mut Filling)
+    ensures { Filled (variable_at t.now place) out.old out.new }
 {
     let low = arithmetic::index(table_places::low(t, place));
     let high = arithmetic::index(table_places::high(t, place));
     let owner = merged_owner(arithmetic::index(table_places::owner(t, place)));
-    three(low, high, owner, out, at)
+    out.put_all(&[low, high, owner]);
 }
 
 // So many variables, from variable 0 on.
-fn variables(t: &[u32], count: usize, out: &mut [u32; Model::WORDS], at: usize) -> usize
-    ensures { Appended (variables_from t.now 0 count) at out.old out.new result }
+fn variables(t: &[u32], count: usize, out: &mut Filling)
+    ensures { Filled (variables_from t.now 0 count) out.old out.new }
 {
-    let mut next = at;
     for k in 0..count {
-        next = variable(t, table_places::range_at(t, k), out, next);
+        variable(t, table_places::range_at(t, k), out);
     }
-    next
 }
 
 // The pointers: each from 0 to its automaton's last location, and who owns it.
-fn pointers(t: &[u32], x: Layout, out: &mut [u32; Model::WORDS], at: usize) -> usize
-    ensures { Appended (pointers_from t.now x.sets 0 (automata_of x))
-        at out.old out.new result }
+fn pointers(t: &[u32], x: Layout, out: &mut Filling)
+    ensures { Filled (pointers_from t.now x.sets 0 (automata_of x)) out.old out.new }
 {
     let count = table_places::automata_of(x);
     let owner = pointer_owner(table_places::word(t, 0));
-    let mut next = at;
     for place in &x.sets[..count] {
         let high = merge_append::upward(last_location(t, *place));
-        next = three(Model::BIAS as usize, high, owner, out, next);
+        out.put_all(&[Model::BIAS as usize, high, owner]);
     }
-    next
 }
 
 // Format, actions, V + N, the variables, the pointers, and one automaton.
-pub fn head(t: &[u32], x: Layout, out: &mut [u32; Model::WORDS], at: usize) -> usize
-    ensures { Appended (head_words t.now x) at out.old out.new result }
+pub fn head(t: &[u32], x: Layout, out: &mut Filling)
+    ensures { Filled (head_words t.now x) out.old out.new }
 {
     let format = table_places::word(t, 0);
     let total = merge_append::pointer(x.variables, x.automata);
-    let a = three(format, x.actions, total, out, at);
-    let count = table_places::variables_of(x);
-    let b = variables(t, count, out, a);
-    let c = pointers(t, x, out, b);
-    merge_append::put(1, out, c)
+    out.put_all(&[format, x.actions, total]);
+    variables(t, table_places::variables_of(x), out);
+    pointers(t, x, out);
+    out.put(1);
 }
 
 // The merged sheet's last words: a tree of one leaf, and no start conditions.
-pub fn tail(out: &mut [u32; Model::WORDS], at: usize) -> usize
-    ensures { Appended (1 ∷ 2 ∷ 0 ∷ []) at out.old out.new result }
+pub fn tail(out: &mut Filling)
+    ensures { Filled (1 ∷ 2 ∷ 0 ∷ []) out.old out.new }
 {
-    three(1, 2, 0, out, at)
+    out.put_all(&[1, 2, 0]);
 }

@@ -14,6 +14,7 @@ ghost use Rattle.std.specs.Prelude.{◌≡◌};
 ghost use Rattle.merge_words.specs.Linearize.{refused_by, merged_to, sheet_table, linear_for, linear_by};
 
 pub use gathering::Gathered;
+use merge_append::Filling;
 use model::{Model, Row};
 pub use sync::Sets;
 
@@ -39,12 +40,15 @@ pub fn refused(row: Row) -> Linearization
 fn merged(t: &[u32], g: Gathered, takers: &[u32; Model::WORDS]) -> Linearization
     ensures { result ≡ merged_to g.edges (sheet_table t.now g takers.now) }
 {
-    let mut table = [0u32; Model::WORDS];
-    let _end = sheet::sheet(t, g, takers, &mut table, 0);
+    let mut out = Filling {
+        words: [0u32; Model::WORDS],
+        length: 0,
+    };
+    sheet::sheet(t, g, takers, &mut out);
     Linearization {
         row: None,
         edges: g.edges,
-        table,
+        table: out.words,
     }
 }
 
@@ -76,7 +80,10 @@ pub fn linearize(t: &[u32]) -> Linearization
     let sets = sync::gather(t, wildcards);
     // E: the edges, one for each action transition of p
     let own = sets.own;
-    let mut takers = [0u32; Model::WORDS];
+    let mut takers = Filling {
+        words: [0u32; Model::WORDS],
+        length: 0,
+    };
     let edges = merge_takers::gather(t, wildcards, &own, &mut takers);
     let g = Gathered {
         wildcards,
@@ -86,5 +93,5 @@ pub fn linearize(t: &[u32]) -> Linearization
         sets,
         edges,
     };
-    admitted(t, g, &takers)
+    admitted(t, g, &takers.words)
 }

@@ -1,10 +1,11 @@
 // The merged sheet, whole, from what was gathered.
-ghost use Rattle.merge_append.specs.Append.{Appended};
+ghost use Rattle.merge_append.specs.Append.{Filled};
 ghost use Rattle.merge_words.specs.MergedSheet.{location_words, automaton_words, merged_sheet};
 
 use crate::gathering::Gathered;
 use crate::head::{self};
 use crate::sync::{self};
+use merge_append::Filling;
 use merge_predicates::{Functions, Starts};
 use model::Model;
 use table_places::Layout;
@@ -16,47 +17,31 @@ fn location(
     inits: Functions,
     starts: Starts,
     invs: Functions,
-    out: &mut [u32; Model::WORDS],
-    at: usize,
-) -> usize
-    ensures { Appended (location_words t.now x inits starts invs)
-        at out.old out.new result }
+    out: &mut Filling,
+)
+    ensures { Filled (location_words t.now x inits starts invs) out.old out.new }
 {
     let none = merge_predicates::no_starts();
-    let a = merge_append::put(1, out, at);
-    let b = merge_predicates::merged(t, x, inits, starts, out, a);
-    merge_predicates::merged(t, x, invs, none, out, b)
+    out.put(1);
+    merge_predicates::merged(t, x, inits, starts, out);
+    merge_predicates::merged(t, x, invs, none, out);
 }
 
 // The one automaton.
-fn automaton(
-    t: &[u32],
-    g: Gathered,
-    takers: &[u32; Model::WORDS],
-    out: &mut [u32; Model::WORDS],
-    at: usize,
-) -> usize
-    ensures { Appended (automaton_words t.now g takers.now)
-        at out.old out.new result }
+fn automaton(t: &[u32], g: Gathered, takers: &[u32; Model::WORDS], out: &mut Filling)
+    ensures { Filled (automaton_words t.now g takers.now) out.old out.new }
 {
-    let a = sync::write(g.sets, out, at);
-    let b = location(t, g.wildcards, g.inits, g.starts, g.invs, out, a);
-    let c = merge_append::put(g.edges, out, b);
-    merge_edges::all_edges(t, g.wildcards.variables, takers, g.edges, out, c)
+    sync::write(g.sets, out);
+    location(t, g.wildcards, g.inits, g.starts, g.invs, out);
+    out.put(g.edges);
+    merge_edges::all_edges(t, g.wildcards.variables, takers, g.edges, out);
 }
 
 // Head, automaton and tree.
-pub fn sheet(
-    t: &[u32],
-    g: Gathered,
-    takers: &[u32; Model::WORDS],
-    out: &mut [u32; Model::WORDS],
-    at: usize,
-) -> usize
-    ensures { Appended (merged_sheet t.now g takers.now)
-        at out.old out.new result }
+pub fn sheet(t: &[u32], g: Gathered, takers: &[u32; Model::WORDS], out: &mut Filling)
+    ensures { Filled (merged_sheet t.now g takers.now) out.old out.new }
 {
-    let a = head::head(t, g.wildcards, out, at);
-    let b = automaton(t, g, takers, out, a);
-    head::tail(out, b)
+    head::head(t, g.wildcards, out);
+    automaton(t, g, takers, out);
+    head::tail(out);
 }

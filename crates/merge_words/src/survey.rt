@@ -7,7 +7,7 @@ use crate::gathering::Gathered;
 use merge_predicates::{Functions, Starts};
 use model::Model;
 
-#[derive(Clone, Copy)]
+#[derive(Clone, Copy, Debug, PartialEq, Eq)]
 pub struct Survey {
     pub deep: bool,
     pub nodes: usize,

@@ -1,13 +1,13 @@
 // The synchronising set of the whole, from the automata's own.
 ghost use Rattle.std.specs.Prelude.{◌≡◌, ◌≤◌};
-ghost use Rattle.merge_append.specs.Append.{Appended};
+ghost use Rattle.merge_append.specs.Append.{Filled};
 ghost use Rattle.merge_words.specs.Sync.{is_shared, shifted, bits_from, sets_of, words_of};
 
-use model::Model;
+use merge_append::Filling;
 use table_places::Layout;
 
 // Each automaton's own set, and the whole's in two words: actions 0 to 31, and 32 to 63.
-#[derive(Clone, Copy)]
+#[derive(Clone, Copy, Debug, PartialEq, Eq)]
 pub struct Sets {
     pub own: [u64; 16],
     pub low: u32,
@@ -58,9 +58,8 @@ pub fn gather(t: &[u32], x: Layout) -> Sets
 }
 
 // The whole's set in two words.
-pub fn write(s: Sets, out: &mut [u32; Model::WORDS], at: usize) -> usize
-    ensures { Appended (words_of s) at out.old out.new result }
+pub fn write(s: Sets, out: &mut Filling)
+    ensures { Filled (words_of s) out.old out.new }
 {
-    let next = merge_append::put(arithmetic::index(s.low), out, at);
-    merge_append::put(arithmetic::index(s.high), out, next)
+    out.put_all(&[arithmetic::index(s.low), arithmetic::index(s.high)]);
 }

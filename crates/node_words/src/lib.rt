@@ -1,7 +1,7 @@
 // The words of predicate nodes (docs/TABLE.md): the one place that knows how a word holds a node.
 #![tactic(auto)]
 
-ghost use Rattle.std.specs.Prelude.{◌≡◌, ◌+◌, ◌*◌, ◌%◌, ◌<◌};
+ghost use Rattle.std.specs.Prelude.{◌≡◌, ◌+◌, ◌*◌, ◌%◌, ◌<◌, take, drop};
 ghost use Rattle.model.specs.Bounds.{first_number_word};
 ghost use Rattle.node_words.specs.Nodes.{node_of, word_for};
 
@@ -90,4 +90,12 @@ pub fn word_of(node: Node) -> u32
         Node::If => 12,
         Node::Stray => 15,
     }
+}
+
+// Of `count` words from `at` on, those that are there: a predicate's words, by its place and its count.
+pub fn part(words: &[u32], at: usize, count: usize) -> &[u32]
+    ensures { result.now ≡ take count (drop at words.now) }
+{
+    let rest = &words[at.min(words.len())..];
+    &rest[..count.min(rest.len())]
 }

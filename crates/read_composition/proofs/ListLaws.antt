@@ -1,9 +1,10 @@
 -- Each way out of the code of src/list.rt.
 use Prim.Native.Nat.{ℕ, ◌+◌, ◌-◌, ◌%◌, ◌/◌}
 use mathlib.Core.Path.{◌≡◌, ◌∙◌, ap}
-use mathlib.Core.Bool.{not, ◌&&◌}
+use mathlib.Core.Bool.{true, false, not, ◌&&◌}
 use mathlib.Core.List.{List}
 use Rattle.format.specs.Bytes.{Bytes}
+use Rattle.std.specs.Prelude.{Option, Some, None}
 use Rattle.read_list.specs.declared.Asked.{Asked}
 use Rattle.read_list.specs.declared.Listed as Read
 use Rattle.read_list.specs.Items.{items_of}
@@ -18,15 +19,20 @@ asked_is A n e = rw e
 pub ruleset asked_laws = (asked_is)
 
 -- `in_words`
-pub words_is : (l : Read.Listed) (low high : ℕ) → low ≡ (all_actions - l.rest) % 4294967296 → high ≡ (all_actions - l.rest) / 4294967296
-    → record { sound = l.sound; rising = l.rising && not l.outside; low = low; high = high } ≡ words_of l
+pub words_is : (o : Option Read.Listed) (l : Read.Listed) → o ≡ Some l → (low high : ℕ) → low ≡ (all_actions - l.rest) % 4294967296 → high ≡ (all_actions - l.rest) / 4294967296
+    → record { sound = true; rising = l.rising && not l.outside; low = low; high = high } ≡ words_of o
 unfolding words_of
-words_is l low high e f = rw (e, f)
+words_is o l h low high e f = rw (h, e, f)
 
-pub ruleset words_laws = (words_is)
+pub words_unsound : (o : Option Read.Listed) → o ≡ None → (low high : ℕ) → low ≡ all_actions % 4294967296 → high ≡ all_actions / 4294967296
+    → record { sound = false; rising = false; low = low; high = high } ≡ words_of o
+unfolding words_of
+words_unsound o h low high e f = rw (h, e, f)
+
+pub ruleset words_laws = (words_is, words_unsound)
 
 -- `list_of` and `sync_list`
-pub list_is : (A : ℕ) (items : List Bytes) (q : Asked) (l : Read.Listed) (r : Listed) → r ≡ words_of l → l ≡ items_of q items → q ≡ asked_of A → r ≡ list_of A items
+pub list_is : (A : ℕ) (items : List Bytes) (q : Asked) (l : Option Read.Listed) (r : Listed) → r ≡ words_of l → l ≡ items_of q items → q ≡ asked_of A → r ≡ list_of A items
 unfolding list_of
 list_is A items q l r h e f = h ∙ ap words_of (e ∙ ap (λ (x : Asked). items_of x items) f)
 

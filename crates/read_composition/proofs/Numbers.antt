@@ -1,6 +1,6 @@
 -- What the answer says of a list: row 3, row 5, and the words of its set.
 use Prim.Native.Nat.{ℕ, suc, ◌+◌, ◌-◌, ◌*◌, ◌%◌, ◌/◌, ◌^◌, ◌<◌}
-use mathlib.Core.Path.{◌≡◌, refl, sym, ◌∙◌, ap, ap₂}
+use mathlib.Core.Path.{◌≡◌, refl, sym, ◌∙◌, ap}
 use mathlib.Core.Bool.{Bool, true, false, not, ◌&&◌, ◌||◌}
 use mathlib.Core.List.{List, [], ◌∷◌, map}
 use native.Mathlib.Omega.{arith}
@@ -20,7 +20,12 @@ use Rattle.table_tree.specs.Sets.{one_word}
 use Rattle.table_tree.proofs.SetLaws.{keep_alike, set_of_one, words_back}
 use Rattle.table_writes.specs.Sets.{mask, cleared}
 use Rattle.table_writes.proofs.MaskLaws.{bit_mask, mask_other, mask_small, out_list}
-use Rattle.read_list.proofs.Meaning.{items_sound, items_rising, items_outside, items_rest, items_ranged}
+use Rattle.read_list.proofs.Meaning.{items_sound, items_listed, items_ranged}
+use Rattle.read_list.specs.declared.Listed as Read
+use Rattle.read_list.specs.Items.{items_of}
+use Rattle.read_composition.specs.declared.list.Listed.{Listed}
+use Rattle.std.specs.Prelude.{Option, Some, None}
+use Rattle.std.specs.Option.{is_some}
 use Rattle.read_composition.specs.List.{all_actions, asked_of, words_of, list_of}
 
 -- to rise up to A is to rise, with nothing above A
@@ -92,17 +97,23 @@ module _ (list : List ℕ) (rise : ascends 0 list ≡ true) (ranged : every (λ 
 module _ (A : ℕ) (ss : List Bytes) where
   pub list_sound : (list_of A ss).sound ≡ every (within (pos 0) (pos max_actions)) ss
   unfolding list_of words_of asked_of
-  list_sound = items_sound (asked_of A) ss
+  list_sound = sound_is (items_of (asked_of A) ss) ∙ items_sound (asked_of A) ss
+    where
+      sound_is : (o : Option Read.Listed) → (words_of o).sound ≡ is_some o
+      sound_is None = refl
+      sound_is (Some l) = refl
 
   module _ (h : every (within (pos 0) (pos max_actions)) ss ≡ true) where
+    list_is : list_of A ss ≡ words_of (Some (record { rising = ascends 1 (map natural_of ss); outside = exists (λ k. leb (A + 1) k) (map natural_of ss); rest = cleared all_actions (map natural_of ss) }))
+    unfolding list_of asked_of
+    list_is = ap words_of (items_listed (asked_of A) ss h)
+
     pub list_rising : (list_of A ss).rising ≡ rises A 0 (map natural_of ss)
-    unfolding list_of words_of asked_of
-    list_rising =
-        ap₂ (λ (a b : Bool). a && not b) (items_rising (asked_of A) ss h) (items_outside (asked_of A) ss h) ∙ sym (rises_is A 0 (map natural_of ss))
+    unfolding words_of
+    list_rising = ap (λ (l : Listed). l.rising) list_is ∙ sym (rises_is A 0 (map natural_of ss))
 
     pub list_set : (B : ℕ) → rises B 0 (map natural_of ss) ≡ true → (list_of A ss).low ∷ (list_of A ss).high ∷ [] ≡ set_words (map natural_of ss)
-    unfolding list_of words_of asked_of
+    unfolding words_of
     list_set B r =
         let rise = lower 0 (map natural_of ss) (and_left (ascends 1 (map natural_of ss)) _ (sym (rises_is B 0 (map natural_of ss)) ∙ r)) in
-        ap (λ (n : ℕ). (all_actions - n) % 4294967296 ∷ (all_actions - n) / 4294967296 ∷ []) (items_rest (asked_of A) ss h) ∙
-        set_words_lem (map natural_of ss) rise (items_ranged max_actions ss h)
+        ap (λ (l : Listed). l.low ∷ l.high ∷ []) list_is ∙ set_words_lem (map natural_of ss) rise (items_ranged max_actions ss h)

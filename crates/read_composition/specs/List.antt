@@ -1,6 +1,6 @@
 -- A list of actions as the code reads it. What it says of sound and rising lists is in the laws list_sound, list_rising
 -- and list_set.
-use Rattle.std.specs.Prelude.{ℕ, ◌+◌, ◌-◌, ◌%◌, ◌/◌, not, ◌&&◌, List}
+use Rattle.std.specs.Prelude.{ℕ, ◌+◌, ◌-◌, ◌%◌, ◌/◌, true, false, not, ◌&&◌, List, Option, Some, None}
 use Rattle.model.specs.Bounds.{max_actions}
 use Rattle.format.specs.Bytes.{Bytes}
 use Rattle.read_list.specs.declared.Asked.{Asked}
@@ -16,15 +16,18 @@ all_actions = 18446744073709551615
 unfoldable pub asked_of : (A : ℕ) → Asked
 asked_of A = record { most = max_actions; least = 1; below = A + 1; all = all_actions }
 
--- the set as two words; row 5 is also about actions above the highest
-unfoldable pub words_of : Read.Listed → Listed
-words_of l =
+-- the set as two words; row 5 is also about actions above the highest. A list that is not sound does not rise, and its
+-- set has all numbers
+unfoldable pub words_of : Option Read.Listed → Listed
+words_of (Some l) =
     record {
-      sound = l.sound;
+      sound = true;
       rising = l.rising && not l.outside;
       low = (all_actions - l.rest) % 4294967296;
       high = (all_actions - l.rest) / 4294967296;
     }
+words_of None =
+    record { sound = false; rising = false; low = all_actions % 4294967296; high = all_actions / 4294967296 }
 
 unfoldable pub list_of : (A : ℕ) → List Bytes → Listed
 list_of A items = words_of (items_of (asked_of A) items)

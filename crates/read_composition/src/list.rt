@@ -46,19 +46,27 @@ fn high_word(set: u64) -> u32
     (set / 4294967296) as u32
 }
 
-// The set as two words. Row 5 is also about actions above the highest.
+// The set as two words. Row 5 is also about actions above the highest. An unsound list does not rise.
 #[tactic(auto, using(crate::proofs::ListLaws::words_laws))]
-fn in_words(list: read_list::Listed) -> Listed
+fn in_words(list: Option<read_list::Listed>) -> Listed
     ensures { result ≡ words_of list }
 {
-    let sound = list.sound;
-    let rising = list.rising & !list.outside;
-    let set = ALL - list.rest;
-    Listed {
-        sound,
-        rising,
-        low: low_word(set),
-        high: high_word(set),
+    match list {
+        Some(list) => {
+            let set = ALL - list.rest;
+            Listed {
+                sound: true,
+                rising: list.rising & !list.outside,
+                low: low_word(set),
+                high: high_word(set),
+            }
+        }
+        None => Listed {
+            sound: false,
+            rising: false,
+            low: low_word(ALL),
+            high: high_word(ALL),
+        },
     }
 }
 

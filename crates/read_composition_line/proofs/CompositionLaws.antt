@@ -6,6 +6,8 @@ use mathlib.Core.List.{List, [], ◌∷◌, ◌++◌}
 use mathlib.Core.Option.{Option, none, some}
 use native.Mathlib.Omega.{arith}
 use borrow.Author.Tests.{lt-ltb, le-ltb, eq-eqb, ne_eqb}
+use Rattle.model.proofs.Tests.{not-true, not-false}
+use Rattle.read_predicate.proofs.ScratchLaws.{scratch_same}
 use lib.ListN.{length, take, length-append}
 use Rattle.model.specs.Limits.{broken, is_too_large}
 use Rattle.model.proofs.Decode.{is_broken, not_broken}
@@ -241,7 +243,7 @@ module _ (c : Counts) (words : List ℕ) (part : Bytes) (old : List ℕ) (high a
           put_then (tree_words N part) at later words ∙ ap (λ (w : List ℕ). put at w words) all_words ∙
           sym (written_sound _ _ words none_left)
 
-pub ruleset composed_laws = (composed_starts, composed_starts_kept, composed_read_lem, composed_put, starts_few)
+pub ruleset composed_laws = (composed_starts, composed_starts_kept, composed_read_lem, composed_put, starts_few, composed_tree, composed_tree_kept)
 
 -- `composition`
 module _ (s : Bytes) (ended : Bool) (c : Counts) (words : List ℕ) (room high at : ℕ) where
@@ -315,4 +317,4 @@ module _ (s : Bytes) (ended : Bool) (c : Counts) (words : List ℕ) (room high a
               hy ∙ ap (λ (o : Option ℕ). part_after o c words v room high at) rest_fault ∙
               ap (λ (u : Bytes). part_after (compose_fault s ended c words room high) c words u room high at) hv
 
-pub ruleset composition_laws = (form_read, form_after, numbers_read, numbers_after, lists_read, lists_after, rest_read, rest_after)
+pub ruleset composition_laws = (form_read, form_after, numbers_read, numbers_after, lists_read, lists_after, rest_read, rest_after, scratch_same, not-true, not-false)

@@ -4,25 +4,24 @@ ghost use Rattle.read_composition_line.specs.Sync.{sync_read, sync_after};
 
 use line_order::Counts;
 use model::{Model, Row};
-use read_form::LineRead;
+use read_form::{Line, LineRead};
 use table_append::append_one;
 
 // Rows 2, 3 and 5; then the two words of the set.
 pub fn sync(
-    line: &[u8],
-    ended: bool,
+    line: Line<'_>,
     counts: Counts,
     words: &mut [u32; Model::WORDS],
     at: usize,
 ) -> Result<LineRead, Row>
-    ensures { (result ≡ sync_read line.now ended counts at)
-        × (words.new ≡ sync_after line.now ended counts words.old at) }
+    ensures { (result ≡ sync_read line.entry.bytes.now line.entry.ended counts at)
+        × (words.new ≡ sync_after line.entry.bytes.now line.entry.ended counts words.old at) }
 {
-    if read_form::misformed(line, ended, b"sync=", 0) {
+    if line.misformed(b"sync=", 0) {
         return Err(Row(2));
     }
     let a = counts.actions;
-    let list = read_composition::sync_list(read_form::value(line, b"sync="), line_order::capped(a));
+    let list = read_composition::sync_list(line.value(b"sync="), line_order::capped(a));
     if !list.sound {
         return Err(Row(3));
     }

@@ -9,7 +9,7 @@ ghost use Rattle.read_composition_line.specs.Composition.{composed_read, compose
 
 use line_order::Counts;
 use model::{Model, Row, Tree};
-use read_form::LineRead;
+use read_form::{Line, LineRead};
 use read_starts::Judged;
 use read_tokens::numbers_sound;
 use table_append::{append, append_one};
@@ -50,6 +50,7 @@ fn tree(
 }
 
 // How many P there are, and their words.
+#[tactic(auto, using(table_append::proofs::Joined::more_laws))]
 fn append_starts(
     part: &[u8],
     count: usize,
@@ -68,6 +69,7 @@ fn append_starts(
 }
 
 // The P after each `ini`, by the table so far.
+#[tactic(auto, using(crate::proofs::CompositionLaws::starts_by))]
 fn starts(
     part: &[u8],
     counts: Counts,
@@ -87,6 +89,7 @@ fn starts(
 }
 
 // The rows of the P's, and then those of the tree. Nothing is written where one is broken.
+#[tactic(auto, using(crate::proofs::CompositionLaws::composed_laws))]
 fn composed(
     part: &[u8],
     counts: Counts,
@@ -116,26 +119,26 @@ fn composed(
 }
 
 // Rows 2, 3 and 5, and then those of the P's and of the tree.
+#[tactic(auto, using(crate::proofs::CompositionLaws::composition_laws))]
 pub fn composition(
-    line: &[u8],
-    ended: bool,
+    line: Line<'_>,
     counts: Counts,
     words: &mut [u32; Model::WORDS],
     at: usize,
     nodes: &mut [u32],
     sorts: &mut [bool],
 ) -> Result<LineRead, Row>
-    ensures value { result ≡ compose_read line.now ended counts words.old
+    ensures value { result ≡ compose_read line.entry.bytes.now line.entry.ended counts words.old
         (length nodes.old) (length sorts.old) at }
-    ensures words_after { words.new ≡ compose_after line.now ended counts words.old
+    ensures words_after { words.new ≡ compose_after line.entry.bytes.now line.entry.ended counts words.old
         (length nodes.old) (length sorts.old) at }
     ensures scratch { Scratch nodes.old nodes.new
         × Scratch sorts.old sorts.new }
 {
-    if read_form::misformed(line, ended, b"compose=", 0) {
+    if line.misformed(b"compose=", 0) {
         return Err(Row(2));
     }
-    let part = read_form::value(line, b"compose=");
+    let part = line.value(b"compose=");
     if !numbers_sound(part) {
         return Err(Row(3));
     }

@@ -7,8 +7,9 @@ ghost use Rattle.read_edge.specs.Edge.{ends_in, astray};
 use line_order::Counts;
 use model::Model;
 use read_form::field;
+
 // FROM, ACT and TO.
-#[derive(Clone, Copy)]
+#[derive(Clone, Copy, Debug, PartialEq, Eq)]
 pub struct Ends {
     pub from: u32,
     pub action: u32,

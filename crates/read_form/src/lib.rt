@@ -14,27 +14,39 @@ pub struct LineRead {
     pub next: usize,
 }
 
-// What stands after the key.
-pub fn value<'a>(line: &'a [u8], name: &[u8]) -> &'a [u8]
-    ensures { result.now ≡ value_after name.now line.now }
-{
-    line.get(name.len()..).unwrap_or(&[])
+// A line's bytes without its LF, and whether an LF ended it.
+#[derive(Clone, Copy, Debug, PartialEq, Eq)]
+pub struct Line<'a> {
+    pub bytes: &'a [u8],
+    pub ended: bool,
+}
+
+impl<'a> Line<'a> {
+    // What stands after the key.
+    pub fn value(self, name: &[u8]) -> &'a [u8]
+        ensures { result.now ≡ value_after name.now self.entry.bytes.now }
+    {
+        self.bytes.get(name.len()..).unwrap_or(&[])
+    }
+
+    // Row 2: the line has another key, another number of fields, a byte that is not printable, or no LF.
+    #[tactic(auto, using(crate::proofs::FormLaws::form_by))]
+    pub fn misformed(self, name: &[u8], fields: usize) -> bool
+        ensures { result ≡ misformed name.now fields self.entry.bytes.now self.entry.ended }
+    {
+        !text_bytes::begins(self.bytes, name)
+            | misparted(self.value(name), fields)
+            | !text_bytes::printable(self.bytes)
+            | !self.ended
+    }
 }
 
 // Commas part the value into another number of fields; where `fields` is 0 they part nothing.
+#[tactic(auto, using(crate::proofs::FormLaws::misparted_laws))]
 fn misparted(value: &[u8], fields: usize) -> bool
     ensures { result ≡ misparted fields value.now }
 {
     fields != 0 && text_bytes::count(value, b',') != fields - 1
-}
-
-pub fn misformed(line: &[u8], ended: bool, name: &[u8], fields: usize) -> bool
-    ensures { result ≡ misformed name.now fields line.now ended }
-{
-    !text_bytes::begins(line, name)
-        | misparted(value(line, name), fields)
-        | !text_bytes::printable(line)
-        | !ended
 }
 
 // The field with this number, of those that commas part; empty where there are fewer.

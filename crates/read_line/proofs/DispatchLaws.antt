@@ -88,8 +88,4 @@ module _ (s : Bytes) (ended : Bool) (c : Counts) (words : List ℕ) (at : ℕ) w
     unfolding line_after
     long_after t e = e
 
-pub ruleset short_laws = (short_read, short_after)
-
-pub ruleset middle_laws = (middle_read, middle_after)
-
-pub ruleset long_laws = (long_read, long_after)
+pub ruleset room_laws = (short_read, short_after, middle_read, middle_after, long_read, long_after)

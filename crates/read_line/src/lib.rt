@@ -2,17 +2,18 @@
 // read.
 #![tactic(auto)]
 
-ghost use Rattle.std.specs.Prelude.{◌≡◌, length};
+ghost use Rattle.std.specs.Prelude.{◌≡◌, ◌≤◌, length};
+ghost use Rattle.read_predicate_line.specs.Predicate.{most_words};
 ghost use Rattle.read_line.specs.Line.{line_with, line_with_after, line_read, line_after};
 
 use line_order::{Counts, Key};
 use model::{Model, Row};
-pub use read_form::LineRead;
+pub use read_form::{Line, LineRead};
 
-// The line that the key says, with memory for a predicate's nodes and their sorts.
+// The line that the key says, with memory for a predicate's nodes and their sorts. What is lent stays apart, here and
+// at each line: the promises name the content of `words` afterwards alone, and of the memory its length.
 fn read_with(
-    line: &[u8],
-    ended: bool,
+    line: Line<'_>,
     key: Key,
     counts: Counts,
     words: &mut [u32; Model::WORDS],
@@ -20,15 +21,14 @@ fn read_with(
     nodes: &mut [u32],
     sorts: &mut [bool],
 ) -> Result<LineRead, Row>
-    ensures value { result ≡ line_with line.now ended key counts words.old at
+    ensures value { result ≡ line_with line.entry.bytes.now line.entry.ended key counts words.old at
         (length nodes.old) (length sorts.old) }
-    ensures words_after { words.new ≡ line_with_after line.now ended key counts words.old at
+    ensures words_after { words.new ≡ line_with_after line.entry.bytes.now line.entry.ended key counts words.old at
         (length nodes.old) (length sorts.old) }
 {
     match key {
         Key::Format => read_number_line::counted(
             line,
-            ended,
             b"format=",
             Model::FIRST_FORMAT as u32,
             Model::LAST_FORMAT as u32,
@@ -36,61 +36,73 @@ fn read_with(
             at,
         ),
         Key::Actions => {
-            read_number_line::counted(line, ended, b"actions=", 0, Model::ACTIONS, words, at)
+            read_number_line::counted(line, b"actions=", 0, Model::ACTIONS, words, at)
         }
         Key::Variables => {
             let most = Model::VARIABLES as u32;
-            read_number_line::counted(line, ended, b"variables=", 0, most, words, at)
+            read_number_line::counted(line, b"variables=", 0, most, words, at)
         }
-        Key::Variable => read_number_line::variable(line, ended, words, at),
-        Key::Automata => read_number_line::automata(line, ended, counts, words, at),
-        Key::Sync => read_composition_line::sync(line, ended, counts, words, at),
+        Key::Variable => read_number_line::variable(line, words, at),
+        Key::Automata => read_number_line::automata(line, counts, words, at),
+        Key::Sync => read_composition_line::sync(line, counts, words, at),
         Key::Locations => {
             let most = Model::LOCATIONS as u32;
-            read_number_line::counted(line, ended, b"locations=", 1, most, words, at)
+            read_number_line::counted(line, b"locations=", 1, most, words, at)
         }
         Key::Init => {
             let name = b"init=";
-            read_predicate_line::location(line, ended, name, counts, words, at, nodes, sorts)
+            read_predicate_line::location(line, name, counts, words, at, nodes, sorts)
         }
         Key::Inv => {
             let name = b"inv=";
-            read_predicate_line::location(line, ended, name, counts, words, at, nodes, sorts)
+            read_predicate_line::location(line, name, counts, words, at, nodes, sorts)
         }
-        Key::Edges => read_number_line::edges(line, ended, counts, words, at),
-        Key::Edge => read_predicate_line::edge(line, ended, counts, words, at, nodes, sorts),
-        Key::Compose => read_composition_line::composition(
-            line, ended, counts, words, at, nodes, sorts,
-        ),
+        Key::Edges => read_number_line::edges(line, counts, words, at),
+        Key::Edge => read_predicate_line::edge(line, counts, words, at, nodes, sorts),
+        Key::Compose => read_composition_line::composition(line, counts, words, at, nodes, sorts),
         Key::End => Err(Row(2)),
     }
 }
 
-// The line's bytes without the LF, and whether an LF ended it; `words` is the table so far, `at` the place of its next
-// word. The memory for a predicate is as much as the line needs: to clear the most would take longer than to read most
-// lines.
-pub fn read(
-    line: &[u8],
-    ended: bool,
+// With memory for so many nodes of a predicate, and for their sorts. It is never inlined, so that a short line is read
+// on little stack.
+#[inline(never)]
+fn with_memory<const N: usize>(
+    line: Line<'_>,
     key: Key,
     counts: Counts,
     words: &mut [u32; Model::WORDS],
     at: usize,
 ) -> Result<LineRead, Row>
-    ensures { (result ≡ line_read line.now ended key counts words.old at)
-        × (words.new ≡ line_after line.now ended key counts words.old at) }
+    requires { N ≤ most_words }
+    ensures value { result ≡ line_with line.entry.bytes.now line.entry.ended key counts words.old at N N }
+    ensures words_after { words.new ≡
+        line_with_after line.entry.bytes.now line.entry.ended key counts words.old at N N }
 {
-    if line.len() <= 256 {
-        let mut nodes = [0u32; 128];
-        let mut sorts = [false; 128];
-        return read_with(line, ended, key, counts, words, at, &mut nodes, &mut sorts);
+    let mut nodes = [0u32; N];
+    let mut sorts = [false; N];
+    read_with(line, key, counts, words, at, &mut nodes, &mut sorts)
+}
+
+// `words` is the table so far, `at` the place of its next word. The memory for a predicate is as much as the line
+// needs: to clear the most would take longer than to read most lines.
+#[tactic(auto, using(crate::proofs::DispatchLaws::room_laws))]
+pub fn read(
+    line: Line<'_>,
+    key: Key,
+    counts: Counts,
+    words: &mut [u32; Model::WORDS],
+    at: usize,
+) -> Result<LineRead, Row>
+    ensures { (result ≡ line_read line.entry.bytes.now line.entry.ended key counts words.old at)
+        × (words.new ≡ line_after line.entry.bytes.now line.entry.ended key counts words.old at) }
+{
+    let long = line.bytes.len();
+    if long <= 256 {
+        return with_memory::<128>(line, key, counts, words, at);
     }
-    if line.len() <= 4096 {
-        let mut nodes = [0u32; 2048];
-        let mut sorts = [false; 2048];
-        return read_with(line, ended, key, counts, words, at, &mut nodes, &mut sorts);
+    if long <= 4096 {
+        return with_memory::<2048>(line, key, counts, words, at);
     }
-    let mut nodes = [0u32; 32768];
-    let mut sorts = [false; 32768];
-    read_with(line, ended, key, counts, words, at, &mut nodes, &mut sorts)
+    with_memory::<32768>(line, key, counts, words, at)
 }

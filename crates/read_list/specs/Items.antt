@@ -1,6 +1,6 @@
 -- A list of numbers as the code reads it: item after item. What it says of a list is in the laws items_sound,
--- items_rising, items_outside and items_rest.
-use Rattle.std.specs.Prelude.{ℕ, ◌+◌, true, false, ◌&&◌, ◌||◌, List, [], ◌∷◌, leb, pos}
+-- items_listed, items_rising, items_outside and items_rest.
+use Rattle.std.specs.Prelude.{ℕ, ◌+◌, true, false, ◌&&◌, ◌||◌, List, [], ◌∷◌, leb, pos, Option, Some, None}
 use Rattle.format.specs.Bytes.{Bytes}
 use Rattle.format.specs.Number.{within, natural_of}
 use Rattle.table_writes.specs.Sets.{clear}
@@ -21,17 +21,14 @@ with_item q x k =
 unfoldable pub no_items : Asked → Items
 no_items q = record { least = q.least; rising = true; outside = false; rest = q.all }
 
-abbrev pub unsound : Listed
-unsound = record { sound = false; rising = false; outside = false; rest = 0 }
-
--- the items after the numbers x
-unfoldable pub items_from : Asked → Items → List Bytes → Listed
-items_from q x [] = record { sound = true; rising = x.rising; outside = x.outside; rest = x.rest }
+-- the items after the numbers x; where one is no number that is sound, nothing is said of them
+unfoldable pub items_from : Asked → Items → List Bytes → Option Listed
+items_from q x [] = Some (record { rising = x.rising; outside = x.outside; rest = x.rest })
 items_from q x (s ∷ ss) =
     elim (within (pos 0) (pos q.most) s) [
       | true ↦ items_from q (with_item q x (natural_of s)) ss
-      | false ↦ unsound
+      | false ↦ None
     ]
 
-unfoldable pub items_of : Asked → List Bytes → Listed
+unfoldable pub items_of : Asked → List Bytes → Option Listed
 items_of q items = items_from q (no_items q) items

@@ -9,7 +9,7 @@ ghost use Rattle.read_list.specs.Items.{with_item, no_items, items_of};
 
 // What is asked of a list: the greatest number that there is, the least that it may begin with, the bound, and the set
 // that its numbers are taken out of.
-#[derive(Clone, Copy)]
+#[derive(Clone, Copy, Debug, PartialEq, Eq)]
 pub struct Asked {
     pub most: u32,
     pub least: usize,
@@ -17,10 +17,9 @@ pub struct Asked {
     pub all: u64,
 }
 
-// `rest` is what is left of the set. Where the list is not sound, the others say nothing.
-#[derive(Clone, Copy)]
+// Of a list of sound numbers: whether they rise, whether one is not below the bound, and what is left of the set.
+#[derive(Clone, Copy, Debug, PartialEq, Eq)]
 pub struct Listed {
-    pub sound: bool,
     pub rising: bool,
     pub outside: bool,
     pub rest: u64,
@@ -28,7 +27,7 @@ pub struct Listed {
 
 // Of the numbers so far: the least that may follow, whether they rise, whether one is not below the bound, and what is
 // left of the set.
-#[derive(Clone, Copy)]
+#[derive(Clone, Copy, Debug, PartialEq, Eq)]
 pub struct Items {
     pub least: usize,
     pub rising: bool,
@@ -36,6 +35,7 @@ pub struct Items {
     pub rest: u64,
 }
 
+#[tactic(auto, using(crate::proofs::CodeLaws::item_laws))]
 fn no_items(asked: Asked) -> Items
     ensures { result ≡ no_items asked }
 {
@@ -49,6 +49,7 @@ fn no_items(asked: Asked) -> Items
     }
 }
 
+#[tactic(auto, using(crate::proofs::CodeLaws::item_laws))]
 fn with_item(asked: Asked, seen: Items, k: u32) -> Items
     ensures { result ≡ with_item asked seen k }
 {
@@ -62,42 +63,34 @@ fn with_item(asked: Asked, seen: Items, k: u32) -> Items
     }
 }
 
-// A list that is not empty.
-pub fn filled(part: &[u8], asked: Asked) -> Listed
+// A list that is not empty; nothing where a number is not sound.
+pub fn filled(part: &[u8], asked: Asked) -> Option<Listed>
     ensures { result ≡ items_of asked (parts comma part.now) }
 {
     let mut seen = no_items(asked);
     for item in part.split(|&b| b == b',') {
-        let Some(k) = text_numbers::natural(item, asked.most) else {
-            return Listed {
-                sound: false,
-                rising: false,
-                outside: false,
-                rest: 0,
-            };
-        };
+        let k = text_numbers::natural(item, asked.most)?;
         seen = with_item(asked, seen, k);
     }
-    Listed {
-        sound: true,
+    Some(Listed {
         rising: seen.rising,
         outside: seen.outside,
         rest: seen.rest,
-    }
+    })
 }
 
 // A list that may be empty.
-pub fn read(part: &[u8], asked: Asked) -> Listed
+#[tactic(auto, using(crate::proofs::CodeLaws::read_laws))]
+pub fn read(part: &[u8], asked: Asked) -> Option<Listed>
     ensures { result ≡ items_of asked (list_items part.now) }
 {
     if part.len() == 0 {
         let rest = asked.all;
-        return Listed {
-            sound: true,
+        return Some(Listed {
             rising: true,
             outside: false,
             rest,
-        };
+        });
     }
     filled(part, asked)
 }

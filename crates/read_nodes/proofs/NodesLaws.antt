@@ -15,6 +15,7 @@ use Rattle.model.specs.Predicate.{names_outside, names_new}
 use Rattle.model.specs.Parse.{read_pred}
 use Rattle.model.specs.Limits.{broken}
 use Rattle.model.specs.Table.{word_of}
+use Rattle.table_predicate.specs.declared.Stopped.{Stopped}
 use Rattle.table_predicate.specs.declared.Walked.{Walked}
 use Rattle.table_predicate.specs.Walk.{walk_at}
 use Rattle.format.specs.Tokens.{tokens, sounds}
@@ -30,7 +31,7 @@ use Rattle.read_nodes.specs.declared.NodesError.{NodesError}
 use Rattle.read_nodes.specs.declared.NodesError.TheVariants as E
 use Rattle.std.specs.Prelude.{Result, Ok, Err}
 use Rattle.std.specs.Result.{IsErrAnd}
-use Rattle.read_nodes.specs.Nodes.{broken_row, nodes_error, told, extent_fault, nodes_fault, judged_in, on_words, codes_of, nodes_read, nodes_after}
+use Rattle.read_nodes.specs.Nodes.{broken_row, nodes_error, walk_error, walk_fault, told, extent_fault, nodes_fault, judged_in, on_words, codes_of, nodes_read, nodes_after}
 
 -- the first row that is broken is the answer; a row that is not leaves it to the later ones
 hit : (n row : ℕ) (b : Bool) (rest : Option ℕ) → b ≡ true → broken_row row ≡ told n (broken row b rest)
@@ -41,29 +42,35 @@ pass : (n row : ℕ) (b : Bool) (rest : Option ℕ) (r : Result ℕ NodesError) 
 unfolding told broken
 pass n row b rest r h e = rw h e
 
+by_error : (r : Result ℕ NodesError) (e : NodesError) → IsErrAnd r (λ x. x ≡ e) → r ≡ Err e
+by_error (Ok n) e h = absurd h
+by_error (Err x) e h = ap Err h
+
 -- `extent`
-module _ (nodes ranges : List ℕ) (before : ℕ) (w : Walked) (hw : w ≡ walk_at nodes ranges 0) where
-  pub extent_deep : w.deep ≡ true → broken_row 9 ≡ told (length nodes) (extent_fault ranges before nodes)
+module _ (nodes ranges : List ℕ) (before : ℕ) (q : Result Walked Stopped) (hq : q ≡ walk_at nodes ranges 0) where
+  by_walk : (r : Result ℕ NodesError) → r ≡ told (length nodes) (walk_fault before (length nodes) q) → r ≡ told (length nodes) (extent_fault ranges before nodes)
   unfolding extent_fault
-  extent_deep h = rw (← hw) (hit (length nodes) 9 _ _ h)
+  by_walk r e = rw (← hq) e
 
-  module _ (h : w.deep ≡ false) where
-    past_deep : (r : Result ℕ NodesError) → r ≡ told (length nodes) (broken 10 w.leaves (broken 11 (not (leb (before + length nodes) max_nodes)) none)) → r ≡ told (length nodes) (extent_fault ranges before nodes)
-    unfolding extent_fault
-    past_deep r e = rw (← hw) (pass (length nodes) 9 w.deep _ r h e)
+  pub extent_ended : (s : Stopped) → q ≡ Err s → (r : Result ℕ NodesError) → IsErrAnd r (λ x. x ≡ walk_error s) → r ≡ told (length nodes) (extent_fault ranges before nodes)
+  unfolding walk_fault told
+  extent_ended s e r z = by_walk r (rw e (by_error r (walk_error s) z))
 
+  module _ (w : Walked) (e : q ≡ Ok w) where
     pub extent_leaves : w.leaves ≡ true → broken_row 10 ≡ told (length nodes) (extent_fault ranges before nodes)
-    extent_leaves g = past_deep (broken_row 10) (hit (length nodes) 10 w.leaves _ g)
+    unfolding walk_fault
+    extent_leaves g = by_walk (broken_row 10) (rw e (hit (length nodes) 10 w.leaves _ g))
 
     module _ (g : w.leaves ≡ false) (b : Bool) (hb : b ≡ leb (before + length nodes) max_nodes) where
       pub extent_many : not b ≡ true → broken_row 11 ≡ told (length nodes) (extent_fault ranges before nodes)
-      extent_many q = past_deep (broken_row 11) (pass (length nodes) 10 w.leaves _ (broken_row 11) g (hit (length nodes) 11 _ none (ap not (sym hb) ∙ q)))
+      unfolding walk_fault
+      extent_many t = by_walk (broken_row 11) (rw e (pass (length nodes) 10 w.leaves _ (broken_row 11) g (hit (length nodes) 11 _ none (ap not (sym hb) ∙ t))))
 
       pub extent_fine : not b ≡ false → Ok (length nodes) ≡ told (length nodes) (extent_fault ranges before nodes)
-      unfolding told
-      extent_fine q = past_deep (Ok (length nodes)) (pass (length nodes) 10 w.leaves _ (Ok (length nodes)) g (pass (length nodes) 11 _ none (Ok (length nodes)) (ap not (sym hb) ∙ q) refl))
+      unfolding walk_fault told
+      extent_fine t = by_walk (Ok (length nodes)) (rw e (pass (length nodes) 10 w.leaves _ (Ok (length nodes)) g (pass (length nodes) 11 _ none (Ok (length nodes)) (ap not (sym hb) ∙ t) refl)))
 
-pub ruleset extent_laws = (extent_deep, extent_leaves, extent_many, extent_fine)
+pub ruleset extent_laws = (extent_ended, extent_leaves, extent_many, extent_fine)
 
 -- `judged`
 module _ (nodes ranges : List ℕ) (o : Bool) (variables before high : ℕ) where
@@ -131,10 +138,6 @@ pub read_within : (part old new : List ℕ) (n : ℕ) → Reads part old new (Ok
 read_within part old new n r =
     let i = said_read (codes_of part) (length old) n (unfold codes_of in r.answered) in
     omega (arith, i.1, r.long)
-
-by_error : (r : Result ℕ NodesError) (e : NodesError) → IsErrAnd r (λ x. x ≡ e) → r ≡ Err e
-by_error (Ok n) e h = absurd h
-by_error (Err x) e h = ap Err h
 
 module _ (part : List ℕ) (o : Bool) (variables : ℕ) (ranges : List ℕ) (before high : ℕ) (old : List ℕ) (b : Bool) (hb : b ≡ sounds [] (tokens part)) where
   module _ (h : not b ≡ true) where

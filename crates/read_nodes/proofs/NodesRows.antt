@@ -19,6 +19,7 @@ use Rattle.model.specs.Limits.{broken, is_too_deep, exceeds_span, passes_nodes}
 use Rattle.model.specs.Table.{code, word_of}
 use Rattle.model.proofs.Decode.{unbroken, is_broken, not_broken}
 use Rattle.model.proofs.Parsing.{words_of_read}
+use Rattle.table_predicate.specs.declared.Stopped.{Stopped}
 use Rattle.table_predicate.specs.declared.Walked.{Walked}
 use Rattle.table_predicate.specs.Walk.{declared_of, walk_at}
 use Rattle.table_predicate.proofs.WalkLaws.{walk_words, words_deep}
@@ -36,7 +37,7 @@ use Rattle.model.proofs.Tests.{not_leb}
 use Rattle.read_nodes.specs.declared.NodesError.{NodesError}
 use Rattle.read_nodes.specs.declared.NodesError.TheVariants as E
 use Rattle.std.specs.Prelude.{Result, Ok, Err}
-use Rattle.read_nodes.specs.Nodes.{broken_row, told, extent_fault, nodes_fault, judged_in, on_words, codes_of, nodes_read, nodes_after}
+use Rattle.read_nodes.specs.Nodes.{broken_row, told, walk_fault, extent_fault, nodes_fault, judged_in, on_words, codes_of, nodes_read, nodes_after}
 use Rattle.read_nodes.specs.Text.{text_pred, text_fault}
 use Rattle.read_nodes.proofs.NodesLaws.{read_front}
 
@@ -132,27 +133,20 @@ module _ (declared : List Range) (ranges : List ℕ) (are : declared_of ranges �
     here : map word_of (take (node_count p) (drop 0 cs)) ≡ words p
     here = ap (map word_of) (take_all (node_count p) cs (omega (arith, size))) ∙ said
 
-    deep_is : (walk_at cs ranges 0).deep ≡ is_too_deep p
-    unfolding is_too_deep
-    deep_is = go (ltb max_depth (depth p)) refl
-      where
-        go : (v : Bool) → ltb max_depth (depth p) ≡ v → (walk_at cs ranges 0).deep ≡ v
-        go true e = words_deep cs ranges lawful_words 0 p here (ltb-true max_depth (depth p) e)
-        go false e = ap (λ (w : Walked). w.deep) (walk_words cs ranges lawful_words 0 p here (ltb-false max_depth (depth p) e))
-
-    leaves_is : is_too_deep p ≡ false → (walk_at cs ranges 0).leaves ≡ exceeds_span declared p
-    unfolding is_too_deep exceeds_span
-    leaves_is e =
-        ap (λ (w : Walked). w.leaves) (walk_words cs ranges lawful_words 0 p here (ltb-false max_depth (depth p) e)) ∙
-        ap (λ (l : List Range). not (all_stay l p)) are
-
     many_is : not (leb (before + length cs) max_nodes) ≡ passes_nodes before (words p)
     unfolding passes_nodes node_count
     many_is = not_leb (before + length cs) max_nodes ∙ ap (λ (b : ℕ). ltb max_nodes (before + b)) size
 
     extent_rows : extent_fault ranges before cs ≡ broken 9 (is_too_deep p) (broken 10 (exceeds_span declared p) (broken 11 (passes_nodes before (words p)) none))
-    unfolding extent_fault
-    extent_rows = same_row 9 _ _ _ _ deep_is (λ e. same_row 10 _ _ _ _ (leaves_is e) (λ f. same_row 11 _ _ _ _ many_is (λ g. refl)))
+    unfolding extent_fault walk_fault is_too_deep exceeds_span
+    extent_rows = go (ltb max_depth (depth p)) refl
+      where
+        go : (t : Bool) → ltb max_depth (depth p) ≡ t
+            → walk_fault before (length cs) (walk_at cs ranges 0) ≡ broken 9 t (broken 10 (exceeds_span declared p) (broken 11 (passes_nodes before (words p)) none))
+        go true e = rw (words_deep cs ranges lawful_words 0 p here (ltb-true max_depth (depth p) e)) (sym (is_broken 9 true _ refl))
+        go false e =
+            rw (walk_words cs ranges lawful_words 0 p here (ltb-false max_depth (depth p) e), are, many_is)
+            (sym (not_broken 9 false _ refl))
 
   -- all rows of the bytes
   module _ (part : Bytes) (o : Bool) where
@@ -246,8 +240,17 @@ module _ (part : Bytes) (o : Bool) (variables : ℕ) (ranges : List ℕ) (before
       go true e k = words_are n e (answer (codes_of part) room) refl k
       go false e k = absurd (let z : ◌≡◌ {A = ℕ} 0 1 = cc in omega arith)
 
+  -- rows 9 to 11
+  extent_few : (ns : List ℕ) → extent_fault ranges before ns ≡ none → before + length ns ≤ max_nodes
+  unfolding extent_fault walk_fault
+  extent_few ns h = go (walk_at ns ranges 0) h
+    where
+      go : (q : Result Walked Stopped) → walk_fault before (length ns) q ≡ none → before + length ns ≤ max_nodes
+      go (Ok w) e = leb-true (before + length ns) max_nodes (not-false _ (unbroken 11 _ _ (unbroken 10 _ _ e).1).0)
+      go (Err s) e = absurd (let z : ◌≡◌ {A = ℕ} 0 1 = cc in omega arith)
+
   pub accepted : (n : ℕ) → nodes_read part o variables ranges before room high ≡ Ok n → Accepted part n
-  unfolding nodes_fault extent_fault node_count
+  unfolding nodes_fault node_count
   accepted n h =
       let i = went n h in
       let s = i.numbers in
@@ -255,8 +258,7 @@ module _ (part : Bytes) (o : Bool) (variables : ℕ) (ranges : List ℕ) (before
       let f = read_front part (blank room) (written (codes_of part) (blank room)) n (rw i.words at (reads_are part room)) in
       let six = unbroken 6 _ _ i.rows in
       let nine = (unbroken 8 _ _ (unbroken 7 _ _ six.1).1).1 in
-      let eleven = (unbroken 11 _ _ (unbroken 10 _ _ (unbroken 9 _ _ nine).1).1).0 in
-      let l = leb-true (before + length (codes_of part)) max_nodes (not-false _ eleven) in
+      let l = extent_few (codes_of part) nine in
       let w = words_of_read (read_words (tokens part)) (text_pred part) (made part s (sym (ap (λ (x : List Word). lacks (read_pred x)) m.back) ∙ six.0)) in
       let c : codes_of part ≡ map code (words (text_pred part)) = m.coded ∙ ap (map code) w in
       record {

@@ -9,6 +9,9 @@ use Rattle.model.specs.Parse.{read_pred}
 use Rattle.model.specs.Limits.{broken}
 use Rattle.model.specs.Row.{row}
 use Rattle.model.specs.Table.{word_of}
+use Rattle.table_predicate.specs.declared.Stopped.{Stopped}
+use Rattle.table_predicate.specs.declared.Stopped.TheVariants as S
+use Rattle.table_predicate.specs.declared.Walked.{Walked}
 use Rattle.table_predicate.specs.Walk.{walk_at}
 use Rattle.format.specs.Bytes.{Bytes}
 use Rattle.format.specs.Tokens.{tokens, sounds}
@@ -33,13 +36,22 @@ unfoldable pub told : (nodes : ℕ) → Option ℕ → Result ℕ NodesError
 told nodes none = Ok nodes
 told nodes (some r) = broken_row r
 
+-- the row that an ended walk says. What is no predicate is row 6; nodes that make one are never that
+abbrev pub walk_row : Stopped → ℕ
+walk_row S.Deep = 9
+walk_row S.Stray = 6
+
+abbrev pub walk_error : Stopped → NodesError
+walk_error s = E.Row (row (walk_row s))
+
+-- rows 10 and 11 where the walk came past so many nodes; or row 9
+unfoldable pub walk_fault : (before nodes : ℕ) → Result Walked Stopped → Option ℕ
+walk_fault before nodes (Ok w) = broken 10 w.leaves (broken 11 (not (leb (before + nodes) max_nodes)) none)
+walk_fault before nodes (Err s) = some (walk_row s)
+
 -- rows 9 to 11 of node words, by the words of the ranges and the nodes before these
 unfoldable pub extent_fault : (ranges : List ℕ) (before : ℕ) (nodes : List ℕ) → Option ℕ
-extent_fault ranges before nodes =
-    broken 9 (walk_at nodes ranges 0).deep
-    (broken 10 (walk_at nodes ranges 0).leaves
-    (broken 11 (not (leb (before + length nodes) max_nodes))
-    none))
+extent_fault ranges before nodes = walk_fault before (length nodes) (walk_at nodes ranges 0)
 
 module _ (old_only : Bool) (variables : ℕ) (ranges : List ℕ) (before : ℕ) where
   -- rows 6 to 11

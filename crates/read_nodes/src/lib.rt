@@ -4,10 +4,12 @@
 
 ghost use Rattle.std.specs.Prelude.{◌≡◌, length};
 ghost use Rattle.read_predicate.specs.Scratch.{Scratch};
-ghost use Rattle.read_nodes.specs.Nodes.{nodes_error, told, extent_fault, judged_in, nodes_read, nodes_after};
+ghost use Rattle.read_nodes.specs.Nodes.{nodes_error, walk_error, told, extent_fault, judged_in, nodes_read};
+ghost use Rattle.read_nodes.specs.Nodes.{nodes_after};
 
 use model::{Model, Row};
 use read_words::WordsError;
+use table_predicate::Stopped;
 
 // Row: the smallest row that P breaks. Full: P has more words than there are places, and what it breaks is not known.
 #[derive(Clone, Copy, Debug, PartialEq, Eq)]
@@ -27,16 +29,25 @@ impl From<WordsError> for NodesError {
     }
 }
 
+// Nodes that make a predicate are no stray, so of these a walk ends too deep alone.
+impl From<Stopped> for NodesError {
+    ghost from_gives = { λ s e. e ≡ walk_error s };
+
+    fn from(stopped: Stopped) -> NodesError {
+        match stopped {
+            Stopped::Deep => NodesError::Row(Row(9)),
+            Stopped::Stray => NodesError::Row(Row(6)),
+        }
+    }
+}
+
 // Rows 9, 10 and 11 of nodes that make a predicate.
 #[tactic(auto, using(crate::proofs::NodesLaws::extent_laws))]
 fn extent(nodes: &[u32], ranges: &[u32], before: usize) -> Result<usize, NodesError>
     ensures { result ≡ told (length nodes.now)
         (extent_fault ranges.now before nodes.now) }
 {
-    let walk = table_predicate::walk(nodes, 0, ranges);
-    if walk.deep {
-        return Err(NodesError::Row(Row(9)));
-    }
+    let walk = table_predicate::walk(nodes, 0, ranges)?;
     if walk.leaves {
         return Err(NodesError::Row(Row(10)));
     }
@@ -48,6 +59,7 @@ fn extent(nodes: &[u32], ranges: &[u32], before: usize) -> Result<usize, NodesEr
 }
 
 // Rows 6 to 11 of node words.
+#[tactic(auto, using(crate::proofs::NodesLaws::judged_laws, read_predicate::proofs::ScratchLaws::scratch_laws))]
 fn judged(
     nodes: &[u32],
     old: bool,

@@ -1,5 +1,5 @@
 -- What the lines that have one number, and the line of a variable's range, answer and leave.
-use Rattle.std.specs.Prelude.{ℕ, true, false, List, [], ◌∷◌, ℤ, Result, Ok, Err}
+use Rattle.std.specs.Prelude.{ℕ, true, false, List, [], ◌∷◌, Result, Ok, Err}
 use Rattle.model.specs.Table.{biased}
 use Rattle.table_owners.specs.Owners.{beyond_in}
 use Rattle.table_append.specs.Append.{next_place, put}

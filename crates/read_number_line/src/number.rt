@@ -11,12 +11,13 @@ ghost use Rattle.read_number_line.specs.Number.{number_read, number_after, known
 
 use line_order::Counts;
 use model::{Model, Row};
-use read_form::LineRead;
+use read_form::{Line, LineRead};
 use read_numbers::{few_edges, one_number, two_numbers};
 use read_words::biased;
 use table_append::{append_one, append_two};
 
 // A line that counts something, or the format's.
+#[tactic(auto, using(crate::proofs::NumberLaws::counting_laws))]
 fn counting(
     count: Result<u32, Row>,
     words: &mut [u32; Model::WORDS],
@@ -35,6 +36,7 @@ fn counting(
 }
 
 // A variable's words: its range's, and nobody as its owner, which the line behind may replace.
+#[tactic(auto, using(crate::proofs::NumberLaws::variable_laws))]
 fn append_variable(words: &mut [u32; Model::WORDS], at: usize, low: u32, high: u32) -> usize
     ensures { (result ≡ next_place at 3)
         × (words.new ≡ put at (low ∷ high ∷ 0 ∷ []) words.old) }
@@ -44,6 +46,7 @@ fn append_variable(words: &mut [u32; Model::WORDS], at: usize, low: u32, high: u
 }
 
 // A variable's line, by its range's ends.
+#[tactic(auto, using(crate::proofs::NumberLaws::ranging_laws))]
 fn ranging(
     bounds: Result<(i32, i32), Row>,
     table: &mut [u32; Model::WORDS],
@@ -63,21 +66,21 @@ fn ranging(
 // The line of a number from low to high, with the key `name`: the format's, or that of the actions, the variables, or
 // an automaton's locations.
 pub fn counted(
-    line: &[u8],
-    ended: bool,
+    line: Line<'_>,
     name: &[u8],
     low: u32,
     high: u32,
     words: &mut [u32; Model::WORDS],
     at: usize,
 ) -> Result<LineRead, Row>
-    ensures { (result ≡ number_read (count_in name.now low high line.now ended) at)
-        × (words.new ≡ number_after (count_in name.now low high line.now ended) at words.old) }
+    ensures { (result ≡ number_read (count_in name.now low high line.entry.bytes.now line.entry.ended) at)
+        × (words.new ≡ number_after (count_in name.now low high line.entry.bytes.now line.entry.ended) at words.old) }
 {
-    counting(one_number(line, ended, name, low, high), words, at)
+    counting(one_number(line, name, low, high), words, at)
 }
 
 // Row 50: no variable, by the words of them all, has an owner that is not among so many automata.
+#[tactic(auto, using(crate::proofs::NumberLaws::known_laws))]
 fn known_owners(variables: &[u32], count: Result<u32, Row>) -> Result<u32, Row>
     ensures { result ≡ known_owners variables.now count }
 {
@@ -89,53 +92,49 @@ fn known_owners(variables: &[u32], count: Result<u32, Row>) -> Result<u32, Row>
 }
 
 // The number of automata, after the variables.
+#[tactic(auto, using(crate::proofs::NumberLaws::on_laws), unfolding(format::specs::Spelling::spelling))]
 pub fn automata(
-    line: &[u8],
-    ended: bool,
+    line: Line<'_>,
     counts: Counts,
     words: &mut [u32; Model::WORDS],
     at: usize,
 ) -> Result<LineRead, Row>
     ensures { (result ≡ number_read (known_owners (ranges_in words.old counts.variables)
-        (count_in (spelling Lines.automata) 1 max_automata line.now ended)) at)
+        (count_in (spelling Lines.automata) 1 max_automata line.entry.bytes.now line.entry.ended)) at)
         × (words.new ≡ number_after (known_owners (ranges_in words.old counts.variables)
-        (count_in (spelling Lines.automata) 1 max_automata line.now ended)) at words.old) }
+        (count_in (spelling Lines.automata) 1 max_automata line.entry.bytes.now line.entry.ended)) at words.old) }
 {
     let v = counts.variables;
-    let count = one_number(line, ended, b"automata=", 1, Model::AUTOMATA as u32);
+    let count = one_number(line, b"automata=", 1, Model::AUTOMATA as u32);
     let known = known_owners(table_line::ranges(words, v), count);
     counting(known, words, at)
 }
 
 // The number of an automaton's edges, after those of the automata before it.
+#[tactic(auto, using(crate::proofs::NumberLaws::on_laws), unfolding(format::specs::Spelling::spelling))]
 pub fn edges(
-    line: &[u8],
-    ended: bool,
+    line: Line<'_>,
     counts: Counts,
     words: &mut [u32; Model::WORDS],
     at: usize,
 ) -> Result<LineRead, Row>
     ensures { (result ≡ number_read
-        (few_edges counts.edges (count_in (spelling Lines.edges) 0 max_edges line.now ended)) at)
+        (few_edges counts.edges (count_in (spelling Lines.edges) 0 max_edges line.entry.bytes.now line.entry.ended)) at)
         × (words.new ≡ number_after
-        (few_edges counts.edges (count_in (spelling Lines.edges) 0 max_edges line.now ended)) at
+        (few_edges counts.edges (count_in (spelling Lines.edges) 0 max_edges line.entry.bytes.now line.entry.ended)) at
         words.old) }
 {
     let before = counts.edges;
-    let count = one_number(line, ended, b"edges=", 0, Model::EDGES as u32);
+    let count = one_number(line, b"edges=", 0, Model::EDGES as u32);
     counting(few_edges(before, count), words, at)
 }
 
 // A variable's range.
-pub fn variable(
-    line: &[u8],
-    ended: bool,
-    words: &mut [u32; Model::WORDS],
-    at: usize,
-) -> Result<LineRead, Row>
-    ensures { (result ≡ bounds_read (bounds_in (spelling Lines.variable) line.now ended) at)
+#[tactic(auto, using(crate::proofs::NumberLaws::on_laws), unfolding(format::specs::Spelling::spelling))]
+pub fn variable(line: Line<'_>, words: &mut [u32; Model::WORDS], at: usize) -> Result<LineRead, Row>
+    ensures { (result ≡ bounds_read (bounds_in (spelling Lines.variable) line.entry.bytes.now line.entry.ended) at)
         × (words.new ≡
-        bounds_after (bounds_in (spelling Lines.variable) line.now ended) at words.old) }
+        bounds_after (bounds_in (spelling Lines.variable) line.entry.bytes.now line.entry.ended) at words.old) }
 {
-    ranging(two_numbers(line, ended, b"variable="), words, at)
+    ranging(two_numbers(line, b"variable="), words, at)
 }

@@ -1,7 +1,5 @@
 -- Each way out of the code of src/range.rt.
-use Prim.Native.Nat.{ℕ}
-use mathlib.Core.Path.{◌≡◌, sym, ◌∙◌, ap}
-use native.Mathlib.Omega.{arith}
+use mathlib.Core.Path.{◌≡◌, sym, ◌∙◌}
 use mathlib.Core.Bool.{Bool, true, false}
 use lib.IntN.{ℤ}
 use lib.Signed.{le_z}
@@ -27,6 +25,8 @@ ordered_yes low high h f g = rw (to_z-of_z w32 low f, to_z-of_z w32 high g, rw (
 pub ordered_no : (low high : ℤ) → le_z (to_z w32 (of_z w32 low)) (to_z w32 (of_z w32 high)) ≡ false → SFits w32 low → SFits w32 high → Err (row 4) ≡ ordered_from low high
 unfolding ordered_from
 ordered_no low high h f g = rw (rw (to_z-of_z w32 low f, to_z-of_z w32 high g) at h, ordered_from)
+
+pub ruleset ordered_laws = (ordered_yes, ordered_no)
 
 -- `both`
 module _ (low high : Option ℤ) where

@@ -5,7 +5,7 @@ ghost use Rattle.text_numbers.specs.Number.{integer_in};
 ghost use Rattle.read_numbers.specs.Range.{ordered_from, bounds_of, bounds_in};
 
 use model::{Model, Row};
-use read_form::field;
+use read_form::{Line, field};
 
 // A number in a range's line.
 fn end_of(part: &[u8]) -> Option<i32>
@@ -15,6 +15,7 @@ fn end_of(part: &[u8]) -> Option<i32>
 }
 
 // Row 4: the ends are in order.
+#[tactic(auto, using(crate::proofs::RangeLaws::ordered_laws))]
 fn ordered(low: i32, high: i32) -> Result<(i32, i32), Row>
     ensures { result ≡ ordered_from low high }
 {
@@ -25,6 +26,7 @@ fn ordered(low: i32, high: i32) -> Result<(i32, i32), Row>
 }
 
 // Row 3 of both ends, then row 4.
+#[tactic(auto, using(crate::proofs::RangeLaws::both_laws))]
 fn both(low: Option<i32>, high: Option<i32>) -> Result<(i32, i32), Row>
     ensures { result ≡ bounds_of low high }
 {
@@ -32,12 +34,13 @@ fn both(low: Option<i32>, high: Option<i32>) -> Result<(i32, i32), Row>
 }
 
 // Rows 2, 3 and 4 of a variable's line: its range's ends, or the smallest row that the line breaks.
-pub fn two_numbers(line: &[u8], ended: bool, name: &[u8]) -> Result<(i32, i32), Row>
-    ensures { result ≡ bounds_in name.now line.now ended }
+#[tactic(auto, using(crate::proofs::RangeLaws::bounds_laws))]
+pub fn two_numbers(line: Line<'_>, name: &[u8]) -> Result<(i32, i32), Row>
+    ensures { result ≡ bounds_in name.now line.entry.bytes.now line.entry.ended }
 {
-    if read_form::misformed(line, ended, name, 2) {
+    if line.misformed(name, 2) {
         return Err(Row(2));
     }
-    let value = read_form::value(line, name);
+    let value = line.value(name);
     both(end_of(field(value, 0)), end_of(field(value, 1)))
 }

@@ -5,8 +5,10 @@ ghost use Rattle.std.specs.Prelude.{◌≡◌};
 ghost use Rattle.read_owner_line.specs.Owner.{owner_in, owner_read};
 
 use model::{Model, Row};
+use read_form::Line;
 
 // Row 3 of what stands after the key.
+#[tactic(auto, using(crate::proofs::OwnerLaws::owner_laws))]
 fn owner(value: &[u8]) -> Result<u32, Row>
     ensures { result ≡ owner_in value.now }
 {
@@ -19,13 +21,13 @@ fn owner(value: &[u8]) -> Result<u32, Row>
     }
 }
 
-// The line's bytes without the LF, and whether an LF ended it. The answer is the owner's word, 0 for nobody and K + 1
-// for automaton K, or the smallest row that the line breaks.
-pub fn read(line: &[u8], ended: bool) -> Result<u32, Row>
-    ensures { result ≡ owner_read line.now ended }
+// The owner's word, 0 for nobody and K + 1 for automaton K, or the smallest row that the line breaks.
+#[tactic(auto, using(crate::proofs::OwnerLaws::read_laws))]
+pub fn read(line: Line<'_>) -> Result<u32, Row>
+    ensures { result ≡ owner_read line.entry.bytes.now line.entry.ended }
 {
-    if read_form::misformed(line, ended, b"owner=", 1) {
+    if line.misformed(b"owner=", 1) {
         return Err(Row(2));
     }
-    owner(read_form::value(line, b"owner="))
+    owner(line.value(b"owner="))
 }

@@ -66,6 +66,7 @@ fn step(word: u32, sorts: &mut [bool], height: usize) -> Option<usize>
 
 // Do the first n words make one predicate? There must be room for a sort of each. The sorts are scratch memory,
 // whatever stands in them: to clear as many would cost more than most predicates.
+#[tactic(auto, using(crate::proofs::FormedLaws::formed_laws))]
 pub fn well_formed(words: &[u32], n: usize, sorts: &mut [bool]) -> bool
     ensures value { result ≡ (leb n (length sorts.old) && (leb n (length words.now)
         && not (lacks (read_pred (map word_of (take n words.now)))))) }

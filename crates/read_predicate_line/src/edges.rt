@@ -10,7 +10,7 @@ use crate::predicates;
 use line_order::Counts;
 use model::{Model, Row};
 use read_edge::{Ends, astray, read_ends};
-use read_form::{LineRead, field};
+use read_form::{Line, LineRead, field};
 
 // FROM, ACT, TO, and then a predicate's words.
 fn append_edge(
@@ -72,30 +72,22 @@ fn read_value(
 
 // Row 2, and then those of the value.
 pub fn edge(
-    line: &[u8],
-    ended: bool,
+    line: Line<'_>,
     counts: Counts,
     words: &mut [u32; Model::WORDS],
     at: usize,
     nodes: &mut [u32],
     sorts: &mut [bool],
 ) -> Result<LineRead, Row>
-    ensures value { result ≡ edge_read line.now ended counts words.old (length nodes.old)
+    ensures value { result ≡ edge_read line.entry.bytes.now line.entry.ended counts words.old (length nodes.old)
         (length sorts.old) at }
-    ensures words_after { words.new ≡ edge_after line.now ended counts words.old
+    ensures words_after { words.new ≡ edge_after line.entry.bytes.now line.entry.ended counts words.old
         (length nodes.old) (length sorts.old) at }
     ensures scratch { Scratch nodes.old nodes.new
         × Scratch sorts.old sorts.new }
 {
-    if read_form::misformed(line, ended, b"edge=", 4) {
+    if line.misformed(b"edge=", 4) {
         return Err(Row(2));
     }
-    read_value(
-        read_form::value(line, b"edge="),
-        counts,
-        words,
-        at,
-        nodes,
-        sorts,
-    )
+    read_value(line.value(b"edge="), counts, words, at, nodes, sorts)
 }

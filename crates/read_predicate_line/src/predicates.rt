@@ -9,7 +9,7 @@ ghost use Rattle.read_predicate_line.specs.Predicate.{location_read, location_af
 
 use line_order::Counts;
 use model::{Model, Row};
-use read_form::LineRead;
+use read_form::{Line, LineRead};
 use read_nodes::NodesError;
 
 // The predicate that the bytes spell, by the table so far; where `old`, it may name only old values. Where there is
@@ -79,8 +79,7 @@ fn located(
 
 // A location's line with the key `name`, `init=` or `inv=`: row 2, and those of P.
 pub fn location(
-    line: &[u8],
-    ended: bool,
+    line: Line<'_>,
     name: &[u8],
     counts: Counts,
     words: &mut [u32; Model::WORDS],
@@ -88,22 +87,15 @@ pub fn location(
     nodes: &mut [u32],
     sorts: &mut [bool],
 ) -> Result<LineRead, Row>
-    ensures value { result ≡ location_read name.now line.now ended counts words.old
+    ensures value { result ≡ location_read name.now line.entry.bytes.now line.entry.ended counts words.old
         (length nodes.old) (length sorts.old) at }
-    ensures words_after { words.new ≡ location_after name.now line.now ended counts
+    ensures words_after { words.new ≡ location_after name.now line.entry.bytes.now line.entry.ended counts
         words.old (length nodes.old) (length sorts.old) at }
     ensures scratch { Scratch nodes.old nodes.new
         × Scratch sorts.old sorts.new }
 {
-    if read_form::misformed(line, ended, name, 1) {
+    if line.misformed(name, 1) {
         return Err(Row(2));
     }
-    located(
-        read_form::value(line, name),
-        counts,
-        words,
-        at,
-        nodes,
-        sorts,
-    )
+    located(line.value(name), counts, words, at, nodes, sorts)
 }

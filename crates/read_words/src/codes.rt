@@ -34,7 +34,8 @@ pub fn is_stray(code: u32) -> bool
     code == stray_code()
 }
 
-// The last four of the words that are one token, and no number: those of expressions.
+// The last four of the words that are one token, and no number: those of expressions. Each word keeps a test and an
+// arm, as in read_extent/src/calls.rt, where one `match` on byte strings was tried.
 fn operator_code(token: &[u8]) -> u32
     ensures { result ≡ Table.code (T.find stray (drop 4 T.spellings) token.now) }
 {

@@ -63,6 +63,7 @@ fn code_as(due: Due, token: &[u8]) -> u32
 
 // The codes of the words, from the front of `out` on, up to the first token that spells none, and their number. Row 3
 // is tested before: a number out of its range is read as no word.
+#[tactic(auto, using(crate::proofs::ReadLaws::read_laws))]
 pub fn read(part: &[u8], out: &mut [u32]) -> Result<usize, WordsError>
     ensures { Reads part.now out.old out.new result }
 {

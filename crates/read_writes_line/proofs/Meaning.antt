@@ -1,7 +1,7 @@
 -- What the code answers are the rows of the line `writes=` up to 44.
 use Prim.Native.Nat.{ℕ}
 use mathlib.Core.Path.{◌≡◌, refl, sym, ◌∙◌, ap}
-use mathlib.Core.Bool.{Bool, true, not}
+use mathlib.Core.Bool.{Bool, true, false, true≢false, not}
 use mathlib.Core.List.{List, map}
 use mathlib.Core.Option.{Option, none, some}
 use lib.Dec.{eqb, leb}
@@ -23,12 +23,15 @@ use Rattle.format.specs.Writes.{writes_items, writes_list, writes_row2, writes_r
 use Rattle.read_form.specs.Form.{line_of, value_after, misparted, misformed}
 use Rattle.read_form.specs.Outcome.{then_row}
 use Rattle.read_form.proofs.Outcomes.{same_row, then_broken}
-use Rattle.table_writes.specs.Sets.{all_variables, rest_of}
+use Rattle.table_writes.specs.Sets.{all_variables, cleared, rest_of}
+use Rattle.std.specs.Prelude.{Some, None}
+use Rattle.std.specs.Prelude as Std
+use Rattle.std.specs.Option.{is_some}
 use Rattle.table_writes.proofs.WrittenLaws.{same_written}
 use Rattle.read_list.specs.declared.Asked.{Asked}
 use Rattle.read_list.specs.declared.Listed.{Listed}
 use Rattle.read_list.specs.Items.{items_of}
-use Rattle.read_list.proofs.Meaning.{items_sound, items_rising, items_outside, items_rest, items_ranged}
+use Rattle.read_list.proofs.Meaning.{items_sound, items_listed, items_ranged}
 use Rattle.read_writes_line.specs.Writes.{writes_name, asked_of, list_row, writes_row}
 
 -- the rows of the line, where `rest` has the variables that the update p does not mention
@@ -51,9 +54,6 @@ module _ (r : Reading) (p : Pred) (s : Bytes) (ended : Bool) (inside : every in_
   abbrev asked : Asked
   asked = asked_of variables
 
-  abbrev listed : Listed
-  listed = items_of asked items
-
   abbrev in_row3 : Bool
   in_row3 = every (within (pos 0) (pos last_variable)) items
 
@@ -65,37 +65,36 @@ module _ (r : Reading) (p : Pred) (s : Bytes) (ended : Bool) (inside : every in_
   unfolding writes_items writes_key
   items_are = refl
 
-  sound_is : listed.sound ≡ in_row3
-  unfolding asked_of
-  sound_is = items_sound asked items
+  -- the rows that the code asks of the list
+  rows_are : list_row (items_of asked items) rest
+      ≡ broken 3 (not in_row3) (broken 5 (not (ascends 0 list)) (broken 7 (exists (λ k. leb variables k) list) (broken 44 (not (eqb (cleared all_variables list) rest)) none)))
+  unfolding list_row asked_of broken
+  rows_are = go in_row3 refl
+    where
+      unsound : (o : Std.Option Listed) → is_some o ≡ false → list_row o rest ≡ some 3
+      unsound None h = refl
+      unsound (Some l) h = absurd (true≢false h)
 
-  module _ (h : in_row3 ≡ true) where
-    rising_is : listed.rising ≡ ascends 0 list
-    unfolding asked_of
-    rising_is = items_rising asked items h
+      go : (v : Bool) → in_row3 ≡ v
+          → list_row (items_of asked items) rest ≡ broken 3 (not v) (broken 5 (not (ascends 0 list)) (broken 7 (exists (λ k. leb variables k) list) (broken 44 (not (eqb (cleared all_variables list) rest)) none)))
+      go true h = ap (λ (o : Std.Option Listed). list_row o rest) (items_listed asked items h)
+      go false h = unsound (items_of asked items) (items_sound asked items ∙ h)
 
-    outside_is : listed.outside ≡ exists (λ k. leb variables k) list
-    unfolding asked_of
-    outside_is = items_outside asked items h
-
-    rest_is : ascends 0 list ≡ true → eqb listed.rest rest ≡ same list (written p)
-    unfolding asked_of
-    rest_is up = ap (λ (n : ℕ). eqb n rest) (items_rest asked items h) ∙ same_written p list inside up (items_ranged last_variable items h)
+  rest_is : in_row3 ≡ true → ascends 0 list ≡ true → eqb (cleared all_variables list) rest ≡ same list (written p)
+  rest_is h up = same_written p list inside up (items_ranged last_variable items h)
 
   -- what is left of the rows where the code finds none broken: row 51
   abbrev owned : Option ℕ
   owned = broken 51 (row51 r line) none
 
   pub writes_rows : then_row (writes_row s ended variables rest) owned ≡ writes_fault r (written p) line
-  unfolding writes_row list_row writes_fault writes_row3 writes_row5 writes_row7 row44 writes_list writes_items writes_key then_row
+  unfolding writes_row writes_fault writes_row3 writes_row5 writes_row7 row44 writes_list writes_items writes_key then_row
   writes_rows =
       then_broken 2 _ _ owned ∙ same_row 2 _ _ _ _ form_is
-      (λ a. then_broken 3 _ _ owned ∙ same_row 3 _ _ _ _ (ap not sound_is)
-      (λ b.
-      let h : in_row3 ≡ true = not-false _ b in
-      then_broken 5 _ _ owned ∙ same_row 5 _ _ _ _ (ap not (rising_is h))
-      (λ c. then_broken 7 _ _ owned ∙ same_row 7 _ _ _ _ (outside_is h)
-      (λ d. then_broken 44 _ none owned ∙ ap (λ (x : Bool). broken 44 (not x) owned) (rest_is h (not-false _ c))))))
+      (λ a. ap (λ (o : Option ℕ). then_row o owned) rows_are ∙ then_broken 3 _ _ owned ∙ same_row 3 _ _ _ _ refl
+      (λ b. then_broken 5 _ _ owned ∙ same_row 5 _ _ _ _ refl
+      (λ c. then_broken 7 _ _ owned ∙ same_row 7 _ _ _ _ refl
+      (λ d. then_broken 44 _ none owned ∙ ap (λ (x : Bool). broken 44 (not x) owned) (rest_is (not-false _ b) (not-false _ c))))))
 
   -- a row that the code finds is the smallest that is broken
   pub writes_broken : (row : ℕ) → writes_row s ended variables rest ≡ some row → writes_fault r (written p) line ≡ some row
@@ -109,11 +108,9 @@ module _ (r : Reading) (p : Pred) (s : Bytes) (ended : Bool) (inside : every in_
     writes_owned = sym writes_rows ∙ ap (λ (o : Option ℕ). then_row o owned) h
 
     pub writes_due : writes_list line ≡ written p
-    unfolding writes_row list_row writes_list
+    unfolding writes_row writes_list
     writes_due =
-        let b = unbroken 3 _ _ (unbroken 2 _ _ h).1 in
+        let b = unbroken 3 _ _ (sym rows_are ∙ (unbroken 2 _ _ h).1) in
         let c = unbroken 5 _ _ b.1 in
         let e = unbroken 44 _ none (unbroken 7 _ _ c.1).1 in
-        let sound : in_row3 ≡ true = sym sound_is ∙ not-false _ b.0 in
-        let up : ascends 0 list ≡ true = sym (rising_is sound) ∙ not-false _ c.0 in
-        ap (map natural_of) items_are ∙ same_of list (written p) (sym (rest_is sound up) ∙ not-false _ e.0)
+        ap (map natural_of) items_are ∙ same_of list (written p) (sym (rest_is (not-false _ b.0) (not-false _ c.0)) ∙ not-false _ e.0)

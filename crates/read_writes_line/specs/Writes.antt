@@ -1,7 +1,8 @@
 -- The line `writes=LIST` as the code reads it. Where `rest` has the variables that the edge does not mention, it breaks
 -- the rows of `writes_fault` but row 51, which asks who owns the variables: the law writes_rows.
-use Rattle.std.specs.Prelude.{ℕ, Bool, not, eqb, Result}
-use Rattle.std.proofs.Math.Option.{Option, none}
+use Rattle.std.specs.Prelude.{ℕ, Bool, not, eqb, Some, None, Result}
+use Rattle.std.specs.Prelude as Std
+use Rattle.std.proofs.Math.Option.{Option, none, some}
 use Rattle.model.specs.declared.Row.{Row}
 use Rattle.model.specs.Bounds.{last_variable}
 use Rattle.model.specs.Limits.{broken}
@@ -21,13 +22,13 @@ writes_name = bytes "writes="
 unfoldable pub asked_of : (variables : ℕ) → Asked
 asked_of variables = record { most = last_variable; least = 0; below = variables; all = all_variables }
 
-unfoldable pub list_row : Listed → (rest : ℕ) → Option ℕ
-list_row l rest =
-    broken 3 (not l.sound)
-    (broken 5 (not l.rising)
+unfoldable pub list_row : Std.Option Listed → (rest : ℕ) → Option ℕ
+list_row None rest = some 3
+list_row (Some l) rest =
+    broken 5 (not l.rising)
     (broken 7 l.outside
     (broken 44 (not (eqb l.rest rest))
-    none)))
+    none))
 
 unfoldable pub writes_row : Bytes → (ended : Bool) → (variables rest : ℕ) → Option ℕ
 writes_row s ended variables rest =

@@ -6,9 +6,11 @@ ghost use Rattle.std.specs.Prelude.{◌≡◌};
 ghost use Rattle.read_writes_line.specs.Writes.{asked_of, list_row, told, writes_row};
 
 use model::{Model, Row};
+use read_form::Line;
 use read_list::{Asked, Listed};
 
 // What is asked of a list of variables, where the model has so many.
+#[tactic(auto, using(crate::proofs::WritesLaws::asked_laws))]
 fn asked(variables: usize) -> Asked
     ensures { result ≡ asked_of variables }
 {
@@ -21,12 +23,11 @@ fn asked(variables: usize) -> Asked
 }
 
 // Rows 3, 5, 7 and 44 of a list, where the edge leaves `rest` alone.
-fn judged(list: Listed, rest: u64) -> Result<(), Row>
+#[tactic(auto, using(crate::proofs::WritesLaws::judged_laws))]
+fn judged(list: Option<Listed>, rest: u64) -> Result<(), Row>
     ensures { result ≡ told (list_row list rest) }
 {
-    if !list.sound {
-        return Err(Row(3));
-    }
+    let list = list.ok_or(Row(3))?;
     if !list.rising {
         return Err(Row(5));
     }
@@ -39,15 +40,16 @@ fn judged(list: Listed, rest: u64) -> Result<(), Row>
     Ok(())
 }
 
-// The line's bytes without the LF, and whether an LF ended it; the model has so many variables, and the edge names the
-// new values of all but the set `rest`. An error is the smallest row that the line breaks.
-pub fn read(line: &[u8], ended: bool, variables: usize, rest: usize) -> Result<(), Row>
-    ensures { result ≡ told (writes_row line.now ended variables rest) }
+// The model has so many variables, and the edge names the new values of all but the set `rest`. An error is the
+// smallest row that the line breaks.
+#[tactic(auto, using(crate::proofs::WritesLaws::read_laws))]
+pub fn read(line: Line<'_>, variables: usize, rest: usize) -> Result<(), Row>
+    ensures { result ≡ told (writes_row line.entry.bytes.now line.entry.ended variables rest) }
 {
-    if read_form::misformed(line, ended, b"writes=", 0) {
+    if line.misformed(b"writes=", 0) {
         return Err(Row(2));
     }
     let q = asked(variables);
-    let list = read_list::read(read_form::value(line, b"writes="), q);
+    let list = read_list::read(line.value(b"writes="), q);
     judged(list, rest as u64)
 }

@@ -12,12 +12,13 @@ use lib.Dec.{leb, ltb}
 use Rattle.model.specs.Basic.{exists}
 use Rattle.model.specs.Bounds.{owners_format, table_words}
 use Rattle.model.specs.Predicate.{words}
+use Rattle.model.specs.Predicate as M
 use Rattle.model.specs.Lines.{variable_line, Reading, with_model, with_owner, noted}
 use Rattle.model.specs.Limits.{variable_count, is_owner, writes_foreign, is_foreign, broken}
 use Rattle.model.specs.Table.{biased, code, owner_word, line_words}
 use Rattle.model.proofs.LinesLaws.{owner_noted}
 use Rattle.model.proofs.Decode.{unbroken}
-use Rattle.model.proofs.Tests.{and_no_right, or_left, or_right}
+use Rattle.model.proofs.Tests.{and_no_right}
 use Rattle.line_order.specs.Due.{is_end, keys_due}
 use Rattle.line_order.specs.Counts.{Counted}
 use Rattle.line_order.proofs.CountsLaws.{counted_owner, paced_more}
@@ -39,6 +40,8 @@ use Rattle.format.proofs.WritesLaws.{writes_formed}
 use Rattle.text_bytes.proofs.FindLaws.{lines_none}
 use Rattle.read_form.specs.Form.{line_of}
 use Rattle.std.specs.Prelude.{Result, Ok, Err}
+use Rattle.std.specs.Prelude as P
+use Rattle.std.specs.Option.{is_some}
 use Rattle.read_form.specs.Outcome.{answered}
 use Rattle.model.specs.declared.Row.{Row}
 use Rattle.read_owner_line.specs.Owner.{owner_read}
@@ -46,6 +49,7 @@ use Rattle.read_owner_line.proofs.Meaning.{owner_faulty, owner_told}
 use Rattle.read_writes_line.specs.Writes.{told, writes_row}
 use Rattle.read_writes_line.proofs.Meaning.{writes_broken, writes_due, writes_owned}
 use Rattle.reader.specs.declared.Place.{Place}
+use Rattle.reader.specs.declared.Behind.{Behind as Due-first}
 use Rattle.reader.specs.Read.{Round, refusal, going, done, place_behind, last_set, writes_others, Outcome, stop_at, line_at, on_owner, owner_round, on_owner_after, owner_round_after, on_list, list_round, round_at, round_after, read_from}
 use Rattle.reader.proofs.SheetLaws.{set_there, round_lacking, round_ended, round_owner, round_owned, round_list, round_as_was}
 use Rattle.reader.proofs.Filling.{filled, next_in, set_filled}
@@ -65,9 +69,10 @@ module _ (text : Bytes) (r : Reading) (n : ℕ) (p : Place) (words stream : List
   pub no_owner_left : length text ≤ p.byte → Goal text owner r n p words stream left
   no_owner_left l =
       let none_left = lines_none (drop p.byte text) (omega (arith, length-drop p.byte text)) in
-      let off : (is_end p.due.key && not (p.owner || p.list)) ≡ false = and_no_right (is_end p.due.key) _ (ap not (or_left p.list h.waits.marked)) in
+      let off : (is_end p.due.key && false) ≡ false = and_no_right (is_end p.due.key) false refl in
+      let some_due : is_some p.behind ≡ true = ap (λ (b : P.Option Due-first). is_some b) h.waits.marked in
       goal text owner r n p words stream left [] _ none_left
-      (round_ends text left (n + 1) p words words (sym (round_ended text (n + 1) p words _ refl l)) (Err (refusal 2 (n + 1))) (sym (round_lacking text (n + 1) p words _ refl l off)))
+      (round_ends text left (n + 1) p words words (sym (round_ended text (n + 1) p words _ refl l)) (Err (refusal 2 (n + 1))) (sym (round_lacking text (n + 1) p words _ refl l false some_due off)))
       (ends_refused owner r (keys_due p.due) (n + 1) [] 2 stream words (read_no_owner r (keys_due p.due) (n + 1)))
 
   module _ (l : p.byte < length text) where
@@ -163,7 +168,7 @@ module _ (text : Bytes) (r : Reading) (n : ℕ) (p : Place) (words stream : List
             next = rw same_size h.next;
             slow = omega (arith, h.slow, stop_on text p (omega arith));
             inside = omega (arith, owner_ended);
-            waits = (refl, refl);
+            waits = refl;
           }
 
       pub sound_owner : ((new : List ℕ) → Stand text nothing (with_owner r o) (n + 1) (place_behind p (stop_at text p)) new (owned o stream)
@@ -179,19 +184,19 @@ module _ (text : Bytes) (r : Reading) (n : ℕ) (p : Place) (words stream : List
           (subst (λ (i : ℕ). Ends nothing (with_owner r o) (keys_due p.due) i (lines_of (drop (stop_at text p + 1) text)) (owned o stream) (read_from text left (n + 1 + 1) (place_behind p (stop_at text p)) new)) number (onward new (stand_owned new refl))))
 
 -- What the code asks of row 51 is `is_foreign`: the buffer has the variables with their owners.
-others_is : (r : Reading) (p : Place) (words : List ℕ) (due : List ℕ) → Counted r p.counts → Declared words r → Due-list due p → writes_others p words ≡ is_foreign r due
+others_is : (r : Reading) (p : Place) (words : List ℕ) (due : List ℕ) → Counted r p.counts → Declared words r → (b : Due-list due p) → writes_others p (rest_of all_variables (map code (M.words b.update))) words ≡ is_foreign r due
 unfolding writes_others is_foreign writes_foreign ranges_in
 others_is r p words due k d b = go (leb owners_format r.model.format) refl
   where
     found : Bool
-    found = foreign_in (take (3 * p.counts.variables) (drop 3 words)) p.counts.automata p.rest
+    found = foreign_in (take (3 * p.counts.variables) (drop 3 words)) p.counts.automata (rest_of all_variables (map code (M.words b.update)))
 
     sought : Bool
     sought = exists (λ i. not (is_owner (length r.model.automata) (get_or r.model.owners i none))) due
 
     read : found ≡ sought
     read =
-        rw (k.variables, d.words, k.automata, b.rest, b.writes)
+        rw (k.variables, d.words, k.automata, b.writes)
         (foreign_is r.model.variables r.model.owners d.owners_are (length r.model.automata) b.update b.ranged)
 
     go : (v : Bool) → leb owners_format r.model.format ≡ v → elim (ltb p.counts.format owners_format) as (λ x. Bool) [ true ↦ false | false ↦ found ] ≡ (v && sought)
@@ -203,26 +208,28 @@ module _ (text : Bytes) (due : List ℕ) (r : Reading) (n : ℕ) (p : Place) (bu
   pub no_list_left : length text ≤ p.byte → Goal text (list due) r n p buffer stream left
   no_list_left l =
       let none_left = lines_none (drop p.byte text) (omega (arith, length-drop p.byte text)) in
-      let off : (is_end p.due.key && not (p.owner || p.list)) ≡ false = and_no_right (is_end p.due.key) _ (ap not (or_right p.owner h.waits.marked)) in
+      let off : (is_end p.due.key && false) ≡ false = and_no_right (is_end p.due.key) false refl in
+      let some_due : is_some p.behind ≡ true = ap (λ (b : P.Option Due-first). is_some b) h.waits.marked in
       goal text (list due) r n p buffer stream left [] _ none_left
-      (round_ends text left (n + 1) p buffer buffer (sym (round_ended text (n + 1) p buffer _ refl l)) (Err (refusal 2 (n + 1))) (sym (round_lacking text (n + 1) p buffer _ refl l off)))
+      (round_ends text left (n + 1) p buffer buffer (sym (round_ended text (n + 1) p buffer _ refl l)) (Err (refusal 2 (n + 1))) (sym (round_lacking text (n + 1) p buffer _ refl l false some_due off)))
       (ends_refused (list due) r (keys_due p.due) (n + 1) [] 2 stream buffer (read_no_list r due (keys_due p.due) (n + 1)))
 
   module _ (l : p.byte < length text) where
     abbrev list_line : Line
     list_line = line_of (line_at text p) (ltb (stop_at text p) (length text))
 
-    -- the row that the line itself breaks, by the code
-    abbrev row_read : Option ℕ
-    row_read = writes_row (line_at text p) (ltb (stop_at text p) (length text)) p.counts.variables p.rest
-
     abbrev b : Due-list due p
     b = h.waits
 
-    row_is : row_read ≡ writes_row (line_at text p) (ltb (stop_at text p) (length text)) (variable_count r) (rest_of all_variables (map code (words b.update)))
-    row_is =
-        ap (λ (v : ℕ). writes_row (line_at text p) (ltb (stop_at text p) (length text)) v p.rest) h.going.counted.variables ∙
-        ap (writes_row (line_at text p) (ltb (stop_at text p) (length text)) (variable_count r)) b.rest
+    abbrev rest : ℕ
+    rest = rest_of all_variables (map code (words b.update))
+
+    -- the row that the line itself breaks, by the code
+    abbrev pub row_read : Option ℕ
+    row_read = writes_row (line_at text p) (ltb (stop_at text p) (length text)) p.counts.variables rest
+
+    row_is : row_read ≡ writes_row (line_at text p) (ltb (stop_at text p) (length text)) (variable_count r) rest
+    row_is = ap (λ (v : ℕ). writes_row (line_at text p) (ltb (stop_at text p) (length text)) v rest) h.going.counted.variables
 
     list_row : (row : ℕ) → row_read ≡ some row → writes_fault r due list_line ≡ some row
     list_row row e =
@@ -240,11 +247,11 @@ module _ (text : Bytes) (due : List ℕ) (r : Reading) (n : ℕ) (p : Place) (bu
         ap (λ (l : List ℕ). broken 51 (is_foreign r l) none) list_is
 
     kept : round_after text p buffer ≡ buffer
-    kept = sym (round_as_was text (n + 1) p buffer _ refl l h.waits.unowned h.waits.marked)
+    kept = sym (round_as_was text (n + 1) p buffer _ refl l rest h.waits.marked)
 
-    said_list : (x : Option ℕ) → row_read ≡ x → round_at text (n + 1) p buffer ≡ on_list text (n + 1) p buffer (told x)
+    said_list : (x : Option ℕ) → row_read ≡ x → round_at text (n + 1) p buffer ≡ on_list text (n + 1) p rest buffer (told x)
     unfolding list_round
-    said_list x e = sym (round_list text (n + 1) p buffer _ refl l h.waits.unowned h.waits.marked _ refl) ∙ ap (λ (y : Option ℕ). on_list text (n + 1) p buffer (told y)) e
+    said_list x e = sym (round_list text (n + 1) p buffer _ refl l rest h.waits.marked _ refl) ∙ ap (λ (y : Option ℕ). on_list text (n + 1) p rest buffer (told y)) e
 
     refused_list : (row : ℕ) → writes_fault r due list_line ≡ some row → round_at text (n + 1) p buffer ≡ done (Err (refusal row (n + 1))) → Goal text (list due) r n p buffer stream left
     refused_list row f e =
@@ -257,7 +264,7 @@ module _ (text : Bytes) (due : List ℕ) (r : Reading) (n : ℕ) (p : Place) (bu
     faulty_list row e = refused_list row (list_row row e) (said_list (some row) e)
 
     module _ (e : row_read ≡ none) where
-      others : writes_others p buffer ≡ is_foreign r due
+      others : writes_others p rest buffer ≡ is_foreign r due
       others = others_is r p buffer due h.going.counted (declared_in text (list due) r n p buffer stream h) h.waits
 
       clear_round : (b : Bool) → is_foreign r due ≡ b → round_at text (n + 1) p buffer ≡ elim b as (λ x. Round) [ true ↦ done (Err (refusal 51 (n + 1))) | false ↦ going (place_behind p (stop_at text p)) ]
@@ -289,7 +296,7 @@ module _ (text : Bytes) (due : List ℕ) (r : Reading) (n : ℕ) (p : Place) (bu
               next = h.next;
               slow = omega (arith, h.slow, stop_on text p (omega arith));
               inside = omega (arith, list_ended);
-              waits = (refl, refl);
+              waits = refl;
             }
 
         pub sound_list : (Stand text nothing r (n + 1) (place_behind p (stop_at text p)) buffer stream

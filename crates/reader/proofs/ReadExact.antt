@@ -51,11 +51,16 @@ use Rattle.read_line.specs.Line.{line_read, line_after}
 use Rattle.read_writes_line.specs.Writes.{writes_row}
 use Rattle.std.specs.Prelude.{Ok, Err}
 use Rattle.reader.specs.declared.Place.{Place}
-use Rattle.reader.specs.Read.{refusal, going, done, place_first, place_after, place_behind, Outcome, stop_at, line_at, on_line, line_round, line_round_after, round_at, round_after, read_from, sheet_read, blank}
+use Rattle.reader.specs.declared.Behind.{Behind as Due-first}
+use Rattle.reader.specs.declared.Behind.TheVariants.{Owner, Writes}
+use Rattle.std.specs.Option.{is_some}
+use Rattle.std.specs.Prelude as P
+use Rattle.std.specs.Prelude.{Some, None}
+use Rattle.reader.specs.Read.{refusal, going, done, place_first, place_after, stands_behind, place_behind, Outcome, stop_at, line_at, on_line, line_round, line_round_after, round_at, round_after, read_from, sheet_read, blank}
 use Rattle.reader.proofs.SheetLaws.{round_done, round_lacking, round_ended, round_extra, round_stays, round_line, round_words}
 use Rattle.reader.proofs.Filling.{filled, filled_nil, filled_fits, next_in, next_next, put_filled}
 use Rattle.reader.proofs.Standing.{Few, few_after, room_after, Waits, scan_of, Stand, Ends, declared_on, declared_in, lines_here, stop_on, line_ended, end_is, line_short, round_ends, round_goes, ends_accepted, ends_refused, ends_line, read_lacking, read_extra}
-use Rattle.reader.proofs.BehindRounds.{no_owner_left, faulty_owner, sound_owner, no_list_left, faulty_list, foreign_list, sound_list}
+use Rattle.reader.proofs.BehindRounds.{row_read, no_owner_left, faulty_owner, sound_owner, no_list_left, faulty_list, foreign_list, sound_list}
 
 -- the number that is told of an edge plays no part in what is due and counted after it
 told_due : (e : Entry) (d : Due) → due_after_key (code_of (key_of e)) d (number_told e) ≡ due_after_key (code_of (key_of e)) d (number_of e)
@@ -96,9 +101,7 @@ place_of p e next stop =
       counts = counts_after p.counts p.due.key (number_of e) (nodes_of e);
       at = next;
       byte = stop + 1;
-      owner = is_owned p.due;
-      list = is_listed p.due;
-      rest = number_told e;
+      behind = stands_behind p.due (number_told e);
     }
 
 told_place : (p : Place) (e : Entry) (next stop : ℕ) → p.due.key ≡ code_of (key_of e) → place_after p (number_told e) (nodes_of e) next stop ≡ place_of p e next stop
@@ -120,6 +123,15 @@ module _ (p : Place) (next stop : ℕ) (r : Reading) (stream : List ℕ) (declar
   unfolding is_listed
   unlisted h = rw h
 
+  both_are : (o l : Bool) (number : ℕ) → is_owned p.due ≡ o → is_listed p.due ≡ l
+      → stands_behind p.due number ≡ elim o as (λ x. P.Option Due-first) [ true ↦ Some Owner | false ↦ elim l as (λ x. P.Option Due-first) [ true ↦ Some (Writes number) | false ↦ None ] ]
+  unfolding stands_behind
+  both_are true l number h k = rw (h, stands_behind)
+  both_are false l number h k = rw (h, k, stands_behind)
+
+  quiet : (number : ℕ) → is_variable p.due.key ≡ false → is_edge p.due.key ≡ false → stands_behind p.due number ≡ None
+  quiet number h k = both_are false false number (unowned h) (unlisted k)
+
   abbrev After : Behind → Entry → Type 0
   After b e = Waits b (noted r e) (place_of p e next stop) (stream ++ line_words e)
 
@@ -127,30 +139,30 @@ module _ (p : Place) (next stop : ℕ) (r : Reading) (stream : List ℕ) (declar
       → After (elim b [ true ↦ owner | false ↦ nothing ]) (variable_line x none)
   unfolding is_owned
   variable_behind x lawful at k u true l =
-      record { marked = rw (k, l); before = r; range = x; first = stream; said = refl; parted = refl; declared = declared; lawful = lawful; placed = at }
-  variable_behind x lawful at k u false l = (rw (k, l), unlisted u)
+      record { marked = both_are true _ _ (rw (k, l)) refl; before = r; range = x; first = stream; said = refl; parted = refl; declared = declared; lawful = lawful; placed = at }
+  variable_behind x lawful at k u false l = both_are false false _ (rw (k, l)) (unlisted u)
 
   edge_behind : (x : SheetEdge) → is_edge p.due.key ≡ true → is_variable p.due.key ≡ false → fault_of (alone r) (edge_line x) ≡ none → (b : Bool) → leb writes_format p.due.format ≡ b
       → After (elim b [ true ↦ list (written x.update) | false ↦ nothing ]) (edge_line x)
   unfolding is_listed number_told
-  edge_behind x k u h true l = record { unowned = unowned u; marked = rw (k, l); update = x.update; writes = refl; ranged = update_ranged (alone r) x h; rest = refl }
-  edge_behind x k u h false l = (unowned u, rw (k, l))
+  edge_behind x k u h true l = record { update = x.update; writes = refl; ranged = update_ranged (alone r) x h; marked = both_are false true _ (unowned u) (rw (k, l)) }
+  edge_behind x k u h false l = both_are false false _ (unowned u) (rw (k, l))
 
   behind_of : (e : Entry) → p.due.key ≡ code_of (key_of e) → owner_said e ≡ none → fault_of (alone r) e ≡ none → Fair r e → Placed (code_of (key_of e)) (length stream) (variable_count r) → After (behind p.due.format e) e
   unfolding behind code_of key_of is_edge is_variable owner_said
-  behind_of (format_line n) k u h f at = (unowned (ap is_variable k), unlisted (ap is_edge k))
-  behind_of (actions_line n) k u h f at = (unowned (ap is_variable k), unlisted (ap is_edge k))
-  behind_of (variables_line n) k u h f at = (unowned (ap is_variable k), unlisted (ap is_edge k))
+  behind_of (format_line n) k u h f at = quiet _ (ap is_variable k) (ap is_edge k)
+  behind_of (actions_line n) k u h f at = quiet _ (ap is_variable k) (ap is_edge k)
+  behind_of (variables_line n) k u h f at = quiet _ (ap is_variable k) (ap is_edge k)
   behind_of (variable_line x none) k u h f at = variable_behind x f.ranging at (ap is_variable k) (ap is_edge k) (leb owners_format p.due.format) refl
   behind_of (variable_line x (some o)) k u h f at = absurd (none_some o (sym u))
-  behind_of (automata_line n) k u h f at = (unowned (ap is_variable k), unlisted (ap is_edge k))
-  behind_of (sync_line actions) k u h f at = (unowned (ap is_variable k), unlisted (ap is_edge k))
-  behind_of (locations_line n) k u h f at = (unowned (ap is_variable k), unlisted (ap is_edge k))
-  behind_of (init_line q) k u h f at = (unowned (ap is_variable k), unlisted (ap is_edge k))
-  behind_of (inv_line q) k u h f at = (unowned (ap is_variable k), unlisted (ap is_edge k))
-  behind_of (edges_line n) k u h f at = (unowned (ap is_variable k), unlisted (ap is_edge k))
+  behind_of (automata_line n) k u h f at = quiet _ (ap is_variable k) (ap is_edge k)
+  behind_of (sync_line actions) k u h f at = quiet _ (ap is_variable k) (ap is_edge k)
+  behind_of (locations_line n) k u h f at = quiet _ (ap is_variable k) (ap is_edge k)
+  behind_of (init_line q) k u h f at = quiet _ (ap is_variable k) (ap is_edge k)
+  behind_of (inv_line q) k u h f at = quiet _ (ap is_variable k) (ap is_edge k)
+  behind_of (edges_line n) k u h f at = quiet _ (ap is_variable k) (ap is_edge k)
   behind_of (edge_line x) k u h f at = edge_behind x (ap is_edge k) (ap is_variable k) h (leb writes_format p.due.format) refl
-  behind_of (compose_line c) k u h f at = (unowned (ap is_variable k), unlisted (ap is_edge k))
+  behind_of (compose_line c) k u h f at = quiet _ (ap is_variable k) (ap is_edge k)
 
 -- what going on asks of a line does not depend on the format
 alone_fair : (r : Reading) (e : Entry) → Fair (alone r) e → Fair r e
@@ -171,21 +183,21 @@ module _ (text : Bytes) (r : Reading) (n : ℕ) (p : Place) (words stream : List
   no_line l (inl e) =
       let none_left = lines_none (drop p.byte text) (omega (arith, length-drop p.byte text)) in
       let on = sym (ap is_end e ∙ end_is) in
-      let stop = sym (round_done text (n + 1) p words true on l (ap not (or_none h.waits.0 h.waits.1))) in
+      let stop = sym (round_done text (n + 1) p words true on l true (ap (λ (b : P.Option Due-first). is_some b) h.waits) refl) in
       goal [] [] _ (end_due p.due e) none_left (round_ends text left (n + 1) p words words (sym (round_ended text (n + 1) p words true on l)) (Ok tt) stop)
       (ends_accepted r (n + 1) stream words h.full)
   no_line l (inr k) =
       let none_left = lines_none (drop p.byte text) (omega (arith, length-drop p.byte text)) in
       let off = sym (ap is_end k.1 ∙ no_end k.0) in
       goal (k.0 ∷ later_due p.due) [] _ (due_line p.due k.0 k.1) none_left
-      (round_ends text left (n + 1) p words words (sym (round_ended text (n + 1) p words false off l)) (Err (refusal 2 (n + 1))) (sym (round_lacking text (n + 1) p words false off l refl)))
+      (round_ends text left (n + 1) p words words (sym (round_ended text (n + 1) p words false off l)) (Err (refusal 2 (n + 1))) (sym (round_lacking text (n + 1) p words false off l true (ap (λ (b : P.Option Due-first). is_some b) h.waits) refl)))
       (ends_refused nothing r (k.0 ∷ later_due p.due) (n + 1) [] 2 stream words (read_lacking r k.0 (later_due p.due) (n + 1)))
 
   extra_line : p.byte < length text → p.due.key ≡ End → Goal
   extra_line l e =
       let on = sym (ap is_end e ∙ end_is) in
       goal [] _ _ (end_due p.due e) (lines_here text p l)
-      (round_ends text left (n + 1) p words words (sym (round_stays text (n + 1) p words true on l h.waits.0 h.waits.1 refl)) (Err (refusal 2 (n + 1))) (sym (round_extra text (n + 1) p words true on l h.waits.0 h.waits.1 refl)))
+      (round_ends text left (n + 1) p words words (sym (round_stays text (n + 1) p words true on l h.waits refl)) (Err (refusal 2 (n + 1))) (sym (round_extra text (n + 1) p words true on l h.waits refl)))
       (ends_refused nothing r [] (n + 1) _ 2 stream words (read_extra r (n + 1) _ _))
 
   -- a line that is due; `onward` is what the rounds after it come to
@@ -197,10 +209,10 @@ module _ (text : Bytes) (r : Reading) (n : ℕ) (p : Place) (words stream : List
     off = sym (ap is_end key ∙ no_end k)
 
     line_round_lem : round_at text (n + 1) p words ≡ line_round text (n + 1) p words
-    line_round_lem = sym (round_line text (n + 1) p words false off l h.waits.0 h.waits.1 refl _ refl)
+    line_round_lem = sym (round_line text (n + 1) p words false off l h.waits refl _ refl)
 
     line_words_lem : round_after text p words ≡ line_round_after text p words
-    line_words_lem = sym (round_words text (n + 1) p words false off l h.waits.0 h.waits.1 refl _ refl)
+    line_words_lem = sym (round_words text (n + 1) p words false off l h.waits refl _ refl)
 
     faulty_line : (row : ℕ) → fault r k line ≡ some row → Goal
     unfolding line_round on_line
@@ -298,13 +310,13 @@ module _ (exact : ReadsLines line_read line_after) (text : Bytes) (short : lengt
     owner_fault_by h l (some row) e = faulty_owner text r n p words stream h left l row e
     owner_fault_by h l none e = sound_owner text r n p words stream h left l e (λ new g. on nothing _ (n + 1) _ new _ (omega (arith, f, stop_on text p (omega arith))) g)
 
-    list_own_by : (due : List ℕ) → Stand text (list due) r n p words stream → p.byte < length text → writes_row (line_at text p) (ltb (stop_at text p) (length text)) p.counts.variables p.rest ≡ none
+    list_own_by : (due : List ℕ) (h : Stand text (list due) r n p words stream) (l : p.byte < length text) → row_read text due r n p words stream h left l ≡ none
         → (v : Bool) → is_foreign r due ≡ v → Reached (list due)
     unfolding Onward place_behind
     list_own_by due h l e true v = foreign_list text due r n p words stream h left l e v
     list_own_by due h l e false v = sound_list text due r n p words stream h left l e v (λ g. on nothing r (n + 1) _ words stream (omega (arith, f, stop_on text p (omega arith))) g)
 
-    list_fault_by : (due : List ℕ) → Stand text (list due) r n p words stream → p.byte < length text → (x : Option ℕ) → writes_row (line_at text p) (ltb (stop_at text p) (length text)) p.counts.variables p.rest ≡ x → Reached (list due)
+    list_fault_by : (due : List ℕ) (h : Stand text (list due) r n p words stream) (l : p.byte < length text) (x : Option ℕ) → row_read text due r n p words stream h left l ≡ x → Reached (list due)
     list_fault_by due h l (some row) e = faulty_list text due r n p words stream h left l row e
     list_fault_by due h l none e = list_own_by due h l e (is_foreign r due) refl
 
@@ -319,7 +331,7 @@ module _ (exact : ReadsLines line_read line_after) (text : Bytes) (short : lengt
     by_byte owner h true e k = no_owner_left text r n p words stream h left (leb-true (length text) p.byte e)
     by_byte owner h false e k = owner_fault_by h (leb-false (length text) p.byte e) (owner_fault here) refl
     by_byte (list due) h true e k = no_list_left text due r n p words stream h left (leb-true (length text) p.byte e)
-    by_byte (list due) h false e k = list_fault_by due h (leb-false (length text) p.byte e) (writes_row (line_at text p) (ltb (stop_at text p) (length text)) p.counts.variables p.rest) refl
+    by_byte (list due) h false e k = list_fault_by due h (leb-false (length text) p.byte e) _ refl
     by_byte nothing h true e k = no_line text r n p words stream h left (leb-true (length text) p.byte e) k
     by_byte nothing h false e (inl k) = extra_line text r n p words stream h left (leb-false (length text) p.byte e) k
     by_byte nothing h false e (inr k) = line_fault_by h (leb-false (length text) p.byte e) k.0 k.1 (fault r k.0 here) refl
@@ -340,7 +352,7 @@ module _ (exact : ReadsLines line_read line_after) (text : Bytes) (short : lengt
         next = sym (next_in 0 (omega arith));
         slow = omega arith;
         inside = omega arith;
-        waits = (refl, refl);
+        waits = refl;
       }
 
   pub sheet_ends : Ends nothing at_first due_at_first 1 (lines_of text) [] (sheet_read text blank)

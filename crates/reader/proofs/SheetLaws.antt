@@ -28,19 +28,39 @@ use Rattle.reader.specs.declared.Refusal.{Refusal}
 use Rattle.read_owner_line.specs.Owner.{owner_read}
 use Rattle.read_writes_line.specs.Writes.{told, writes_row}
 use Rattle.reader.specs.declared.Place.{Place}
-use Rattle.reader.specs.Read.{ReadAnswer, Round, refusal, place_first, place_after, place_behind, last_set, writes_others, Outcome, stop_at, line_at, on_line, line_round, line_round_after, on_owner, owner_round, on_owner_after, owner_round_after, on_list, list_round, round_at, round_after, on_round, read_from, sheet_read}
+use Rattle.reader.specs.declared.Behind.{Behind}
+use Rattle.reader.specs.declared.Behind.TheVariants.{Owner, Writes}
+use Rattle.std.specs.Option.{is_some, is_none}
+use Rattle.reader.specs.Read.{ReadAnswer, Round, refusal, place_first, place_after, place_behind, stands_behind, last_set, writes_others, Outcome, stop_at, line_at, on_line, line_round, line_round_after, on_owner, owner_round, on_owner_after, owner_round_after, on_list, list_round, due_round, due_round_after, round_at, round_after, on_round, read_from, sheet_read}
 
--- `Place::first` and `Place::after`
-pub first_by : (d : Due) (k : Counts) → d ≡ due_first → k ≡ counts_none → ◌≡◌ {A = Place} (record { due = d; counts = k; at = 0; byte = 0; owner = false; list = false; rest = 0 }) place_first
+-- `Behind::of`
+module _ (d : Due) (number : ℕ) (o : Bool) (ho : o ≡ is_owned d) where
+  pub behind_owner : o ≡ true → Some Owner ≡ stands_behind d number
+  unfolding stands_behind
+  behind_owner h = rw (sym ho ∙ h, stands_behind)
+
+  module _ (h : o ≡ false) (l : Bool) (hl : l ≡ is_listed d) where
+    pub behind_list : l ≡ true → Some (Writes number) ≡ stands_behind d number
+    unfolding stands_behind
+    behind_list k = rw (sym ho ∙ h, sym hl ∙ k, stands_behind)
+
+    pub behind_none : l ≡ false → None ≡ stands_behind d number
+    unfolding stands_behind
+    behind_none k = rw (sym ho ∙ h, sym hl ∙ k, stands_behind)
+
+pub ruleset behind_laws = (behind_owner, behind_list, behind_none)
+
+-- `Place::first`, `Place::after` and `Place::after_behind`
+pub first_by : (d : Due) (k : Counts) → d ≡ due_first → k ≡ counts_none → ◌≡◌ {A = Place} (record { due = d; counts = k; at = 0; byte = 0; behind = None }) place_first
 unfolding place_first
 first_by d k p q = rw (p, q)
 
-pub after_by : (s : Place) (number nodes next stop : ℕ) (d : Due) (k : Counts) (o b : Bool) → d ≡ due_after s.due number → k ≡ counts_after s.counts s.due.key number nodes → o ≡ is_owned s.due → b ≡ is_listed s.due
-    → ◌≡◌ {A = Place} (record { due = d; counts = k; at = next; byte = stop + 1; owner = o; list = b; rest = number }) (place_after s number nodes next stop)
+pub after_by : (s : Place) (number nodes next stop : ℕ) (d : Due) (k : Counts) (b : Option Behind) → d ≡ due_after s.due number → k ≡ counts_after s.counts s.due.key number nodes → b ≡ stands_behind s.due number
+    → ◌≡◌ {A = Place} (record { due = d; counts = k; at = next; byte = stop + 1; behind = b }) (place_after s number nodes next stop)
 unfolding place_after
-after_by s number nodes next stop d k o b p q f e = rw (p, q, f, e)
+after_by s number nodes next stop d k b p q e = rw (p, q, e)
 
-pub behind_by : (s : Place) (stop : ℕ) → ◌≡◌ {A = Place} (record { due = s.due; counts = s.counts; at = s.at; byte = stop + 1; owner = false; list = false; rest = 0 }) (place_behind s stop)
+pub behind_by : (s : Place) (stop : ℕ) → ◌≡◌ {A = Place} (record { due = s.due; counts = s.counts; at = s.at; byte = stop + 1; behind = None }) (place_behind s stop)
 unfolding place_behind
 behind_by s stop = refl
 
@@ -50,24 +70,40 @@ pub ruleset place_laws = (first_by, after_by, behind_by)
 pub stop_after : (text : Bytes) (at r : ℕ) → r ≡ first_from text at LF → at < length text → at ≤ r
 stop_after text at r e h = let f = first_is text at LF (omega arith) in omega (arith, e, f)
 
--- `line`
-module _ (text : Bytes) (n : ℕ) (p : Place) (words : List ℕ) (stop : ℕ) (hs : stop ≡ first_from text p.byte LF) where
-  module _ (r : Result LineRead Row) (hr : r ≡ line_read (take (stop - p.byte) (drop p.byte text)) (ltb stop (length text)) p.due.key p.counts words p.at) where
+-- `line_at`
+module _ (text : Bytes) (p : Place) (stop : ℕ) (hs : stop ≡ first_from text p.byte LF) where
+  pub stop_is : stop ≡ stop_at text p
+  unfolding stop_at
+  stop_is = hs
+
+  pub bytes_are : take (stop - p.byte) (drop p.byte text) ≡ line_at text p
+  unfolding stop_at line_at
+  bytes_are = rw hs
+
+  pub ended_is : ltb stop (length text) ≡ ltb (stop_at text p) (length text)
+  unfolding stop_at
+  ended_is = rw hs
+
+pub ruleset at_laws = (stop_is, bytes_are, ended_is)
+
+-- `line`, where the line at a place is s
+module _ (text : Bytes) (n : ℕ) (p : Place) (words : List ℕ) (s : Bytes) (hl : s ≡ line_at text p) (ended : Bool) (he : ended ≡ ltb (stop_at text p) (length text)) where
+  module _ (r : Result LineRead Row) (hr : r ≡ line_read s ended p.due.key p.counts words p.at) where
     by_line : on_line text n p r ≡ line_round text n p words
-    unfolding line_round stop_at line_at
-    by_line = rw (hr, hs)
+    unfolding line_round
+    by_line = rw (hr, hl, he)
 
     pub line_fault : (w : Row) → r ≡ Err w → Err (record { row = w; line = n }) ≡ line_round text n p words
     unfolding on_line
     line_fault w h = rw h at by_line
 
-    pub line_on : (x : LineRead) → r ≡ Ok x → (q : Place) → q ≡ place_after p x.number x.nodes x.next stop → Ok (Some q) ≡ line_round text n p words
-    unfolding on_line stop_at
-    line_on x h q hq = rw (hq, hs) (rw h at by_line)
+    pub line_on : (x : LineRead) → r ≡ Ok x → (stop : ℕ) → stop ≡ stop_at text p → (q : Place) → q ≡ place_after p x.number x.nodes x.next stop → Ok (Some q) ≡ line_round text n p words
+    unfolding on_line
+    line_on x h stop hs q hq = rw (hq, hs) (rw h at by_line)
 
-  pub line_words_lem : (new : List ℕ) → new ≡ line_after (take (stop - p.byte) (drop p.byte text)) (ltb stop (length text)) p.due.key p.counts words p.at → new ≡ line_round_after text p words
-  unfolding line_round_after stop_at line_at
-  line_words_lem new h = h ∙ rw hs
+  pub line_words_lem : (new : List ℕ) → new ≡ line_after s ended p.due.key p.counts words p.at → new ≡ line_round_after text p words
+  unfolding line_round_after
+  line_words_lem new h = h ∙ rw (hl, he)
 
 pub ruleset line_laws = (line_fault, line_on, line_words_lem)
 
@@ -89,15 +125,15 @@ module _ (at word : ℕ) (old : List ℕ) where
 pub ruleset set_laws = (set_first, set_beyond, set_there)
 
 -- `owner`
-module _ (text : Bytes) (n : ℕ) (p : Place) (words : List ℕ) (stop : ℕ) (hs : stop ≡ first_from text p.byte LF) (r : Result ℕ Row)
-    (hr : r ≡ owner_read (take (stop - p.byte) (drop p.byte text)) (ltb stop (length text))) where
+module _ (text : Bytes) (n : ℕ) (p : Place) (words : List ℕ) (s : Bytes) (hl : s ≡ line_at text p) (ended : Bool) (he : ended ≡ ltb (stop_at text p) (length text)) (r : Result ℕ Row)
+    (hr : r ≡ owner_read s ended) where
   by_owner : on_owner text n p r ≡ owner_round text n p
-  unfolding owner_round stop_at line_at
-  by_owner = rw (hr, hs)
+  unfolding owner_round
+  by_owner = rw (hr, hl, he)
 
   by_owner_after : on_owner_after text p words r ≡ owner_round_after text p words
-  unfolding owner_round_after stop_at line_at
-  by_owner_after = rw (hr, hs)
+  unfolding owner_round_after
+  by_owner_after = rw (hr, hl, he)
 
   module _ (w : Row) (h : r ≡ Err w) where
     pub owner_fault_lem : Err (record { row = w; line = n }) ≡ owner_round text n p
@@ -109,9 +145,9 @@ module _ (text : Bytes) (n : ℕ) (p : Place) (words : List ℕ) (stop : ℕ) (h
     owner_stays = rw h at by_owner_after
 
   module _ (word : ℕ) (h : r ≡ Ok word) where
-    pub owner_on : (q : Place) → q ≡ place_behind p stop → Ok (Some q) ≡ owner_round text n p
-    unfolding on_owner stop_at
-    owner_on q hq = rw (hq, hs) (rw h at by_owner)
+    pub owner_on : (stop : ℕ) → stop ≡ stop_at text p → (q : Place) → q ≡ place_behind p stop → Ok (Some q) ≡ owner_round text n p
+    unfolding on_owner
+    owner_on stop hs q hq = rw (hq, hs) (rw h at by_owner)
 
     pub owner_words : (new : List ℕ) → new ≡ last_set p.at word words → new ≡ owner_round_after text p words
     unfolding on_owner_after
@@ -120,116 +156,143 @@ module _ (text : Bytes) (n : ℕ) (p : Place) (words : List ℕ) (stop : ℕ) (h
 pub ruleset owner_laws = (owner_fault_lem, owner_stays, owner_on, owner_words)
 
 -- `writes_others`
-module _ (p : Place) (words : List ℕ) where
-  pub others_early : p.counts.format < owners_format → false ≡ writes_others p words
+module _ (p : Place) (rest : ℕ) (words : List ℕ) where
+  pub others_early : p.counts.format < owners_format → false ≡ writes_others p rest words
   unfolding writes_others
   others_early h = rw (lt-ltb p.counts.format owners_format h, writes_others)
 
   pub others_late : owners_format ≤ p.counts.format → (ranges : List ℕ) → ranges ≡ ranges_in words p.counts.variables
-      → (r : Bool) → r ≡ foreign_in ranges p.counts.automata p.rest → r ≡ writes_others p words
+      → (r : Bool) → r ≡ foreign_in ranges p.counts.automata rest → r ≡ writes_others p rest words
   unfolding writes_others
   others_late h ranges e r hr =
-      hr ∙ ap (λ (l : List ℕ). foreign_in l p.counts.automata p.rest) e ∙ rw (le-ltb p.counts.format owners_format h, writes_others)
+      hr ∙ ap (λ (l : List ℕ). foreign_in l p.counts.automata rest) e ∙ rw (le-ltb p.counts.format owners_format h, writes_others)
 
 pub ruleset others_laws = (others_early, others_late)
 
 -- `list`
-module _ (text : Bytes) (n : ℕ) (p : Place) (words : List ℕ) (stop : ℕ) (hs : stop ≡ first_from text p.byte LF) (r : Result (Unit {0}) Row)
-    (hr : r ≡ told (writes_row (take (stop - p.byte) (drop p.byte text)) (ltb stop (length text)) p.counts.variables p.rest)) where
-  by_list : on_list text n p words r ≡ list_round text n p words
-  unfolding list_round stop_at line_at
-  by_list = rw (hr, hs)
+module _ (text : Bytes) (n : ℕ) (p : Place) (rest : ℕ) (words : List ℕ) (s : Bytes) (hl : s ≡ line_at text p) (ended : Bool) (he : ended ≡ ltb (stop_at text p) (length text)) (r : Result (Unit {0}) Row)
+    (hr : r ≡ told (writes_row s ended p.counts.variables rest)) where
+  by_list : on_list text n p rest words r ≡ list_round text n p rest words
+  unfolding list_round
+  by_list = rw (hr, hl, he)
 
-  pub list_fault : (w : Row) → r ≡ Err w → Err (record { row = w; line = n }) ≡ list_round text n p words
+  pub list_fault : (w : Row) → r ≡ Err w → Err (record { row = w; line = n }) ≡ list_round text n p rest words
   unfolding on_list
   list_fault w h = rw h at by_list
 
-  module _ (h : r ≡ Ok tt) (b : Bool) (hb : b ≡ writes_others p words) where
-    sound_list : list_round text n p words ≡ elim b as (λ x. Round) [ true ↦ Err (refusal 51 n) | false ↦ Ok (Some (place_behind p (stop_at text p))) ]
+  module _ (h : r ≡ Ok tt) (b : Bool) (hb : b ≡ writes_others p rest words) where
+    sound_list : list_round text n p rest words ≡ elim b as (λ x. Round) [ true ↦ Err (refusal 51 n) | false ↦ Ok (Some (place_behind p (stop_at text p))) ]
     unfolding on_list
     sound_list = sym (rw h at by_list) ∙ ap (λ (x : Bool). elim x as (λ y. Round) [ true ↦ Err (refusal 51 n) | false ↦ Ok (Some (place_behind p (stop_at text p))) ]) (sym hb)
 
-    pub list_others : b ≡ true → Err (refusal 51 n) ≡ list_round text n p words
+    pub list_others : b ≡ true → Err (refusal 51 n) ≡ list_round text n p rest words
     list_others e = sym (sound_list ∙ ap (λ (x : Bool). elim x as (λ y. Round) [ true ↦ Err (refusal 51 n) | false ↦ Ok (Some (place_behind p (stop_at text p))) ]) e)
 
-    pub list_on : b ≡ false → (q : Place) → q ≡ place_behind p stop → Ok (Some q) ≡ list_round text n p words
-    unfolding stop_at
-    list_on e q hq = rw (hq, hs) (sym (sound_list ∙ ap (λ (x : Bool). elim x as (λ y. Round) [ true ↦ Err (refusal 51 n) | false ↦ Ok (Some (place_behind p (stop_at text p))) ]) e))
+    pub list_on : b ≡ false → (stop : ℕ) → stop ≡ stop_at text p → (q : Place) → q ≡ place_behind p stop → Ok (Some q) ≡ list_round text n p rest words
+    list_on e stop hs q hq = rw (hq, hs) (sym (sound_list ∙ ap (λ (x : Bool). elim x as (λ y. Round) [ true ↦ Err (refusal 51 n) | false ↦ Ok (Some (place_behind p (stop_at text p))) ]) e))
 
 pub ruleset list_laws = (list_fault, list_others, list_on)
+
+-- `due_behind`
+module _ (text : Bytes) (n : ℕ) (p : Place) (words : List ℕ) (b : Behind) where
+  module _ (e : b ≡ Owner) where
+    pub due_owner : (r : Round) → r ≡ owner_round text n p → r ≡ due_round text n p words (Some b)
+    unfolding due_round
+    due_owner r h = h ∙ sym (ap (λ (x : Behind). due_round text n p words (Some x)) e)
+
+    pub due_owner_after : (new : List ℕ) → new ≡ owner_round_after text p words → new ≡ due_round_after text p words (Some b)
+    unfolding due_round_after
+    due_owner_after new h = h ∙ sym (ap (λ (x : Behind). due_round_after text p words (Some x)) e)
+
+  module _ (rest : ℕ) (e : b ≡ Writes rest) where
+    pub due_list : (r : Round) → r ≡ list_round text n p rest words → r ≡ due_round text n p words (Some b)
+    unfolding due_round
+    due_list r h = h ∙ sym (ap (λ (x : Behind). due_round text n p words (Some x)) e)
+
+    pub due_list_after : words ≡ due_round_after text p words (Some b)
+    unfolding due_round_after
+    due_list_after = sym (ap (λ (x : Behind). due_round_after text p words (Some x)) e)
+
+pub ruleset due_laws = (due_owner, due_owner_after, due_list, due_list_after)
 
 -- `round`
 module _ (text : Bytes) (n : ℕ) (p : Place) (words : List ℕ) (e : Bool) (he : e ≡ is_end p.due.key) where
   module _ (h : length text ≤ p.byte) where
-    pub round_done : (e && not (p.owner || p.list)) ≡ true → Ok None ≡ round_at text n p words
-    unfolding round_at
-    round_done b = rw (le-leb (length text) p.byte h, ap (λ (x : Bool). x && not (p.owner || p.list)) (sym he) ∙ b, round_at)
+    module _ (m : Bool) (hm : is_some p.behind ≡ not m) where
+      over : (b : Bool) → (e && m) ≡ b → (is_end p.due.key && is_none p.behind) ≡ b
+      over b k = ap (λ (x : Bool). x && is_none p.behind) (sym he) ∙ ap (λ (x : Bool). e && x) (none_is m hm) ∙ k
+        where
+          none_is : (y : Bool) → is_some p.behind ≡ not y → is_none p.behind ≡ y
+          none_is true q = ap not q
+          none_is false q = ap not q
 
-    pub round_lacking : (e && not (p.owner || p.list)) ≡ false → Err (refusal 2 n) ≡ round_at text n p words
-    unfolding round_at
-    round_lacking b = rw (le-leb (length text) p.byte h, ap (λ (x : Bool). x && not (p.owner || p.list)) (sym he) ∙ b, round_at)
+      pub round_done : (e && m) ≡ true → Ok None ≡ round_at text n p words
+      unfolding round_at
+      round_done b = rw (le-leb (length text) p.byte h, over true b, round_at)
+
+      pub round_lacking : (e && m) ≡ false → Err (refusal 2 n) ≡ round_at text n p words
+      unfolding round_at
+      round_lacking b = rw (le-leb (length text) p.byte h, over false b, round_at)
 
     pub round_ended : words ≡ round_after text p words
     unfolding round_after
     round_ended = rw (le-leb (length text) p.byte h, round_after)
 
+  -- what is due decides
   module _ (h : p.byte < length text) where
-    -- what is due decides
-    abbrev on_key : Bool → Round
-    on_key b = elim b as (λ x. Round) [ true ↦ Err (refusal 2 n) | false ↦ line_round text n p words ]
-
-    abbrev on_behind : (owner list : Bool) → Round
-    on_behind o l = elim o as (λ x. Round) [ true ↦ owner_round text n p | false ↦ elim l as (λ x. Round) [ true ↦ list_round text n p words | false ↦ on_key (is_end p.due.key) ] ]
-
-    here : round_at text n p words ≡ on_behind p.owner p.list
+    here : (b : Option Behind) → p.behind ≡ b → round_at text n p words ≡ due_round text n p words b
     unfolding round_at
-    here = rw (lt-leb (length text) p.byte h, round_at)
+    here b q = rw (lt-leb (length text) p.byte h, round_at) (ap (due_round text n p words) q)
 
-    abbrev after_behind : (owner over : Bool) → List ℕ
-    after_behind o l = elim o as (λ x. List ℕ) [ true ↦ owner_round_after text p words | false ↦ elim l as (λ x. List ℕ) [ true ↦ words | false ↦ line_round_after text p words ] ]
-
-    here_after : round_after text p words ≡ after_behind p.owner (is_end p.due.key || p.list)
+    here_after : (b : Option Behind) → p.behind ≡ b → round_after text p words ≡ due_round_after text p words b
     unfolding round_after
-    here_after = rw (lt-leb (length text) p.byte h, round_after)
+    here_after b q = rw (lt-leb (length text) p.byte h, round_after) (ap (due_round_after text p words) q)
 
-    module _ (o : p.owner ≡ true) where
+    module _ (b : Behind) (o : p.behind ≡ Some b) where
+      pub round_due : (r : Round) → r ≡ due_round text n p words (Some b) → r ≡ round_at text n p words
+      round_due r hr = hr ∙ sym (here (Some b) o)
+
+      pub round_due_after : (new : List ℕ) → new ≡ due_round_after text p words (Some b) → new ≡ round_after text p words
+      round_due_after new hn = hn ∙ sym (here_after (Some b) o)
+
+    module _ (o : p.behind ≡ Some Owner) where
       pub round_owner : (r : Round) → r ≡ owner_round text n p → r ≡ round_at text n p words
-      round_owner r hr = hr ∙ sym (here ∙ ap (λ (b : Bool). on_behind b p.list) o)
+      unfolding due_round
+      round_owner r hr = hr ∙ sym (here (Some Owner) o)
 
       pub round_owned : (new : List ℕ) → new ≡ owner_round_after text p words → new ≡ round_after text p words
-      round_owned new hn = hn ∙ sym (here_after ∙ ap (λ (b : Bool). after_behind b (is_end p.due.key || p.list)) o)
+      unfolding due_round_after
+      round_owned new hn = hn ∙ sym (here_after (Some Owner) o)
 
-    module _ (o : p.owner ≡ false) where
-      no_owner : round_at text n p words ≡ on_behind false p.list
-      no_owner = here ∙ ap (λ (b : Bool). on_behind b p.list) o
+    module _ (rest : ℕ) (o : p.behind ≡ Some (Writes rest)) where
+      pub round_list : (r : Round) → r ≡ list_round text n p rest words → r ≡ round_at text n p words
+      unfolding due_round
+      round_list r hr = hr ∙ sym (here (Some (Writes rest)) o)
 
-      no_owner_after : (b : Bool) → (is_end p.due.key || p.list) ≡ b → round_after text p words ≡ after_behind false b
-      no_owner_after b q = here_after ∙ ap (λ (x : Bool). after_behind x (is_end p.due.key || p.list)) o ∙ ap (after_behind false) q
+      pub round_as_was : words ≡ round_after text p words
+      unfolding due_round_after
+      round_as_was = sym (here_after (Some (Writes rest)) o)
 
-      module _ (d : p.list ≡ true) where
-        pub round_list : (r : Round) → r ≡ list_round text n p words → r ≡ round_at text n p words
-        round_list r hr = hr ∙ sym (no_owner ∙ ap (on_behind false) d)
+    module _ (o : p.behind ≡ None) where
+      on_key : (b : Bool) → e ≡ b → round_at text n p words ≡ elim b as (λ x. Round) [ true ↦ Err (refusal 2 n) | false ↦ line_round text n p words ]
+      unfolding due_round
+      on_key b q = here None o ∙ ap (λ (x : Bool). elim x as (λ y. Round) [ true ↦ Err (refusal 2 n) | false ↦ line_round text n p words ]) (sym he ∙ q)
 
-        pub round_as_was : words ≡ round_after text p words
-        round_as_was = sym (no_owner_after true (or_right (is_end p.due.key) d))
+      on_key_after : (b : Bool) → e ≡ b → round_after text p words ≡ elim b as (λ x. List ℕ) [ true ↦ words | false ↦ line_round_after text p words ]
+      unfolding due_round_after
+      on_key_after b q = here_after None o ∙ ap (λ (x : Bool). elim x as (λ y. List ℕ) [ true ↦ words | false ↦ line_round_after text p words ]) (sym he ∙ q)
 
-      module _ (d : p.list ≡ false) where
-        no_list : round_at text n p words ≡ on_key e
-        no_list = no_owner ∙ ap (on_behind false) d ∙ ap on_key (sym he)
+      pub round_extra : e ≡ true → Err (refusal 2 n) ≡ round_at text n p words
+      round_extra b = sym (on_key true b)
 
-        pub round_extra : e ≡ true → Err (refusal 2 n) ≡ round_at text n p words
-        round_extra b = sym (no_list ∙ ap on_key b)
+      pub round_stays : e ≡ true → words ≡ round_after text p words
+      round_stays b = sym (on_key_after true b)
 
-        pub round_stays : e ≡ true → words ≡ round_after text p words
-        round_stays b = sym (no_owner_after true (or_left p.list (sym he ∙ b)))
+      pub round_line : e ≡ false → (r : Round) → r ≡ line_round text n p words → r ≡ round_at text n p words
+      round_line b r hr = hr ∙ sym (on_key false b)
 
-        pub round_line : e ≡ false → (r : Round) → r ≡ line_round text n p words → r ≡ round_at text n p words
-        round_line b r hr = hr ∙ sym (no_list ∙ ap on_key b)
-
-        pub round_words : e ≡ false → (new : List ℕ) → new ≡ line_round_after text p words → new ≡ round_after text p words
-        round_words b new hn = hn ∙ sym (no_owner_after false (or_none (sym he ∙ b) d))
-
-pub ruleset round_laws = (round_done, round_lacking, round_ended, round_owner, round_owned, round_list, round_as_was, round_extra, round_stays, round_line, round_words)
+      pub round_words : e ≡ false → (new : List ℕ) → new ≡ line_round_after text p words → new ≡ round_after text p words
+      round_words b new hn = hn ∙ sym (on_key_after false b)
 
 -- `sheet`: from each round on, the rounds that are left come to the same outcome
 module _ (text : Bytes) where
@@ -277,8 +340,6 @@ module _ (text : Bytes) where
       unfolding on_round
       sheet_on q h = on (Ok (Some q)) h
 
-pub ruleset sheet_laws = (sheet_first, spent_answer, spent_words)
-
 -- the buffer keeps its length
 line_round_kept : (text : Bytes) (p : Place) (words : List ℕ) → length (line_round_after text p words) ≡ length words
 unfolding line_round_after
@@ -302,15 +363,21 @@ owner_round_kept text p words = go (owner_read (line_at text p) (ltb (stop_at te
     go (Ok word) = last_kept p.at word words
 
 round_kept : (text : Bytes) (p : Place) (words : List ℕ) → length (round_after text p words) ≡ length words
-unfolding round_after
-round_kept text p words = go (leb (length text) p.byte) p.owner (is_end p.due.key || p.list)
+unfolding round_after due_round_after
+round_kept text p words = go (leb (length text) p.byte)
   where
-    go : (a o b : Bool)
-        → length {A = ℕ} (elim a as (λ x. List ℕ) [ true ↦ words | false ↦ elim o as (λ x. List ℕ) [ true ↦ owner_round_after text p words | false ↦ elim b as (λ x. List ℕ) [ true ↦ words | false ↦ line_round_after text p words ] ] ]) ≡ length words
-    go true o b = refl
-    go false true b = owner_round_kept text p words
-    go false false true = refl
-    go false false false = line_round_kept text p words
+    by_key : (v : Bool) → length {A = ℕ} (elim v as (λ x. List ℕ) [ true ↦ words | false ↦ line_round_after text p words ]) ≡ length words
+    by_key true = refl
+    by_key false = line_round_kept text p words
+
+    by_behind : (b : Option Behind) → length (due_round_after text p words b) ≡ length words
+    by_behind (Some Owner) = owner_round_kept text p words
+    by_behind (Some (Writes rest)) = refl
+    by_behind None = by_key (is_end p.due.key)
+
+    go : (v : Bool) → length {A = ℕ} (elim v as (λ x. List ℕ) [ true ↦ words | false ↦ due_round_after text p words p.behind ]) ≡ length words
+    go true = refl
+    go false = by_behind p.behind
 
 on_kept : (text : Bytes) (go : Place → List ℕ → Outcome) → ((q : Place) (ws : List ℕ) → length (go q ws).words ≡ length ws) → (r : Round) (new : List ℕ) → length (on_round text go r new).words ≡ length new
 unfolding on_round

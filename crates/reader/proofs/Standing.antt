@@ -42,8 +42,9 @@ use Rattle.text_bytes.specs.Find.{first_from}
 use Rattle.text_bytes.proofs.FindLaws.{find_after, lines_found, lines_ended, lines_none}
 use Rattle.table_append.specs.Append.{next_place}
 use Rattle.read_form.specs.Form.{line_of}
-use Rattle.std.specs.Prelude.{Ok, Err}
+use Rattle.std.specs.Prelude.{Some, None, Ok, Err}
 use Rattle.reader.specs.declared.Place.{Place}
+use Rattle.reader.specs.declared.Behind.TheVariants.{Owner, Writes}
 use Rattle.reader.specs.Read.{ReadAnswer, refusal, going, done, read_of, Outcome, outcome, stop_at, line_at, round_at, round_after, on_round, read_from}
 use Rattle.reader.proofs.Filling.{filled, filled_length, filled_first}
 
@@ -128,16 +129,14 @@ room_after (compose_line c) r at p h = omega arith
 
 -- What a place says of the list that is due: of the variables that an update writes, those are kept that it does not mention.
 pub record Due-list (due : List ℕ) (p : Place) : Type 0 where
-  pub unowned : p.owner ≡ false
-  pub marked : p.list ≡ true
   pub update : Pred
   pub writes : due ≡ written update
   pub ranged : every in_range (words update) ≡ true
-  pub rest : p.rest ≡ rest_of all_variables (map code (words update))
+  pub marked : p.behind ≡ Some (Writes (rest_of all_variables (map code (words update))))
 
 -- Of the owner that is due: a variable was noted last, with none, and its words are the last.
 pub record Due-owner (r : Reading) (p : Place) (stream : List ℕ) : Type 0 where
-  pub marked : p.owner ≡ true
+  pub marked : p.behind ≡ Some Owner
   pub before : Reading
   pub range : Range
   pub first : List ℕ
@@ -148,7 +147,7 @@ pub record Due-owner (r : Reading) (p : Place) (stream : List ℕ) : Type 0 wher
   pub placed : length first ≡ 3 + 3 * variable_count before
 
 abbrev pub Waits : Behind → Reading → Place → (stream : List ℕ) → Type 0
-Waits nothing r p stream = (p.owner ≡ false) × (p.list ≡ false)
+Waits nothing r p stream = p.behind ≡ None
 Waits owner r p stream = Due-owner r p stream
 Waits (list due) r p stream = Due-list due p
 

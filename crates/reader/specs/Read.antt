@@ -1,11 +1,13 @@
 -- What the reader answers, line by line, and what it leaves in the lent table. It is what `read_answer` and
 -- `table_after` say: the laws answer_exact and after_exact.
-use Rattle.std.specs.Prelude.{ℕ, zero, suc, ◌+◌, ◌-◌, Bool, true, false, not, ◌&&◌, ◌||◌, List, ◌++◌, length, take}
+use Rattle.std.specs.Prelude.{ℕ, zero, suc, ◌+◌, ◌-◌, Bool, true, false, ◌&&◌, List, ◌++◌, length, take}
 use Rattle.std.specs.Prelude.{drop, set, replicate, eqb, leb, ltb, Option, Some, None, Result, Ok, Err}
+use Rattle.std.specs.Option.{is_none}
 use Rattle.model.specs.declared.Row.{Row}
 use Rattle.model.specs.Row.{row}
 use Rattle.model.specs.Bounds.{max_bytes, table_words, owners_format}
 use Rattle.model.specs.Table.{row18}
+use Rattle.line_order.specs.declared.Due.{Due}
 use Rattle.line_order.specs.Due.{is_end, is_listed, is_owned, due_first, due_after}
 use Rattle.line_order.specs.Counts.{counts_none, counts_after}
 use Rattle.format.specs.Bytes.{Bytes, LF}
@@ -20,6 +22,8 @@ use Rattle.read_owner_line.specs.Owner.{owner_read}
 use Rattle.read_writes_line.specs.Writes.{told, writes_row}
 use Rattle.reader.specs.declared.Refusal.{Refusal}
 use Rattle.reader.specs.declared.Place.{Place}
+use Rattle.reader.specs.declared.Behind.{Behind}
+use Rattle.reader.specs.declared.Behind.TheVariants.{Owner, Writes}
 
 -- what reading a text answers
 abbrev pub ReadAnswer : Type 0
@@ -34,7 +38,15 @@ read_of (Reader.refused n line) = Err (refusal n line)
 read_of (Reader.accepted m) = Ok tt
 
 unfoldable pub place_first : Place
-place_first = record { due = due_first; counts = counts_none; at = 0; byte = 0; owner = false; list = false; rest = 0 }
+place_first = record { due = due_first; counts = counts_none; at = 0; byte = 0; behind = None }
+
+-- what stands behind the line that is due, of which this number is told
+unfoldable pub stands_behind : Due → (number : ℕ) → Option Behind
+stands_behind d number =
+    elim (is_owned d) [
+      | true ↦ Some Owner
+      | false ↦ elim (is_listed d) [ true ↦ Some (Writes number) | false ↦ None ]
+    ]
 
 -- after a line with this number and so many nodes, which ended before byte `stop`
 unfoldable pub place_after : Place → (number nodes next stop : ℕ) → Place
@@ -44,15 +56,13 @@ place_after p number nodes next stop =
       counts = counts_after p.counts p.due.key number nodes;
       at = next;
       byte = stop + 1;
-      owner = is_owned p.due;
-      list = is_listed p.due;
-      rest = number;
+      behind = stands_behind p.due number;
     }
 
 -- after the owner or the list behind a line, which ended before byte `stop`
 unfoldable pub place_behind : Place → (stop : ℕ) → Place
 place_behind p stop =
-    record { due = p.due; counts = p.counts; at = p.at; byte = stop + 1; owner = false; list = false; rest = 0 }
+    record { due = p.due; counts = p.counts; at = p.at; byte = stop + 1; behind = None }
 
 -- a word in the place of the last one before `at`
 unfoldable pub last_set : (at word : ℕ) → List ℕ → List ℕ
@@ -62,12 +72,12 @@ last_set at word old =
       | false ↦ elim (ltb table_words at) [ true ↦ old | false ↦ set old (at - 1) word ]
     ]
 
--- row 51 of the edge before a place
-unfoldable pub writes_others : Place → List ℕ → Bool
-writes_others p words =
+-- row 51 of the edge before a place, which does not mention the variables of the set `rest`
+unfoldable pub writes_others : Place → (rest : ℕ) → List ℕ → Bool
+writes_others p rest words =
     elim (ltb p.counts.format owners_format) [
       | true ↦ false
-      | false ↦ foreign_in (ranges_in words p.counts.variables) p.counts.automata p.rest
+      | false ↦ foreign_in (ranges_in words p.counts.variables) p.counts.automata rest
     ]
 
 -- what a round comes to: the place to read on from, or none where all was read; or why the text is refused
@@ -125,47 +135,43 @@ module _ (text : Bytes) where
   owner_round_after p words = on_owner_after p words (owner_read (line_at p) (ltb (stop_at p) (length text)))
 
   -- what the list at a place comes to: its own rows, and then row 51
-  unfoldable pub on_list : (line : ℕ) → Place → List ℕ → Result (Unit {0}) Row → Round
-  on_list line p words (Err r) = Err (record { row = r; line = line })
-  on_list line p words (Ok t) =
-      elim (writes_others p words) [ true ↦ Err (refusal 51 line) | false ↦ going (place_behind p (stop_at p)) ]
+  unfoldable pub on_list : (line : ℕ) → Place → (rest : ℕ) → List ℕ → Result (Unit {0}) Row → Round
+  on_list line p rest words (Err r) = Err (record { row = r; line = line })
+  on_list line p rest words (Ok t) =
+      elim (writes_others p rest words) [ true ↦ Err (refusal 51 line) | false ↦ going (place_behind p (stop_at p)) ]
 
-  unfoldable pub list_round : (line : ℕ) → Place → List ℕ → Round
-  list_round line p words =
-      on_list line p words
-      (told (writes_row (line_at p) (ltb (stop_at p) (length text)) p.counts.variables p.rest))
+  unfoldable pub list_round : (line : ℕ) → Place → (rest : ℕ) → List ℕ → Round
+  list_round line p rest words =
+      on_list line p rest words
+      (told (writes_row (line_at p) (ltb (stop_at p) (length text)) p.counts.variables rest))
+
+  -- where a line is left: the owner or the list is read that is due first, or the line, if one is due
+  unfoldable pub due_round : (line : ℕ) → Place → List ℕ → Option Behind → Round
+  due_round line p words (Some Owner) = owner_round line p
+  due_round line p words (Some (Writes rest)) = list_round line p rest words
+  due_round line p words None =
+      elim (is_end p.due.key) [ true ↦ Err (refusal 2 line) | false ↦ line_round line p words ]
+
+  unfoldable pub due_round_after : Place → List ℕ → Option Behind → List ℕ
+  due_round_after p words (Some Owner) = owner_round_after p words
+  due_round_after p words (Some (Writes rest)) = words
+  due_round_after p words None = elim (is_end p.due.key) [ true ↦ words | false ↦ line_round_after p words ]
 
   -- one round: no line is left, or none is due, or an owner, a list or a line is read
   unfoldable pub round_at : (line : ℕ) → Place → List ℕ → Round
   round_at line p words =
       elim (leb (length text) p.byte) [
         | true ↦
-            elim (is_end p.due.key && not (p.owner || p.list)) [
+            elim (is_end p.due.key && is_none p.behind) [
               | true ↦ Ok None
               | false ↦ Err (refusal 2 line)
             ]
-        | false ↦
-            elim p.owner [
-              | true ↦ owner_round line p
-              | false ↦
-                  elim p.list [
-                    | true ↦ list_round line p words
-                    | false ↦
-                        elim (is_end p.due.key) [ true ↦ Err (refusal 2 line) | false ↦ line_round line p words ]
-                  ]
-            ]
+        | false ↦ due_round line p words p.behind
       ]
 
   unfoldable pub round_after : Place → List ℕ → List ℕ
   round_after p words =
-      elim (leb (length text) p.byte) [
-        | true ↦ words
-        | false ↦
-            elim p.owner [
-              | true ↦ owner_round_after p words
-              | false ↦ elim (is_end p.due.key || p.list) [ true ↦ words | false ↦ line_round_after p words ]
-            ]
-      ]
+      elim (leb (length text) p.byte) [ true ↦ words | false ↦ due_round_after p words p.behind ]
 
   -- from a place on, at most so many rounds; `go` reads on
   unfoldable pub on_round : (go : Place → List ℕ → Outcome) → Round → List ℕ → Outcome

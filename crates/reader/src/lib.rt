@@ -25,19 +25,23 @@ impl fmt::Display for Refusal {
     }
 }
 
+// What stands behind a line: the owner of a variable; or the list of the variables that an edge writes, which are all
+// but this set.
+#[derive(Clone, Copy, Debug, PartialEq, Eq)]
+pub enum Behind {
+    Owner,
+    Writes(usize),
+}
+
 // Where the reader stands: the key that is due with what comes after it, what was counted, the place of the next word
-// in the table and of the next byte in the text. Where `owner` says so, the owner behind the line before is due first.
-// Where `list` does, the list behind it is, and `rest` is the number that was told of that line: the variables that
-// the edge does not mention.
-#[derive(Clone, Copy)]
+// in the table and of the next byte in the text; and what is due first, behind the line before.
+#[derive(Clone, Copy, Debug, PartialEq, Eq)]
 pub struct Place {
     pub due: line_order::Due,
     pub counts: line_order::Counts,
     pub at: usize,
     pub byte: usize,
-    pub owner: bool,
-    pub list: bool,
-    pub rest: usize,
+    pub behind: Option<Behind>,
 }
 
 // Reads a text into the table's first words. A refused text leaves the table as it was.

@@ -1,15 +1,17 @@
 // The loop over a text's lines.
-ghost use Rattle.std.specs.Prelude.{◌≡◌, ◌+◌, ◌≤◌, ◌<◌, length};
+ghost use Rattle.std.specs.Prelude.{◌≡◌, ◌+◌, ◌≤◌, ◌<◌, ltb, length};
 ghost use Rattle.model.specs.Bounds.{max_bytes};
 ghost use Rattle.format.specs.Bytes.{LF};
 ghost use Rattle.text_bytes.specs.Find.{first_from};
 ghost use Rattle.reader.specs.Read.{place_first, place_after, place_behind, line_round, line_round_after, last_set};
 ghost use Rattle.reader.specs.Read.{owner_round, owner_round_after, writes_others, list_round, round_at, round_after};
-ghost use Rattle.reader.specs.Read.{sheet_read, refusal};
+ghost use Rattle.reader.specs.Read.{sheet_read, refusal, stop_at, line_at, stands_behind};
+ghost use Rattle.reader.specs.Read.{due_round, due_round_after};
 
-use crate::{Place, Refusal};
+use crate::{Behind, Place, Refusal};
 use line_order::{Counts, Due};
 use model::{Model, Row};
+use read_form::Line;
 
 // After a round: where to read on, or nothing where all was read; or why the text is refused.
 type Round = Result<Option<Place>, Refusal>;
@@ -23,7 +25,24 @@ fn refused(row: u32, line: usize) -> Round
     })
 }
 
+impl Behind {
+    // What stands behind the line that is due, of which this number is told.
+    #[tactic(auto, using(crate::proofs::SheetLaws::behind_laws))]
+    fn of(due: Due, number: usize) -> Option<Behind>
+        ensures { result ≡ stands_behind due number }
+    {
+        if due.owned() {
+            return Some(Behind::Owner);
+        }
+        if due.listed() {
+            return Some(Behind::Writes(number));
+        }
+        None
+    }
+}
+
 impl Place {
+    #[tactic(auto, using(crate::proofs::SheetLaws::place_laws))]
     fn first() -> Place
         ensures { result ≡ place_first }
     {
@@ -32,13 +51,12 @@ impl Place {
             counts: Counts::none(),
             at: 0,
             byte: 0,
-            owner: false,
-            list: false,
-            rest: 0,
+            behind: None,
         }
     }
 
     // After a line with this number and so many nodes, which ended before byte `stop`.
+    #[tactic(auto, using(crate::proofs::SheetLaws::place_laws))]
     fn after(self, number: usize, nodes: usize, next: usize, stop: usize) -> Place
         requires { stop ≤ max_bytes }
         ensures { result ≡ place_after self number nodes next stop }
@@ -51,33 +69,48 @@ impl Place {
             counts: counts.after(key, number, nodes),
             at: next,
             byte: stop + 1,
-            owner: due.owned(),
-            list: due.listed(),
-            rest: number,
+            behind: Behind::of(due, number),
         }
     }
 
     // After the owner or the list behind a line, which ended before byte `stop`.
-    fn behind(self, stop: usize) -> Place
+    #[tactic(auto, using(crate::proofs::SheetLaws::place_laws))]
+    fn after_behind(self, stop: usize) -> Place
         requires { stop ≤ max_bytes }
         ensures { result ≡ place_behind self stop }
     {
         Place {
             byte: stop + 1,
-            owner: false,
-            list: false,
-            rest: 0,
+            behind: None,
             ..self
         }
     }
 }
 
 // Where the line that begins at `byte` ends: at its LF, or at the end of the text.
+#[tactic(auto, using(crate::proofs::SheetLaws::stop_after))]
 fn stop_from(text: &[u8], byte: usize) -> usize
     requires { byte < length text.now }
     ensures { (result ≡ first_from text.now byte LF) × (byte ≤ result) × (result ≤ length text.now) }
 {
     text_bytes::find(text, byte, b'\n')
+}
+
+// The line at a place, and where it ends.
+#[tactic(auto, using(crate::proofs::SheetLaws::at_laws))]
+fn line_at(text: &[u8], place: Place) -> (Line<'_>, usize)
+    requires { place.byte < length text.now }
+    ensures line { (result.0.bytes.now ≡ line_at text.now place)
+        × (result.0.ended ≡ ltb (stop_at text.now place) (length text.now)) }
+    ensures stop { (result.1 ≡ stop_at text.now place) × (result.1 ≤ length text.now) }
+{
+    let byte = place.byte;
+    let stop = stop_from(text, byte);
+    let line = Line {
+        bytes: &text[byte..stop],
+        ended: stop < text.len(),
+    };
+    (line, stop)
 }
 
 // The line at a place, which has this number.
@@ -86,20 +119,19 @@ fn line(text: &[u8], number: usize, place: Place, words: &mut [u32; Model::WORDS
     ensures { (result ≡ line_round text.now number place words.old)
         × (words.new ≡ line_round_after text.now place words.old) }
 {
-    let byte = place.byte;
     let at = place.at;
     let due = place.due;
     let counts = place.counts;
     let key = due.key;
-    let stop = stop_from(text, byte);
-    let ended = stop < text.len();
-    match read_line::read(&text[byte..stop], ended, key, counts, words, at) {
+    let (here, stop) = line_at(text, place);
+    match read_line::read(here, key, counts, words, at) {
         Ok(line) => Ok(Some(place.after(line.number, line.nodes, line.next, stop))),
         Err(row) => Err(Refusal { row, line: number }),
     }
 }
 
 // A word in the place of the last one before `at`.
+#[tactic(auto, using(crate::proofs::SheetLaws::set_laws))]
 fn set_last(words: &mut [u32; Model::WORDS], at: usize, word: u32)
     ensures { words.new ≡ last_set at word words.old }
 {
@@ -119,52 +151,67 @@ fn owner(text: &[u8], number: usize, place: Place, words: &mut [u32; Model::WORD
     ensures { (result ≡ owner_round text.now number place)
         × (words.new ≡ owner_round_after text.now place words.old) }
 {
-    let byte = place.byte;
     let at = place.at;
-    let stop = stop_from(text, byte);
-    let ended = stop < text.len();
-    match read_owner_line::read(&text[byte..stop], ended) {
+    let (here, stop) = line_at(text, place);
+    match read_owner_line::read(here) {
         Ok(word) => {
             set_last(words, at, word);
-            Ok(Some(place.behind(stop)))
+            Ok(Some(place.after_behind(stop)))
         }
         Err(row) => Err(Refusal { row, line: number }),
     }
 }
 
 // Row 51 of the edge before a place: from the format with owners on, it writes what its automaton does not own.
-fn writes_others(place: Place, words: &[u32; Model::WORDS]) -> bool
-    ensures { result ≡ writes_others place words.now }
+#[tactic(auto, using(crate::proofs::SheetLaws::others_laws))]
+fn writes_others(place: Place, rest: usize, words: &[u32; Model::WORDS]) -> bool
+    ensures { result ≡ writes_others place rest words.now }
 {
     let counts = place.counts;
     let format = counts.format;
     let variables = counts.variables;
     let automata = counts.automata;
-    let rest = place.rest;
     if format < Model::OWNERS_FORMAT {
         return false;
     }
     table_owners::foreign(table_line::ranges(words, variables), automata, rest as u64)
 }
 
-// The list behind a line, at a place, on the line with this number. It adds no words to the table.
-fn list(text: &[u8], number: usize, place: Place, words: &[u32; Model::WORDS]) -> Round
+// The list behind an edge that does not mention the set `rest`, at a place, on the line with this number. It adds no
+// words to the table.
+fn list(text: &[u8], number: usize, place: Place, rest: usize, words: &[u32; Model::WORDS]) -> Round
     requires { (place.byte < length text.now) × (length text.now ≤ max_bytes) }
-    ensures { result ≡ list_round text.now number place words.now }
+    ensures { result ≡ list_round text.now number place rest words.now }
 {
-    let byte = place.byte;
-    let rest = place.rest;
     let counts = place.counts;
     let variables = counts.variables;
-    let stop = stop_from(text, byte);
-    let ended = stop < text.len();
-    if let Err(row) = read_writes_line::read(&text[byte..stop], ended, variables, rest) {
+    let (here, stop) = line_at(text, place);
+    if let Err(row) = read_writes_line::read(here, variables, rest) {
         return Err(Refusal { row, line: number });
     }
-    if writes_others(place, words) {
+    if writes_others(place, rest, words) {
         return refused(51, number);
     }
-    Ok(Some(place.behind(stop)))
+    Ok(Some(place.after_behind(stop)))
+}
+
+// What is due first at a place, behind the line before: its owner, or its list.
+#[tactic(auto, using(crate::proofs::SheetLaws::due_laws))]
+fn due_behind(
+    text: &[u8],
+    number: usize,
+    place: Place,
+    behind: Behind,
+    words: &mut [u32; Model::WORDS],
+) -> Round
+    requires { (place.byte < length text.now) × (length text.now ≤ max_bytes) }
+    ensures { (result ≡ due_round text.now number place words.old (Some behind))
+        × (words.new ≡ due_round_after text.now place words.old (Some behind)) }
+{
+    match behind {
+        Behind::Owner => owner(text, number, place, words),
+        Behind::Writes(rest) => list(text, number, place, rest, words),
+    }
 }
 
 // One round: no line is left, or none is due, or an owner, a list or a line is read.
@@ -177,24 +224,21 @@ fn round(text: &[u8], number: usize, place: Place, words: &mut [u32; Model::WORD
     let due = place.due;
     let key = due.key;
     let end = line_order::end(key);
-    let owned = place.owner;
-    let listed = place.list;
     if text.len() <= byte {
-        if end & !(owned | listed) {
+        if end & place.behind.is_none() {
             return Ok(None);
         }
         return refused(2, number);
     }
-    if owned {
-        return owner(text, number, place, words);
+    match place.behind {
+        Some(behind) => due_behind(text, number, place, behind, words),
+        None => {
+            if end {
+                return refused(2, number);
+            }
+            line(text, number, place, words)
+        }
     }
-    if listed {
-        return list(text, number, place, words);
-    }
-    if end {
-        return refused(2, number);
-    }
-    line(text, number, place, words)
 }
 
 // The text's lines into `words`, one after the other.

@@ -11,7 +11,7 @@ use line_order::{Counts, Due};
 use model::{Model, Row};
 
 // Where a scan over the lines stands: what is due, what was counted, and the index of the next word.
-#[derive(Clone, Copy)]
+#[derive(Clone, Copy, Debug, PartialEq, Eq)]
 pub struct Scan {
     pub due: Due,
     pub counts: Counts,

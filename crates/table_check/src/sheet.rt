@@ -45,6 +45,7 @@ impl Scan {
 }
 
 // Does each line of the table say something that no row refuses, and is the rest 0?
+#[tactic(auto, using(crate::proofs::SheetLaws::sheet_laws))]
 pub(crate) fn sheet(t: &[u32]) -> bool
     ensures { result ≡ scanned_sheet (line_at t.now) t.now }
 {

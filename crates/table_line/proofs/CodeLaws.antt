@@ -10,7 +10,7 @@ use borrow.Author.Tests.{lt-ltb, le-ltb, le-leb, lt-leb, not-true, not-false}
 use Rattle.model.specs.Bounds.{first_format, last_format, max_edges}
 use Rattle.model.specs.Limits.{rises}
 use Rattle.model.specs.Table.{set_of}
-use Rattle.model.proofs.Tests.{and_intro, and_no_right, or_left, or_right, or_none}
+use Rattle.model.proofs.Tests.{and_intro, and_no_right, or_left, or_none}
 use Rattle.line_order.specs.declared.Key.{Key}
 use Rattle.line_order.specs.declared.Key.TheVariants.{Format, Actions, Variables, Variable, Automata, Sync, Locations, Init, Inv, Edges, Edge, Compose, End}
 use Rattle.line_order.specs.declared.Counts.{Counts}

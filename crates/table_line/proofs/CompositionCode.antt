@@ -1,10 +1,9 @@
 -- Each way out of the code of src/composition.rt.
-use Prim.Native.Nat.{ℕ, zero, suc, ◌+◌, ◌-◌, ◌≤◌, ◌<◌}
+use Prim.Native.Nat.{ℕ, suc, ◌+◌, ◌-◌, ◌≤◌, ◌<◌}
 use mathlib.Core.Path.{◌≡◌, refl, sym, ◌∙◌, ap}
 use mathlib.Core.Bool.{Bool, true, false, not, ◌&&◌}
 use mathlib.Core.List.{List, map}
 use native.Mathlib.Omega.{arith}
-use native.Mathlib.Numerals.{sub-one}
 use mir.Syntax.{w64}
 use mir.Val.{Fits}
 use lib.ListN.{length, get_or, take, drop}
@@ -21,7 +20,7 @@ use Rattle.line_order.proofs.CountsLaws.{add_fits, add_stops}
 use Rattle.table_predicate.specs.Walk.{walk_at}
 use Rattle.table_predicate.specs.Scan.{is_coded}
 use Rattle.table_tree.specs.declared.checked.TreeEnd.{TreeEnd}
-use Rattle.table_tree.specs.Checked.{tree_end, tree_check}
+use Rattle.table_tree.specs.Checked.{tree_check}
 use Rattle.table_line.specs.declared.Line.{Line}
 use Rattle.std.specs.Prelude.{Option, Some, None}
 use Rattle.table_line.specs.Line.{a_line, ranges_in, walked_to, nodes_sound, predicate_at, location_at, behind_pred, starts_from, starts_at, of_tree, compose_at}

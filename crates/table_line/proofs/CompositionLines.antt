@@ -37,7 +37,7 @@ use Rattle.table_tree.proofs.Given.{regiven}
 use Rattle.table_line.specs.declared.Line.{Line}
 use Rattle.table_line.specs.Exact.{Declared, LineAt}
 use Rattle.std.specs.Prelude.{Option, Some, None}
-use Rattle.table_line.proofs.PredicateCode.{number_in, nodes_in, next_in}
+use Rattle.table_line.proofs.PredicateCode.{nodes_in, next_in}
 use Rattle.table_line.specs.Line.{a_line, word, location_at, behind_pred, starts_from, starts_at, of_tree, compose_at}
 use Rattle.table_line.proofs.NumberLines.{when_sound, when_true, first_of, head_of, line_at_lem}
 use Rattle.table_line.proofs.PredicateLines.{location_back, location_of}

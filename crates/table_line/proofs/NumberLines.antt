@@ -35,7 +35,7 @@ use Rattle.table_line.specs.declared.Line.{Line}
 use Rattle.table_line.specs.Exact.{Declared, LineAt}
 use Rattle.table_owners.specs.Owners.{beyond_in}
 use Rattle.table_owners.proofs.OwnerLaws.{beyond_is}
-use Rattle.std.specs.Prelude.{Option, Some, None}
+use Rattle.std.specs.Prelude.{Option}
 use Rattle.table_line.proofs.PredicateCode.{number_in, nodes_in, next_in}
 use Rattle.table_line.specs.Line.{a_line, when, word, number_at, variable_at, sync_at, edges_at, owner_sound, variable_sound, ranges_in, automata_at}
 

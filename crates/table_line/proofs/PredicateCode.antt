@@ -14,11 +14,13 @@ use Rattle.model.specs.Predicate.{names_outside, names_new}
 use Rattle.model.specs.Table.{word_of}
 use Rattle.model.proofs.Tests.{and_intro, and_no_right}
 use Rattle.line_order.specs.declared.Counts.{Counts}
+use Rattle.table_predicate.specs.declared.Stopped.{Stopped}
 use Rattle.table_predicate.specs.declared.Walked.{Walked}
 use Rattle.table_predicate.specs.Walk.{walk_at}
 use Rattle.table_predicate.specs.Scan.{is_coded}
 use Rattle.table_line.specs.declared.Line.{Line}
-use Rattle.std.specs.Prelude.{Option, Some, None}
+use Rattle.std.specs.Prelude.{Option, Some, None, Result, Ok, Err, SomeIff}
+use Rattle.std.specs.Option.{option_eq}
 use Rattle.table_line.specs.Line.{a_line, when, ranges_in, walked_to, nodes_sound, predicate_at, location_at}
 
 -- what a line says
@@ -66,24 +68,31 @@ module _ (t : List ℕ) (n : ℕ) where
 pub ruleset ranges_laws = (ranges_short, ranges_few, ranges_all)
 
 -- `walked_to`
-module _ (w : Walked) (start n : ℕ) where
-  pub walked_back : w.next < start → false ≡ walked_to w (start + n)
-  unfolding walked_to
-  walked_back l = sym (and_no_right w.sound _ (and_no_right (not w.deep) _ (and_no_right (not w.leaves) (eqb w.next (start + n)) (ne_eqb w.next (start + n) (λ e. omega arith)))))
-
+module _ (start n : ℕ) where
   -- from a sum to a difference
-  same_place : (x : ℕ) → start ≤ x → eqb (x - start) n ≡ eqb x (start + n)
-  same_place x l = by (eqb (x - start) n) refl
+  same_place : (next : ℕ) (d : Option ℕ) → SomeIff d (start ≤ next) (next - start) → option_eq eqb d (Some n) ≡ eqb next (start + n)
+  same_place next None h = sym (ne_eqb next (start + n) (λ e. h (omega arith)))
+  same_place next (Some k) h = by (eqb k n) refl
     where
-      by : (b : Bool) → eqb (x - start) n ≡ b → eqb (x - start) n ≡ eqb x (start + n)
-      by true e = e ∙ sym (eq-eqb x (start + n) (let h = eqb-true (x - start) n e in omega arith))
-      by false e = e ∙ sym (ne_eqb x (start + n) (λ q. eqb-false (x - start) n e (omega arith)))
+      by : (b : Bool) → eqb k n ≡ b → eqb k n ≡ eqb next (start + n)
+      by true e = e ∙ sym (eq-eqb next (start + n) (let i = eqb-true k n e in omega (arith, h.0, h.1)))
+      by false e = e ∙ sym (ne_eqb next (start + n) (λ q. eqb-false k n e (omega (arith, h.0, h.1))))
 
-  pub walked_on : start ≤ w.next → (w.sound && (not w.deep && (not w.leaves && eqb (w.next - start) n))) ≡ walked_to w (start + n)
-  unfolding walked_to
-  walked_on l = ap (λ (b : Bool). w.sound && (not w.deep && (not w.leaves && b))) (same_place w.next l)
+  module _ (q : Result Walked Stopped) where
+    pub walked_ended : (s : Stopped) → q ≡ Err s → false ≡ walked_to q (start + n)
+    unfolding walked_to
+    walked_ended s e = rw e
 
-pub ruleset walked_laws = (walked_back, walked_on)
+    module _ (w : Walked) (e : q ≡ Ok w) where
+      pub walked_out : not w.leaves ≡ false → not w.leaves ≡ walked_to q (start + n)
+      unfolding walked_to
+      walked_out h = rw (e, h)
+
+      pub walked_on : not w.leaves ≡ true → (d : Option ℕ) → SomeIff d (start ≤ w.next) (w.next - start) → (r : Bool) → r ≡ option_eq eqb d (Some n) → r ≡ walked_to q (start + n)
+      unfolding walked_to
+      walked_on h d i r f = rw (e, h) (f ∙ same_place w.next d i)
+
+pub ruleset walked_laws = (walked_ended, walked_out)
 
 -- `nodes_sound`
 module _ (t : List ℕ) (c : Counts) (start n : ℕ) where
@@ -109,10 +118,10 @@ module _ (t : List ℕ) (c : Counts) (start n : ℕ) where
       unfolding nodes_sound
       nodes_outside h = sym (and_no_right coded (not outside && (walked && few)) (no_left (not outside) (walked && few) (ap not (sym hq ∙ h))))
 
-      module _ (rs : List ℕ) (hr : rs ≡ ranges_in t c.variables) (w : Walked) (hw : w ≡ walk_at t rs start) (o : Bool) (ho : o ≡ walked_to w (start + n)) where
+      module _ (rs : List ℕ) (hr : rs ≡ ranges_in t c.variables) (w : Result Walked Stopped) (hw : w ≡ walk_at t rs start) (o : Bool) (ho : o ≡ walked_to w (start + n)) where
         same_walk : walked ≡ o
         unfolding walked_to
-        same_walk = ap (λ (x : List ℕ). walked_to (walk_at t x start) (start + n)) (sym hr) ∙ ap (λ (x : Walked). walked_to x (start + n)) (sym hw) ∙ sym ho
+        same_walk = ap (λ (x : List ℕ). walked_to (walk_at t x start) (start + n)) (sym hr) ∙ ap (λ (x : Result Walked Stopped). walked_to x (start + n)) (sym hw) ∙ sym ho
 
         pub nodes_astray : not o ≡ true → false ≡ nodes_sound t c start n
         unfolding nodes_sound

@@ -17,12 +17,13 @@ use Rattle.model.specs.Lines.{init, inv, edge, init_line, inv_line, edge_line, k
 use Rattle.model.specs.Limits.{in_range, numbers_in_range, is_too_deep, exceeds_span, passes_nodes, variable_count, location_count, is_astray, is_owner, writes_foreign, is_foreign, pred_fault, content_fault, fault_of}
 use Rattle.model.specs.Lawful.{LawfulRange, LawfulPred, LawfulStart}
 use Rattle.model.specs.Table.{code, word_of, pred_words, line_words}
-use Rattle.model.proofs.Tests.{and_intro, and_left, and_right, or_left, or_right, or_other, or_none, or_none_left, or_none_right}
+use Rattle.model.proofs.Tests.{never, and_intro, and_left, and_right, or_left, or_right, or_other, or_none, or_none_left, or_none_right}
 use Rattle.model.proofs.Decode.{unbroken, none_lacks, words_back}
 use Rattle.model.proofs.LimitLines.{state_line}
 use Rattle.line_order.specs.declared.Counts.{Counts}
 use Rattle.line_order.specs.Due.{number_of}
 use Rattle.line_order.specs.Counts.{nodes_of, Counted}
+use Rattle.table_predicate.specs.declared.Stopped.{Stopped}
 use Rattle.table_predicate.specs.declared.Walked.{Walked}
 use Rattle.table_predicate.specs.Walk.{declared_of, walk_at}
 use Rattle.table_predicate.specs.Scan.{is_coded}
@@ -33,8 +34,8 @@ use Rattle.table_writes.specs.Sets.{all_variables, rest_of}
 use Rattle.table_owners.specs.Owners.{foreign_in}
 use Rattle.table_owners.proofs.OwnerLaws.{foreign_is}
 use Rattle.table_line.specs.Exact.{Declared, LineAt}
-use Rattle.std.specs.Prelude.{Option, Some, None}
-use Rattle.table_line.proofs.PredicateCode.{number_in, nodes_in, next_in}
+use Rattle.std.specs.Prelude.{Option, Some, None, Result, Ok, Err}
+use Rattle.table_line.proofs.PredicateCode.{nodes_in, next_in}
 use Rattle.table_line.specs.Line.{a_line, word, ranges_in, walked_to, nodes_sound, predicate_at, location_at, ends_sound, owns_at, owning, edge_at}
 use Rattle.table_line.proofs.NumberLines.{when_sound, when_true, mended, first_of, head_of, two_of, two_there, line_at_lem}
 
@@ -56,28 +57,36 @@ module _ (t : List ℕ) (r : Reading) (c : Counts) (k : Counted r c) (d : Declar
     said : map word_of (take n (drop start t)) ≡ words pred
     coded : take n (drop start t) ≡ map code (words pred)
 
+  -- the walk came past them, to one place
+  same_walk : (q : Result Walked Stopped) (v w : Walked) → q ≡ Ok v → q ≡ Ok w → v ≡ w
+  same_walk q v w e f = cc
+
+  walked_past : (q : Result Walked Stopped) (next : ℕ) → walked_to q next ≡ true → (w : Walked) × ((q ≡ Ok w) × ((w.leaves ≡ false) × (w.next ≡ next)))
+  unfolding walked_to
+  walked_past (Ok w) next h = (w, (refl, (not-true w.leaves (and_left (not w.leaves) _ h), eqb-true w.next next (and_right (not w.leaves) _ h))))
+  walked_past (Err s) next h = never h
+
   nodes_back : (start n : ℕ) → nodes_sound t c start n ≡ true → NodesAt start n
   unfolding nodes_sound walked_to variable_count
   nodes_back start n h =
       let slice = take n (drop start t) in
-      let w = walk_at t (ranges_in t c.variables) start in
+      let q = walk_at t (ranges_in t c.variables) start in
       let outside = names_outside c.variables (map word_of slice) in
       let codes = coded_words slice (and_left (every is_coded slice) _ h) in
       let h1 = and_right (every is_coded slice) _ h in
       let named = not-true outside (and_left (not outside) _ h1) in
       let h2 = and_right (not outside) _ h1 in
-      let few = leb-true (c.nodes + n) max_nodes (and_right (walked_to w (start + n)) (leb (c.nodes + n) max_nodes) h2) in
-      let h3 = and_left (walked_to w (start + n)) (leb (c.nodes + n) max_nodes) h2 in
-      let h4 = and_right (not w.deep) _ (and_right w.sound _ h3) in
-      let stays = not-true w.leaves (and_left (not w.leaves) _ h4) in
-      let next = eqb-true w.next (start + n) (and_right (not w.leaves) _ h4) in
-      let back = walk_back t (ranges_in t c.variables) declared_lawful start (and_left w.sound _ h3) in
+      let few = leb-true (c.nodes + n) max_nodes (and_right (walked_to q (start + n)) (leb (c.nodes + n) max_nodes) h2) in
+      let came = walked_past q (start + n) (and_left (walked_to q (start + n)) (leb (c.nodes + n) max_nodes) h2) in
+      let w = came.0 in
+      let back = walk_back t (ranges_in t c.variables) declared_lawful start w came.1.0 in
       let p = back.0 in
       let s = back.1 in
-      let end : start + n ≡ start + node_count p = sym next ∙ ap (λ (v : Walked). v.next) s.walked in
+      let both = same_walk q w _ came.1.0 s.walked in
+      let end : start + n ≡ start + node_count p = sym came.1.1.1 ∙ ap (λ (v : Walked). v.next) both in
       let size : node_count p ≡ n = omega arith in
       let said : map word_of slice ≡ words p = ap (λ (m : ℕ). map word_of (take m (drop start t))) (sym size) ∙ s.there in
-      let spanned = not-false _ (sym (ap (λ (v : Walked). v.leaves) s.walked) ∙ stays) in
+      let spanned = not-false _ (sym (ap (λ (v : Walked). v.leaves) both) ∙ came.1.1.0) in
       record {
         pred = p;
         count = size;
@@ -103,7 +112,7 @@ module _ (t : List ℕ) (r : Reading) (c : Counts) (k : Counted r c) (d : Declar
       let stays : all_stay (declared_of (ranges_in t c.variables)) p ≡ true = ap (λ (v : List Range). all_stay v p) declared_are ∙ l.spanned in
       and_intro (ap (every is_coded) e ∙ words_coded (words p) l.ranged)
       (and_intro (ap not named)
-      (and_intro (ap (λ (v : Walked). walked_to v (start + node_count p)) walked ∙ rw (stays, eq-eqb (start + node_count p) (start + node_count p) refl))
+      (and_intro (ap (λ (v : Result Walked Stopped). walked_to v (start + node_count p)) walked ∙ rw (stays, eq-eqb (start + node_count p) (start + node_count p) refl))
       (le-leb (c.nodes + node_count p) max_nodes (omega (arith, k.nodes)))))
 
   -- at a place, a predicate's count of nodes and its nodes

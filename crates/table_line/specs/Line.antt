@@ -1,6 +1,6 @@
 -- What the words of one line say, on any words: `line_at`. That it is exact is the law line_exact.
 use Rattle.std.specs.Prelude.{ℕ, zero, suc, ◌+◌, ◌-◌, ◌*◌, Bool, true, false, not, ◌&&◌, ◌||◌, List, map, length}
-use Rattle.std.specs.Prelude.{Option, Some, None, get_or, take, drop, eqb, leb, ltb}
+use Rattle.std.specs.Prelude.{Option, Some, None, Result, Ok, Err, get_or, take, drop, eqb, leb, ltb}
 use Rattle.model.specs.Basic.{every}
 use Rattle.model.specs.Bounds.{first_format, last_format, max_actions, max_variables, max_automata, max_locations}
 use Rattle.model.specs.Bounds.{max_edges}
@@ -15,6 +15,7 @@ use Rattle.line_order.specs.declared.Counts.{Counts}
 use Rattle.line_order.specs.Counts.{with_nodes, capped}
 use Rattle.table_writes.specs.Sets.{all_variables, rest_of}
 use Rattle.table_owners.specs.Owners.{beyond_in, foreign_in}
+use Rattle.table_predicate.specs.declared.Stopped.{Stopped}
 use Rattle.table_predicate.specs.declared.Walked.{Walked}
 use Rattle.table_predicate.specs.Walk.{walk_at}
 use Rattle.table_predicate.specs.Scan.{is_coded}
@@ -31,9 +32,10 @@ unfoldable pub when : Bool → Option Line → Option Line
 when true l = l
 when false l = None
 
--- the walk over a predicate went well and ended there
-unfoldable pub walked_to : Walked → (next : ℕ) → Bool
-walked_to w next = w.sound && (not w.deep && (not w.leaves && eqb w.next next))
+-- the walk over a predicate went well and came there
+unfoldable pub walked_to : Result Walked Stopped → (next : ℕ) → Bool
+walked_to (Ok w) next = not w.leaves && eqb w.next next
+walked_to (Err why) next = false
 
 -- an edge's ends and action: numbers of the format, and of this automaton and model
 unfoldable pub ends_sound : Counts → (from action to : ℕ) → Bool

@@ -5,7 +5,7 @@ ghost use Rattle.table_line.specs.Line.{ranges_in, walked_to, nodes_sound, predi
 use crate::Line;
 use line_order::Counts;
 use model::Model;
-use table_predicate::Walked;
+use table_predicate::{Stopped, Walked};
 
 // The words of the first variables, which stand from word 3 on, as far as they are there.
 #[tactic(auto, using(crate::proofs::PredicateCode::ranges_laws))]
@@ -21,16 +21,15 @@ pub fn ranges(t: &[u32], variables: usize) -> &[u32]
     &t[3..3 + 3 * variables]
 }
 
-// The walk over n nodes from `start` on went well and ended after them.
+// The walk came past n nodes from `start` on, and past no more, and stayed in the span.
 #[tactic(auto, using(crate::proofs::PredicateCode::walked_laws))]
-fn walked_to(walk: Walked, start: usize, n: usize) -> bool
+fn walked_to(walk: Result<Walked, Stopped>, start: usize, n: usize) -> bool
     ensures { result ≡ walked_to walk (start + n) }
 {
-    let next = walk.next;
-    if next < start {
-        return false;
+    match walk {
+        Ok(walk) => !walk.leaves && walk.next.checked_sub(start) == Some(n),
+        Err(_) => false,
     }
-    walk.sound & (!walk.deep & (!walk.leaves & (next - start == n)))
 }
 
 // n nodes from `start` on: rows 3, 7, 6 with 9 and 10, and 11.

@@ -8,6 +8,7 @@ ghost use Rattle.table_owners.specs.Owners.{owner_in, is_beyond_at, beyond_in, i
 use model::Model;
 
 // The owner's word of variable k; 0 where there is no such variable.
+#[tactic(auto, using(crate::proofs::CodeLaws::owner_laws))]
 fn owner(variables: &[u32], k: usize) -> usize
     ensures { result ≡ owner_in variables.now k }
 {
@@ -18,6 +19,7 @@ fn owner(variables: &[u32], k: usize) -> usize
 }
 
 // Variable k has an owner that is not among the first n automata.
+#[tactic(auto, using(crate::proofs::CodeLaws::beyond_at))]
 fn beyond_at(variables: &[u32], n: usize, k: usize) -> bool
     ensures { result ≡ is_beyond_at variables.now n k }
 {
@@ -37,6 +39,7 @@ pub fn beyond(variables: &[u32], n: usize) -> bool
 }
 
 // Variable k is not in the set `rest`, and not owned by the last of n automata.
+#[tactic(auto, using(crate::proofs::CodeLaws::foreign_at))]
 fn foreign_at(variables: &[u32], n: usize, rest: u64, k: u32) -> bool
     ensures { result ≡ is_foreign_at variables.now n rest k }
 {

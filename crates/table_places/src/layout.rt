@@ -16,6 +16,26 @@ pub struct Layout {
     pub tree: usize,
 }
 
+// A table's words, and where the parts of its sheet stand in them.
+#[derive(Clone, Copy, Debug, PartialEq, Eq)]
+pub struct Sheet<'a> {
+    pub words: &'a [u32],
+    pub layout: Layout,
+}
+
+impl<'a> Sheet<'a> {
+    // By one walk over the words.
+    pub fn of(words: &'a [u32]) -> Sheet<'a>
+        ensures words { result.words.now ≡ words.now }
+        ensures layout { result.layout ≡ layout_of words.now }
+    {
+        Sheet {
+            words,
+            layout: layout_of(words),
+        }
+    }
+}
+
 #[tactic(auto, using(crate::proofs::LayoutLaws::laying_laws))]
 pub fn layout_of(t: &[u32]) -> Layout
     ensures { result ≡ layout_of t.now }

@@ -1,5 +1,6 @@
 // Where the parts of a sheet stand in a table. Any words will do: from a place within the table no answer is past its
-// end.
+// end. A place stays a number beside the words: a walk goes from place to place, and a struct of both, made anew at
+// each step, is no plainer.
 #![tactic(auto)]
 
 mod layout;
@@ -11,7 +12,7 @@ ghost use Rattle.std.specs.Prelude.{◌≡◌, ◌≤◌, get_or};
 ghost use Rattle.table_places.specs.AtMost.{at_most};
 ghost use Rattle.table_places.specs.Outline.{reach, after_predicate, location_at, edge_at, edges_at, count_at};
 
-pub use layout::{Layout, automata_of, layout_of, variables_of};
+pub use layout::{Layout, Sheet, automata_of, layout_of, variables_of};
 pub use own::own_sets;
 pub use parts::{
     actions, automata, edge_action, edge_from, edge_to, first_automaton, first_edge,

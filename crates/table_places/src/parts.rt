@@ -1,5 +1,5 @@
-// The parts of a sheet by name: what stands at a place, and where a part's own parts stand. The distances are said here
-// alone.
+// The parts of a sheet by name: what stands at a place, and where a part's own parts stand. Each part keeps a function:
+// with one over the distance its callers would say the distances, which are said here alone.
 #![tactic(auto, using(crate::proofs::CodeLaws::part_laws))]
 
 ghost use Rattle.std.specs.Prelude.{◌≡◌};

@@ -1,21 +1,21 @@
--- Where the walk comes to an end that is sound, a predicate's words stand. What the walk found of it the forward law then says.
+-- Where the walk comes on, a predicate's words stand. What the walk found of it the forward law then says.
 use mathlib.Core.Path.{◌≡◌, refl, sym, ap, ◌∙◌}
-use mathlib.Core.Bool.{Bool, true, false, true≢false}
+use mathlib.Core.Bool.{Bool, true, false}
 use mathlib.Core.List.{List, ◌∷◌, ◌++◌, Memᴰ}
 use Prim.Native.Nat.{ℕ, zero, suc, max, ◌+◌, ◌<◌, ◌≤◌}
 use native.Mathlib.Omega.{arith}
 use borrow.Author.Tests.{ltb-true, ltb-false}
 use lib.Dec.{ltb}
 use lib.ListN.{length, get_or}
-use Rattle.model.specs.Predicate.{Pred, Preds, Expr, all, any, negate, imp, eq, le, none, more, num, old, new, add, sub, mul, choose, operands, Word, all_of, any_of, not_word, imp_word, eq_word, le_word, num_word, old_word, new_word, add_word, sub_word, mul_word, if_word, stray, words, words_all, words_of, depth, depth_all, depth_of, Range}
+use Rattle.model.specs.Predicate.{Pred, Preds, Expr, all, any, negate, imp, eq, le, none, more, num, old, new, add, sub, mul, choose, operands, Word, all_of, any_of, not_word, imp_word, eq_word, le_word, num_word, old_word, new_word, add_word, sub_word, mul_word, if_word, stray, words, words_all, words_of, depth, depth_all, depth_of, Range, hull, times}
 use Rattle.model.specs.Lawful.{LawfulRange}
 use Rattle.model.specs.Table.{word_of}
-use Rattle.node_words.specs.Nodes.{meant}
-use Rattle.model.proofs.Tests.{never}
+use Rattle.std.specs.Prelude.{Result, Ok, Err}
+use Rattle.table_predicate.specs.declared.Stopped.{Stopped}
+use Rattle.table_predicate.specs.declared.Stopped.TheVariants.{Deep, Stray}
 use Rattle.table_predicate.specs.declared.Walked.{Walked}
-use Rattle.table_predicate.specs.declared.Reach.{Reach}
-use Rattle.table_predicate.specs.Walk.{sound, unsound, deeper, unreached, reached, couple, gather, declared_of, predicate_by, expression_by, predicate_at, expression_at}
-use Rattle.table_predicate.proofs.Steps.{enter_none, ended_p, ended_e, gather_ended}
+use Rattle.table_predicate.specs.Walk.{Reach, place, go_on, reached, ends, plus, minus, joined, gather, declared_of, predicate_by, expression_by, predicate_at, expression_at}
+use Rattle.table_predicate.proofs.Steps.{enter_none}
 use Rattle.table_predicate.proofs.Standing.{onward, onward_cons, First, link, next_p, next_e}
 use Rattle.table_predicate.proofs.Forward.{went_p, came}
 
@@ -46,40 +46,51 @@ record StandEs (ws : List ℕ) (f at : ℕ) : Type 0 where
   here : onward ws at ≡ (words_of one ++ words_of two) ++ rest
   shallow : max (depth_of one) (depth_of two) ≤ f
 
--- what is sound at the end was sound before
-before : (Q : Walked → Walked) (w : Walked) → (w.sound ≡ false → Q w ≡ w) → (Q w).sound ≡ true → w.sound ≡ true
-before Q w stay h = go w.sound refl
-  where
-    go : (t : Bool) → w.sound ≡ t → w.sound ≡ true
-    go true e = e
-    go false e = absurd (true≢false (sym h ∙ ap (λ (v : Walked). v.sound) (stay e) ∙ e))
+-- an end is no place
+ended : {A : Type 0} (s : Stopped) (v : A) → Err s ≡ Ok v → ⊥
+ended s v h = let z : ◌≡◌ {A = ℕ} 0 1 = cc in omega arith
 
-onto : (Q : Walked → Walked) {w v : Walked} → w ≡ v → (Q w).sound ≡ true → (Q v).sound ≡ true
-onto Q e h = rw e at h
+-- what becomes of two expressions in a row; and joined
+abbrev walks : Reach → Reach → Result Walked Stopped
+walks x y = Ok y.walk
+
+abbrev joins : (Range → Range → Range) → Reach → Reach → Result Reach Stopped
+joins f x y = Ok (reached y.walk (f (ends x) (ends y)))
+
+-- a walk that came on came to what it went on from
+module _ {A B : Type 0} where
+  came_to : (r : Result A Stopped) (Q : A → Result B Stopped) (v : B) → go_on r Q ≡ Ok v → (a : A) × ((r ≡ Ok a) × (Q a ≡ Ok v))
+  unfolding go_on
+  came_to (Ok a) Q v h = (a, (refl, h))
+  came_to (Err s) Q v h = absurd (ended s v h)
+
+  onto : (Q : A → Result B Stopped) {r : Result A Stopped} {a : A} {v : B} → r ≡ Ok a → go_on r Q ≡ Ok v → Q a ≡ Ok v
+  unfolding go_on
+  onto Q e h = rw e at h
 
 module _ (ws ranges : List ℕ) (lawful : (x : Range) → Memᴰ x (declared_of ranges) → LawfulRange x) where
-  abbrev P : ℕ → Walked → Walked
+  abbrev P : ℕ → Walked → Result Walked Stopped
   P = predicate_at ws ranges
 
-  abbrev E : ℕ → Walked → Reach
+  abbrev E : ℕ → Walked → Result Reach Stopped
   E = expression_at ws ranges
 
   -- one level of the law, by which the next is shown
   abbrev BackP : ℕ → Type 0
-  BackP n = (deep leaves : Bool) (at : ℕ) → (P n (sound deep leaves at)).sound ≡ true → StandsP ws n at
+  BackP n = (leaves : Bool) (at : ℕ) (v : Walked) → P n (place leaves at) ≡ Ok v → StandsP ws n at
 
   abbrev BackE : ℕ → Type 0
-  BackE n = (deep leaves : Bool) (at : ℕ) → (E n (sound deep leaves at)).walk.sound ≡ true → StandsE ws n at
+  BackE n = (leaves : Bool) (at : ℕ) (v : Reach) → E n (place leaves at) ≡ Ok v → StandsE ws n at
 
   module _ (n : ℕ) (bp : BackP n) where
-    back_ps : (k : ℕ) (deep leaves : Bool) (at : ℕ) → (gather (P n) k (sound deep leaves at)).sound ≡ true → StandPs ws n k at
+    back_ps : (k : ℕ) (leaves : Bool) (at : ℕ) (v : Walked) → gather (P n) k (place leaves at) ≡ Ok v → StandPs ws n k at
     unfolding gather words_all operands depth_all words depth
-    back_ps zero deep leaves at h = record { them = none; rest = onward ws at; here = refl; many = refl; shallow = omega arith }
-    back_ps (suc k) deep leaves at h =
-        let w = P n (sound deep leaves at) in
-        let a = bp deep leaves at (before (gather (P n) k) w (gather_ended ws ranges n k w) h) in
-        let e = (went_p ws ranges lawful a.it n deep leaves at a.rest a.here).fine a.shallow in
-        let b = back_ps k deep _ (at + length (words a.it)) (onto (gather (P n) k) e h) in
+    back_ps zero leaves at v h = record { them = none; rest = onward ws at; here = refl; many = refl; shallow = omega arith }
+    back_ps (suc k) leaves at v h =
+        let g = came_to (P n (place leaves at)) (gather (P n) k) v h in
+        let a = bp leaves at g.0 g.1.0 in
+        let e = (went_p ws ranges lawful a.it n leaves at a.rest a.here).fine a.shallow in
+        let b = back_ps k _ (at + length (words a.it)) v (onto (gather (P n) k) e h) in
         record {
           them = more a.it b.them;
           rest = b.rest;
@@ -89,12 +100,15 @@ module _ (ws ranges : List ℕ) (lawful : (x : Range) → Memᴰ x (declared_of 
         }
 
   module _ (n : ℕ) (be : BackE n) where
-    back_pair : (deep leaves : Bool) (at : ℕ) → (couple (E n) (sound deep leaves at)).sound ≡ true → StandEs ws n at
-    back_pair deep leaves at h =
-        let w = (E n (sound deep leaves at)).walk in
-        let a = be deep leaves at (before (λ v. (E n v).walk) w (ended_e ws ranges n w) h) in
-        let e = (came ws ranges lawful a.it n deep leaves at a.rest a.here).went.fine a.shallow in
-        let b = be deep _ (at + length (words_of a.it)) (onto (λ v. (E n v).walk) e h) in
+    back_pair : {B : Type 0} (K : Reach → Reach → Result B Stopped) (leaves : Bool) (at : ℕ) (v : B)
+        → go_on (E n (place leaves at)) (λ x. go_on (E n x.walk) (K x)) ≡ Ok v → StandEs ws n at
+    back_pair {B} K leaves at v h =
+        let F : Reach → Result B Stopped = λ x. go_on (E n x.walk) (K x) in
+        let g = came_to (E n (place leaves at)) F v h in
+        let a = be leaves at g.0 g.1.0 in
+        let c = (came ws ranges lawful a.it n leaves at a.rest a.here).fine a.shallow in
+        let g₂ = came_to (E n c.it.walk) (K c.it) v (onto F c.is h) in
+        let b = be _ (at + length (words_of a.it)) g₂.0 (ap (E n) (sym c.past.walk) ∙ g₂.1.0) in
         record {
           one = a.it;
           two = b.it;
@@ -103,30 +117,27 @@ module _ (ws ranges : List ℕ) (lawful : (x : Range) → Memᴰ x (declared_of 
           shallow = omega (arith, a.shallow, b.shallow);
         }
 
-  ended_pair : (n : ℕ) (v : Walked) → v.sound ≡ false → couple (E n) v ≡ v
-  ended_pair n v h = ap (λ (u : Walked). (E n u).walk) (ended_e ws ranges n v h) ∙ ended_e ws ranges n v h
-
   -- the place of a node is one of the words
-  below_p : (n : ℕ) (deep leaves : Bool) (at : ℕ) → (P (suc n) (sound deep leaves at)).sound ≡ true → at < length ws
-  unfolding predicate_at expression_at meant predicate_by unsound
-  below_p n deep leaves at h = go (ltb at (length ws)) refl
+  below_p : (n : ℕ) (leaves : Bool) (at : ℕ) (v : Walked) → P (suc n) (place leaves at) ≡ Ok v → at < length ws
+  unfolding predicate_at expression_at go_on
+  below_p n leaves at v h = go (ltb at (length ws)) refl
     where
       go : (t : Bool) → ltb at (length ws) ≡ t → at < length ws
       go true e = ltb-true at (length ws) e
-      go false e = never (rw (← enter_none ws (sound deep leaves at) (ltb-false at (length ws) e)) at h)
+      go false e = absurd (ended Stray v (rw (← enter_none ws (place leaves at) (ltb-false at (length ws) e)) at h))
 
-  below_e : (n : ℕ) (deep leaves : Bool) (at : ℕ) → (E (suc n) (sound deep leaves at)).walk.sound ≡ true → at < length ws
-  unfolding predicate_at expression_at meant expression_by unsound unreached
-  below_e n deep leaves at h = go (ltb at (length ws)) refl
+  below_e : (n : ℕ) (leaves : Bool) (at : ℕ) (v : Reach) → E (suc n) (place leaves at) ≡ Ok v → at < length ws
+  unfolding predicate_at expression_at go_on
+  below_e n leaves at v h = go (ltb at (length ws)) refl
     where
       go : (t : Bool) → ltb at (length ws) ≡ t → at < length ws
       go true e = ltb-true at (length ws) e
-      go false e = never (rw (← enter_none ws (sound deep leaves at) (ltb-false at (length ws) e)) at h)
+      go false e = absurd (ended Stray v (rw (← enter_none ws (place leaves at) (ltb-false at (length ws) e)) at h))
 
   -- the predicate, or the expression, that begins with a word
-  module _ (n : ℕ) (bp : BackP n) (be : BackE n) (deep leaves : Bool) (at : ℕ) where
+  module _ (n : ℕ) (bp : BackP n) (be : BackE n) (leaves : Bool) (at : ℕ) where
     abbrev w : Walked
-    w = sound deep leaves (at + 1)
+    w = place leaves (at + 1)
 
     cons : (x : Word) {l : List Word} → onward ws at ≡ x ∷ onward ws (at + 1) → onward ws (at + 1) ≡ l → onward ws at ≡ x ∷ l
     cons x e f = e ∙ ap (λ (s : List Word). x ∷ s) f
@@ -149,77 +160,79 @@ module _ (ws ranges : List ℕ) (lawful : (x : Range) → Memᴰ x (declared_of 
       shallow = omega (arith, a.shallow, b.shallow);
     }
 
-    by_word_p : (x : Word) → onward ws at ≡ x ∷ onward ws (at + 1) → (predicate_by (P n) (E n) x w).sound ≡ true → StandsP ws (suc n) at
-    unfolding predicate_by unsound words depth
-    by_word_p (all_of k) e h =
-        let a = back_ps n bp k deep leaves (at + 1) h in
+    by_word_p : (x : Word) → onward ws at ≡ x ∷ onward ws (at + 1) → (v : Walked) → predicate_by (P n) (E n) x w ≡ Ok v → StandsP ws (suc n) at
+    unfolding predicate_by words depth
+    by_word_p (all_of k) e v h =
+        let a = back_ps n bp k leaves (at + 1) v h in
         record { it = all a.them; rest = a.rest; here = rw a.many (cons (all_of k) e a.here); shallow = omega (arith, a.shallow) }
-    by_word_p (any_of k) e h =
-        let a = back_ps n bp k deep leaves (at + 1) h in
+    by_word_p (any_of k) e v h =
+        let a = back_ps n bp k leaves (at + 1) v h in
         record { it = any a.them; rest = a.rest; here = rw a.many (cons (any_of k) e a.here); shallow = omega (arith, a.shallow) }
-    by_word_p not_word e h =
-        let a = bp deep leaves (at + 1) h in
+    by_word_p not_word e v h =
+        let a = bp leaves (at + 1) v h in
         record { it = negate a.it; rest = a.rest; here = cons not_word e a.here; shallow = omega (arith, a.shallow) }
-    by_word_p imp_word e h =
-        let a = bp deep leaves (at + 1) (before (P n) (P n w) (ended_p ws ranges n (P n w)) h) in
-        let g = (went_p ws ranges lawful a.it n deep leaves (at + 1) a.rest a.here).fine a.shallow in
-        let b = bp deep _ (at + 1 + length (words a.it)) (onto (P n) g h) in
+    by_word_p imp_word e v h =
+        let c = came_to (P n w) (P n) v h in
+        let a = bp leaves (at + 1) c.0 c.1.0 in
+        let g = (went_p ws ranges lawful a.it n leaves (at + 1) a.rest a.here).fine a.shallow in
+        let b = bp _ (at + 1 + length (words a.it)) v (onto (P n) g h) in
         imp_stands e a b
-    by_word_p eq_word e h =
-        let a = back_pair n be deep leaves (at + 1) h in
+    by_word_p eq_word e v h =
+        let a = back_pair n be walks leaves (at + 1) v h in
         record { it = eq a.one a.two; rest = a.rest; here = cons eq_word e a.here; shallow = omega (arith, a.shallow) }
-    by_word_p le_word e h =
-        let a = back_pair n be deep leaves (at + 1) h in
+    by_word_p le_word e v h =
+        let a = back_pair n be walks leaves (at + 1) v h in
         record { it = le a.one a.two; rest = a.rest; here = cons le_word e a.here; shallow = omega (arith, a.shallow) }
-    by_word_p (num_word z) e h = never h
-    by_word_p (old_word k) e h = never h
-    by_word_p (new_word k) e h = never h
-    by_word_p add_word e h = never h
-    by_word_p sub_word e h = never h
-    by_word_p mul_word e h = never h
-    by_word_p if_word e h = never h
-    by_word_p stray e h = never h
+    by_word_p (num_word z) e v h = absurd (ended Stray v h)
+    by_word_p (old_word k) e v h = absurd (ended Stray v h)
+    by_word_p (new_word k) e v h = absurd (ended Stray v h)
+    by_word_p add_word e v h = absurd (ended Stray v h)
+    by_word_p sub_word e v h = absurd (ended Stray v h)
+    by_word_p mul_word e v h = absurd (ended Stray v h)
+    by_word_p if_word e v h = absurd (ended Stray v h)
+    by_word_p stray e v h = absurd (ended Stray v h)
 
-    by_word_e : (x : Word) → onward ws at ≡ x ∷ onward ws (at + 1) → (expression_by (P n) (E n) (declared_of ranges) x w).walk.sound ≡ true → StandsE ws (suc n) at
-    unfolding expression_by unsound unreached reached words_of depth_of
-    by_word_e (all_of k) e h = never h
-    by_word_e (any_of k) e h = never h
-    by_word_e not_word e h = never h
-    by_word_e imp_word e h = never h
-    by_word_e eq_word e h = never h
-    by_word_e le_word e h = never h
-    by_word_e (num_word z) e h = record { it = num z; rest = onward ws (at + 1); here = e; shallow = omega arith }
-    by_word_e (old_word k) e h = record { it = old k; rest = onward ws (at + 1); here = e; shallow = omega arith }
-    by_word_e (new_word k) e h = record { it = new k; rest = onward ws (at + 1); here = e; shallow = omega arith }
-    by_word_e add_word e h =
-        let a = back_pair n be deep leaves (at + 1) h in
+    by_word_e : (x : Word) → onward ws at ≡ x ∷ onward ws (at + 1) → (v : Reach) → expression_by (P n) (E n) (declared_of ranges) x w ≡ Ok v → StandsE ws (suc n) at
+    unfolding expression_by words_of depth_of
+    by_word_e (all_of k) e v h = absurd (ended Stray v h)
+    by_word_e (any_of k) e v h = absurd (ended Stray v h)
+    by_word_e not_word e v h = absurd (ended Stray v h)
+    by_word_e imp_word e v h = absurd (ended Stray v h)
+    by_word_e eq_word e v h = absurd (ended Stray v h)
+    by_word_e le_word e v h = absurd (ended Stray v h)
+    by_word_e (num_word z) e v h = record { it = num z; rest = onward ws (at + 1); here = e; shallow = omega arith }
+    by_word_e (old_word k) e v h = record { it = old k; rest = onward ws (at + 1); here = e; shallow = omega arith }
+    by_word_e (new_word k) e v h = record { it = new k; rest = onward ws (at + 1); here = e; shallow = omega arith }
+    by_word_e add_word e v h =
+        let a = back_pair n be (joins plus) leaves (at + 1) v h in
         record { it = add a.one a.two; rest = a.rest; here = cons add_word e a.here; shallow = omega (arith, a.shallow) }
-    by_word_e sub_word e h =
-        let a = back_pair n be deep leaves (at + 1) h in
+    by_word_e sub_word e v h =
+        let a = back_pair n be (joins minus) leaves (at + 1) v h in
         record { it = sub a.one a.two; rest = a.rest; here = cons sub_word e a.here; shallow = omega (arith, a.shallow) }
-    by_word_e mul_word e h =
-        let a = back_pair n be deep leaves (at + 1) h in
+    by_word_e mul_word e v h =
+        let a = back_pair n be (joins times) leaves (at + 1) v h in
         record { it = mul a.one a.two; rest = a.rest; here = cons mul_word e a.here; shallow = omega (arith, a.shallow) }
-    by_word_e if_word e h =
-        let a = bp deep leaves (at + 1) (before (couple (E n)) (P n w) (ended_pair n (P n w)) h) in
-        let g = (went_p ws ranges lawful a.it n deep leaves (at + 1) a.rest a.here).fine a.shallow in
-        let b = back_pair n be deep _ (at + 1 + length (words a.it)) (onto (couple (E n)) g h) in
+    by_word_e if_word e v h =
+        let c = came_to (P n w) (joined (E n) hull) v h in
+        let a = bp leaves (at + 1) c.0 c.1.0 in
+        let g = (went_p ws ranges lawful a.it n leaves (at + 1) a.rest a.here).fine a.shallow in
+        let b = back_pair n be (joins hull) _ (at + 1 + length (words a.it)) v (onto (joined (E n) hull) g h) in
         if_stands e a b
-    by_word_e stray e h = never h
+    by_word_e stray e v h = absurd (ended Stray v h)
 
   mutual
-    unfolding predicate_at expression_at deeper unreached
+    unfolding predicate_at expression_at
 
     pub back_p : (n : ℕ) → BackP n
-    back_p zero deep leaves at h = never h
-    back_p (suc n) deep leaves at h =
-        let l = below_p n deep leaves at h in
+    back_p zero leaves at v h = absurd (ended Deep v h)
+    back_p (suc n) leaves at v h =
+        let l = below_p n leaves at v h in
         let f : First ws at (word_of (get_or ws at 0)) (onward ws (at + 1)) = record { below = l; word = refl; then = refl } in
-        by_word_p n (λ a b c d. back_p n a b c d) (λ a b c d. back_e n a b c d) deep leaves at (word_of (get_or ws at 0)) (onward_cons ws at l) (rw (next_p ws ranges n deep leaves f) at h)
+        by_word_p n (λ a b c d. back_p n a b c d) (λ a b c d. back_e n a b c d) leaves at (word_of (get_or ws at 0)) (onward_cons ws at l) v (rw (next_p ws ranges n leaves f) at h)
 
     back_e : (n : ℕ) → BackE n
-    back_e zero deep leaves at h = never h
-    back_e (suc n) deep leaves at h =
-        let l = below_e n deep leaves at h in
+    back_e zero leaves at v h = absurd (ended Deep v h)
+    back_e (suc n) leaves at v h =
+        let l = below_e n leaves at v h in
         let f : First ws at (word_of (get_or ws at 0)) (onward ws (at + 1)) = record { below = l; word = refl; then = refl } in
-        by_word_e n (λ a b c d. back_p n a b c d) (λ a b c d. back_e n a b c d) deep leaves at (word_of (get_or ws at 0)) (onward_cons ws at l) (rw (next_e ws ranges n deep leaves f) at h)
+        by_word_e n (λ a b c d. back_p n a b c d) (λ a b c d. back_e n a b c d) leaves at (word_of (get_or ws at 0)) (onward_cons ws at l) v (rw (next_e ws ranges n leaves f) at h)

@@ -16,57 +16,79 @@ use Rattle.model.proofs.Lists.{all_at}
 use Rattle.arithmetic.specs.Cut.{cut}
 use Rattle.arithmetic.proofs.Order.{Le, Le-refl, Le-trans, Within, le_z_Le, add_within, sub_within, times_within, hull_first, span_fits}
 use Rattle.arithmetic.proofs.CutLaws.{cut_fits}
+use Rattle.std.specs.Prelude.{Result, Ok, Err}
+use Rattle.table_predicate.specs.declared.Stopped.{Stopped}
+use Rattle.table_predicate.specs.declared.Stopped.TheVariants.{Deep}
 use Rattle.table_predicate.specs.declared.Walked.{Walked}
-use Rattle.table_predicate.specs.declared.Reach.{Reach}
-use Rattle.table_predicate.specs.Walk.{sound, deeper, unreached, in_span, reached, ends, plus, minus, couple, joined, gather, declared_of, predicate_by, expression_by, predicate_at, expression_at}
-use Rattle.table_predicate.proofs.Steps.{ended_p, ended_e, gather_ended}
+use Rattle.table_predicate.specs.Walk.{Reach, place, go_on, in_span, reached, ends, plus, minus, couple, joined, gather, declared_of, predicate_by, expression_by, predicate_at, expression_at}
 use Rattle.table_predicate.proofs.Standing.{onward, First, first, past_them, next_p, next_e}
 
--- the walk ended, too deep
-pub record Dead (w : Walked) : Type 0 where
-  pub sound : w.sound ≡ false
-  pub deep : w.deep ≡ true
-
 -- What became of a walk from `at` on, with f levels left, past n words that are d deep: it came past them, and its interval
--- mark is set if theirs do not all stay (b); or it is dead.
-pub record Went (f d n : ℕ) (b deep leaves : Bool) (at : ℕ) (w : Walked) : Type 0 where
-  pub fine : d ≤ f → w ≡ sound deep (leaves || not b) (at + n)
-  pub dead : f < d → Dead w
+-- mark is set if theirs do not all stay (b); or it ended, too deep.
+pub record Went (f d n : ℕ) (b leaves : Bool) (at : ℕ) (w : Result Walked Stopped) : Type 0 where
+  pub fine : d ≤ f → w ≡ Ok (place (leaves || not b) (at + n))
+  pub dead : f < d → w ≡ Err Deep
 
 -- the same past an expression with the interval r
-pub record Came (f d n : ℕ) (b : Bool) (r : Range) (deep leaves : Bool) (at : ℕ) (x : Reach) : Type 0 where
-  pub went : Went f d n b deep leaves at x.walk
-  pub exact : d ≤ f → b ≡ true → ends x ≡ r
+pub record Past (n : ℕ) (b : Bool) (r : Range) (leaves : Bool) (at : ℕ) (x : Reach) : Type 0 where
+  pub walk : x.walk ≡ place (leaves || not b) (at + n)
+  pub exact : b ≡ true → ends x ≡ r
+
+pub record Found (n : ℕ) (b : Bool) (r : Range) (leaves : Bool) (at : ℕ) (x : Result Reach Stopped) : Type 0 where
+  pub it : Reach
+  pub is : x ≡ Ok it
+  pub past : Past n b r leaves at it
+
+pub record Came (f d n : ℕ) (b : Bool) (r : Range) (leaves : Bool) (at : ℕ) (x : Result Reach Stopped) : Type 0 where
+  pub fine : d ≤ f → Found n b r leaves at x
+  pub dead : f < d → x ≡ Err Deep
 
 or_and : (a b c : Bool) → ((a || not b) || not c) ≡ (a || not (b && c))
 or_and true b c = refl
 or_and false true c = refl
 or_and false false c = refl
 
-module _ {f d₁ n₁ : ℕ} {b₁ : Bool} {d₂ n₂ : ℕ} {b₂ : Bool} {deep leaves : Bool} {at : ℕ} {w : Walked} where
-  -- one after the other
-  both : (Q : Walked → Walked) → ((v : Walked) → Dead v → Dead (Q v)) → Went f d₁ n₁ b₁ deep leaves at w
-      → Went f d₂ n₂ b₂ deep (leaves || not b₁) (at + n₁) (Q (sound deep (leaves || not b₁) (at + n₁)))
-      → Went f (max d₁ d₂) (n₁ + n₂) (b₁ && b₂) deep leaves at (Q w)
-  both Q stay x y = record { fine = fine; dead = λ h. dead h (ltb f d₁) refl }
-    where
-      fine : max d₁ d₂ ≤ f → Q w ≡ sound deep (leaves || not (b₁ && b₂)) (at + (n₁ + n₂))
-      fine h =
-          let e : at + n₁ + n₂ ≡ at + (n₁ + n₂) = omega arith in
-          rw (x.fine (omega arith), y.fine (omega arith), e, or_and leaves b₁ b₂)
+-- the place past two rows of words; and past a node's own word and others
+further : (leaves b₁ b₂ : Bool) (at n₁ n₂ : ℕ) → place ((leaves || not b₁) || not b₂) (at + n₁ + n₂) ≡ place (leaves || not (b₁ && b₂)) (at + (n₁ + n₂))
+further leaves b₁ b₂ at n₁ n₂ = let e : at + n₁ + n₂ ≡ at + (n₁ + n₂) = omega arith in rw (e, or_and leaves b₁ b₂)
 
-      dead : f < max d₁ d₂ → (t : Bool) → ltb f d₁ ≡ t → Dead (Q w)
-      dead h true t = stay w (x.dead (ltb-true f d₁ t))
+one_more : (leaves : Bool) (at n : ℕ) → place leaves (at + 1 + n) ≡ place leaves (at + suc n)
+one_more leaves at n = let e : at + 1 + n ≡ at + suc n = omega arith in ap (place leaves) e
+
+module _ {f d₁ n₁ : ℕ} {b₁ : Bool} {d₂ n₂ : ℕ} {b₂ : Bool} {leaves : Bool} {at : ℕ} {w : Result Walked Stopped} where
+  -- one after the other
+  both : (Q : Walked → Result Walked Stopped) → Went f d₁ n₁ b₁ leaves at w
+      → Went f d₂ n₂ b₂ (leaves || not b₁) (at + n₁) (Q (place (leaves || not b₁) (at + n₁)))
+      → Went f (max d₁ d₂) (n₁ + n₂) (b₁ && b₂) leaves at (go_on w Q)
+  unfolding go_on
+  both Q x y = record {
+    fine = λ h. rw (x.fine (omega arith)) (y.fine (omega arith) ∙ ap Ok (further leaves b₁ b₂ at n₁ n₂));
+    dead = λ h. dead h (ltb f d₁) refl;
+  }
+    where
+      dead : f < max d₁ d₂ → (t : Bool) → ltb f d₁ ≡ t → go_on w Q ≡ Err Deep
+      dead h true t = rw (x.dead (ltb-true f d₁ t))
       dead h false t = let l = ltb-false f d₁ t in rw (x.fine l) (y.dead (omega arith))
 
   -- a predicate, and then an expression
-  after : {r : Range} (F : Walked → Reach) → ((v : Walked) → Dead v → Dead (F v).walk) → Went f d₁ n₁ b₁ deep leaves at w
-      → Came f d₂ n₂ b₂ r deep (leaves || not b₁) (at + n₁) (F (sound deep (leaves || not b₁) (at + n₁)))
-      → Came f (max d₁ d₂) (n₁ + n₂) (b₁ && b₂) r deep leaves at (F w)
-  after F stay x y = record {
-    went = both (λ v. (F v).walk) stay x y.went;
-    exact = λ h t. rw (x.fine (omega arith)) (y.exact (omega arith) (and_right b₁ b₂ t));
-  }
+  after : {r : Range} (F : Walked → Result Reach Stopped) → Went f d₁ n₁ b₁ leaves at w
+      → Came f d₂ n₂ b₂ r (leaves || not b₁) (at + n₁) (F (place (leaves || not b₁) (at + n₁)))
+      → Came f (max d₁ d₂) (n₁ + n₂) (b₁ && b₂) r leaves at (go_on w F)
+  unfolding go_on
+  after {r} F x y = record { fine = fine; dead = λ h. dead h (ltb f d₁) refl }
+    where
+      fine : max d₁ d₂ ≤ f → Found (n₁ + n₂) (b₁ && b₂) r leaves at (go_on w F)
+      fine h =
+          let c = y.fine (omega arith) in
+          record {
+            it = c.it;
+            is = rw (x.fine (omega arith)) c.is;
+            past = record { walk = c.past.walk ∙ further leaves b₁ b₂ at n₁ n₂; exact = λ t. c.past.exact (and_right b₁ b₂ t) };
+          }
+
+      dead : f < max d₁ d₂ → (t : Bool) → ltb f d₁ ≡ t → go_on w F ≡ Err Deep
+      dead h true t = rw (x.dead (ltb-true f d₁ t))
+      dead h false t = let l = ltb-false f d₁ t in rw (x.fine l) (y.dead (omega arith))
 
 -- a cut leaves an interval in the span alone
 cut_none : (r : Range) → Le r.low r.high → in_span r ≡ true → range (cut r.low) (cut r.high) ≡ r
@@ -78,45 +100,102 @@ cut_none r h s =
     )
 
 -- past an expression, whose interval s is exact where the parts' all stay
-module _ {f d n : ℕ} {b deep leaves : Bool} {at : ℕ} {w : Walked} where
-  reach : (s r : Range) → (d ≤ f → b ≡ true → s ≡ r) → Le r.low r.high → Went f d n b deep leaves at w → Came f d n (b && in_span r) r deep leaves at (reached w s)
+module _ {n : ℕ} {b leaves : Bool} {at : ℕ} where
+  reach : (w : Walked) → w ≡ place (leaves || not b) (at + n) → (s r : Range) → (b ≡ true → s ≡ r) → Le r.low r.high → Past n (b && in_span r) r leaves at (reached w s)
   unfolding reached
-  reach s r same h x = record {
-    went = record {
-      fine = λ l. rw (x.fine l, or_and leaves b (in_span s), spans b (same l));
-      dead = λ l. record { sound = (x.dead l).sound; deep = (x.dead l).deep };
-    };
-    exact = λ l t. rw (same l (and_left b (in_span r) t)) (cut_none r h (and_right b (in_span r) t));
+  reach w e s r same h = record {
+    walk = rw (e, or_and leaves b (in_span s), spans b same);
+    exact = λ t. rw (same (and_left b (in_span r) t)) (cut_none r h (and_right b (in_span r) t));
   }
     where
       spans : (c : Bool) → (c ≡ true → s ≡ r) → (c && in_span s) ≡ (c && in_span r)
       spans true e = ap in_span (e refl)
       spans false e = refl
 
-  -- one level up, past the node's own word
-  up : Went f d n b deep leaves (at + 1) w → Went (suc f) (suc d) (suc n) b deep leaves at w
-  up x = record {
-    fine = λ h. let e : at + 1 + n ≡ at + suc n = omega arith in rw (x.fine (omega arith), e);
+-- one level up, past the node's own word
+module _ {f d n : ℕ} {b leaves : Bool} {at : ℕ} where
+  up : {w : Result Walked Stopped} → Went f d n b leaves (at + 1) w → Went (suc f) (suc d) (suc n) b leaves at w
+  up x = record { fine = λ h. x.fine (omega arith) ∙ ap Ok (one_more _ at n); dead = λ h. x.dead (omega arith) }
+
+  up_e : {r : Range} {x : Result Reach Stopped} → Came f d n b r leaves (at + 1) x → Came (suc f) (suc d) (suc n) b r leaves at x
+  up_e x = record {
+    fine = λ h. let c = x.fine (omega arith) in record { it = c.it; is = c.is; past = record { walk = c.past.walk ∙ one_more _ at n; exact = c.past.exact } };
     dead = λ h. x.dead (omega arith);
   }
 
 -- nothing was walked
-stand : (f : ℕ) (deep leaves : Bool) (at : ℕ) → Went f 0 0 true deep leaves at (sound deep leaves at)
-stand f deep leaves at = record { fine = λ h. rw (or-false leaves, add-zero at); dead = λ h. absurd (omega arith) }
+stand : (f : ℕ) (leaves : Bool) (at : ℕ) → Went f 0 0 true leaves at (Ok (place leaves at))
+stand f leaves at = record { fine = λ h. rw (or-false leaves, add-zero at); dead = λ h. absurd (omega arith) }
 
-module _ {f d₁ n₁ : ℕ} {b₁ : Bool} {r₁ : Range} {d₂ n₂ : ℕ} {b₂ : Bool} {r₂ : Range} {deep leaves : Bool} {at : ℕ} {x : Reach} where
-  -- two expressions, joined
-  join : (F : Walked → Reach) (g : Range → Range → Range) → ((v : Walked) → Dead v → Dead (F v).walk) → Le (g r₁ r₂).low (g r₁ r₂).high
-      → Came f d₁ n₁ b₁ r₁ deep leaves at x → Came f d₂ n₂ b₂ r₂ deep (leaves || not b₁) (at + n₁) (F (sound deep (leaves || not b₁) (at + n₁)))
-      → Came f (max d₁ d₂) (n₁ + n₂) (b₁ && (b₂ && in_span (g r₁ r₂))) (g r₁ r₂) deep leaves at (reached (F x.walk).walk (g (ends x) (ends (F x.walk))))
-  join F g stay h i j =
-      rw (← and_assoc b₁ b₂ (in_span (g r₁ r₂)))
-      (reach (g (ends x) (ends (F x.walk))) (g r₁ r₂) same h (both (λ v. (F v).walk) stay i.went j.went))
+-- a number, or a variable
+leaf : (f : ℕ) (leaves : Bool) (at : ℕ) (r : Range) → Le r.low r.high → Came f 0 0 (in_span r) r leaves at (Ok (reached (place leaves at) r))
+leaf f leaves at r o = record {
+  fine = λ h. record { it = reached (place leaves at) r; is = refl; past = reach {b = true} (place leaves at) (rw (or-false leaves, add-zero at)) r r (λ t. refl) o };
+  dead = λ h. absurd (omega arith);
+}
+
+module _ {f d₁ n₁ : ℕ} {b₁ : Bool} {r₁ : Range} {d₂ n₂ : ℕ} {b₂ : Bool} {r₂ : Range} {leaves : Bool} {at : ℕ} {x : Result Reach Stopped} (F : Walked → Result Reach Stopped)
+    (i : Came f d₁ n₁ b₁ r₁ leaves at x) (j : Came f d₂ n₂ b₂ r₂ (leaves || not b₁) (at + n₁) (F (place (leaves || not b₁) (at + n₁)))) where
+  -- two expressions
+  record Two : Type 0 where
+    one : Reach
+    two : Reach
+    one_is : x ≡ Ok one
+    two_is : F one.walk ≡ Ok two
+    walk : two.walk ≡ place (leaves || not (b₁ && b₂)) (at + (n₁ + n₂))
+    exact_one : (b₁ && b₂) ≡ true → ends one ≡ r₁
+    exact_two : (b₁ && b₂) ≡ true → ends two ≡ r₂
+
+  both_came : max d₁ d₂ ≤ f → Two
+  both_came h =
+      let a = i.fine (omega arith) in
+      let c = j.fine (omega arith) in
+      record {
+        one = a.it;
+        two = c.it;
+        one_is = a.is;
+        two_is = rw a.past.walk c.is;
+        walk = c.past.walk ∙ further leaves b₁ b₂ at n₁ n₂;
+        exact_one = λ t. a.past.exact (and_left b₁ b₂ t);
+        exact_two = λ t. c.past.exact (and_right b₁ b₂ t);
+      }
+
+  past_both : (t : Two) {B : Type 0} (K : Reach → Reach → Result B Stopped) → go_on x (λ a. go_on (F a.walk) (K a)) ≡ K t.one t.two
+  unfolding go_on
+  past_both t K = rw (t.one_is, t.two_is)
+
+  too_deep : {B : Type 0} (K : Reach → Reach → Result B Stopped) → f < max d₁ d₂ → go_on x (λ a. go_on (F a.walk) (K a)) ≡ Err Deep
+  unfolding go_on
+  too_deep {B} K h = go (ltb f d₁) refl
     where
-      same : max d₁ d₂ ≤ f → (b₁ && b₂) ≡ true → g (ends x) (ends (F x.walk)) ≡ g r₁ r₂
-      same l t =
-          let e : ends (F x.walk) ≡ r₂ = rw (i.went.fine (omega arith)) (j.exact (omega arith) (and_right b₁ b₂ t)) in
-          rw (i.exact (omega arith) (and_left b₁ b₂ t), e)
+      go : (t : Bool) → ltb f d₁ ≡ t → go_on x (λ a. go_on (F a.walk) (K a)) ≡ Err Deep
+      go true t = rw (i.dead (ltb-true f d₁ t))
+      go false t = let a = i.fine (ltb-false f d₁ t) in rw (a.is, a.past.walk, j.dead (let l = ltb-false f d₁ t in omega arith))
+
+  -- in a row
+  pair : Went f (max d₁ d₂) (n₁ + n₂) (b₁ && b₂) leaves at (go_on x (λ a. go_on (F a.walk) (λ y. Ok y.walk)))
+  unfolding go_on
+  pair = record {
+    fine = λ h. let t = both_came h in past_both t (λ a y. Ok y.walk) ∙ ap Ok t.walk;
+    dead = too_deep (λ a y. Ok y.walk);
+  }
+
+  -- joined
+  join : (g : Range → Range → Range) → Le (g r₁ r₂).low (g r₁ r₂).high
+      → Came f (max d₁ d₂) (n₁ + n₂) (b₁ && (b₂ && in_span (g r₁ r₂))) (g r₁ r₂) leaves at (go_on x (λ a. go_on (F a.walk) (λ y. Ok (reached y.walk (g (ends a) (ends y))))))
+  unfolding go_on
+  join g h = record { fine = fine; dead = too_deep (λ a y. Ok (reached y.walk (g (ends a) (ends y)))) }
+    where
+      fine : max d₁ d₂ ≤ f → Found (n₁ + n₂) (b₁ && (b₂ && in_span (g r₁ r₂))) (g r₁ r₂) leaves at (go_on x (λ a. go_on (F a.walk) (λ y. Ok (reached y.walk (g (ends a) (ends y))))))
+      fine l =
+          let t = both_came l in
+          record {
+            it = reached t.two.walk (g (ends t.one) (ends t.two));
+            is = past_both t (λ a y. Ok (reached y.walk (g (ends a) (ends y))));
+            past =
+                rw (← and_assoc b₁ b₂ (in_span (g r₁ r₂)))
+                (reach t.two.walk t.walk (g (ends t.one) (ends t.two)) (g r₁ r₂) (λ q. rw (t.exact_one q, t.exact_two q)) h);
+          }
 
 module _ (declared : List Range) (lawful : (x : Range) → Memᴰ x declared → LawfulRange x) where
   declared_within : (k : ℕ) → (z : ℤ) × Within z (get_or declared k (range (pos 0) (pos 0)))
@@ -140,45 +219,29 @@ module _ (declared : List Range) (lawful : (x : Range) → Memᴰ x declared →
   ordered x = let a = inhabited x in Le-trans a.1.low a.1.high
 
 module _ (ws ranges : List ℕ) where
-  abbrev P : ℕ → Walked → Walked
+  abbrev P : ℕ → Walked → Result Walked Stopped
   P = predicate_at ws ranges
 
-  abbrev E : ℕ → Walked → Reach
+  abbrev E : ℕ → Walked → Result Reach Stopped
   E = expression_at ws ranges
 
-  -- what is dead stays dead
-  dead_p : (n : ℕ) (w : Walked) → Dead w → Dead (P n w)
-  dead_p n w h = rw (ended_p ws ranges n w h.sound) h
-
-  dead_e : (n : ℕ) (w : Walked) → Dead w → Dead (E n w).walk
-  dead_e n w h = rw (ended_e ws ranges n w h.sound) h
-
-  dead_ps : (n k : ℕ) (w : Walked) → Dead w → Dead (gather (P n) k w)
-  dead_ps n k w h = rw (gather_ended ws ranges n k w h.sound) h
-
-  dead_joined : (n : ℕ) (g : Range → Range → Range) (w : Walked) → Dead w → Dead (joined (E n) g w).walk
-  unfolding reached
-  dead_joined n g w h = let d = dead_e n (E n w).walk (dead_e n w h) in record { sound = d.sound; deep = d.deep }
-
   -- a node, whose operands are walked with one level less
-  module _ {x : Word} {l : List Word} {d k : ℕ} {b : Bool} {at : ℕ} (f : ℕ) (deep leaves : Bool) (here : First ws at x l) where
-    node_p : ((n : ℕ) → Went n d k b deep leaves (at + 1) (predicate_by (P n) (E n) x (sound deep leaves (at + 1)))) → Went f (suc d) (suc k) b deep leaves at (P f (sound deep leaves at))
-    unfolding predicate_at expression_at deeper
+  module _ {x : Word} {l : List Word} {d k : ℕ} {b : Bool} {at : ℕ} (f : ℕ) (leaves : Bool) (here : First ws at x l) where
+    node_p : ((n : ℕ) → Went n d k b leaves (at + 1) (predicate_by (P n) (E n) x (place leaves (at + 1)))) → Went f (suc d) (suc k) b leaves at (P f (place leaves at))
+    unfolding predicate_at expression_at
     node_p h = go f
       where
-        go : (f : ℕ) → Went f (suc d) (suc k) b deep leaves at (P f (sound deep leaves at))
-        go zero = record { fine = λ l. absurd (omega arith); dead = λ l. record { sound = refl; deep = refl } }
-        go (suc n) = rw (next_p ws ranges n deep leaves here) (up (h n))
+        go : (f : ℕ) → Went f (suc d) (suc k) b leaves at (P f (place leaves at))
+        go zero = record { fine = λ l. absurd (omega arith); dead = λ l. refl }
+        go (suc n) = rw (next_p ws ranges n leaves here) (up (h n))
 
-    node_e : {r : Range} → ((n : ℕ) → Came n d k b r deep leaves (at + 1) (expression_by (P n) (E n) (declared_of ranges) x (sound deep leaves (at + 1)))) → Came f (suc d) (suc k) b r deep leaves at (E f (sound deep leaves at))
-    unfolding predicate_at expression_at deeper unreached
+    node_e : {r : Range} → ((n : ℕ) → Came n d k b r leaves (at + 1) (expression_by (P n) (E n) (declared_of ranges) x (place leaves (at + 1)))) → Came f (suc d) (suc k) b r leaves at (E f (place leaves at))
+    unfolding predicate_at expression_at
     node_e {r} h = go f
       where
-        go : (f : ℕ) → Came f (suc d) (suc k) b r deep leaves at (E f (sound deep leaves at))
-        go zero = record { went = record { fine = λ l. absurd (omega arith); dead = λ l. record { sound = refl; deep = refl } }; exact = λ l. absurd (omega arith) }
-        go (suc n) =
-            rw (next_e ws ranges n deep leaves here)
-            (record { went = up (h n).went; exact = λ l. (h n).exact (omega arith) })
+        go : (f : ℕ) → Came f (suc d) (suc k) b r leaves at (E f (place leaves at))
+        go zero = record { fine = λ l. absurd (omega arith); dead = λ l. refl }
+        go (suc n) = rw (next_e ws ranges n leaves here) (up_e (h n))
 
   -- two rows of words, one after the other
   split : (at : ℕ) (k m l : List Word) → onward ws at ≡ (k ++ m) ++ l → (onward ws at ≡ k ++ (m ++ l)) × (onward ws (at + length k) ≡ m ++ l)
@@ -192,70 +255,70 @@ module _ (ws ranges : List ℕ) where
 
     -- what is to be shown of an expression, and how two of them go
     abbrev CameAt : Expr → Type 0
-    CameAt x = (f : ℕ) (deep leaves : Bool) (at : ℕ) (l : List Word) → onward ws at ≡ words_of x ++ l → Came f (depth_of x) (length (words_of x)) (all_stay_in D x) (interval D x) deep leaves at (E f (sound deep leaves at))
+    CameAt x = (f : ℕ) (leaves : Bool) (at : ℕ) (l : List Word) → onward ws at ≡ words_of x ++ l → Came f (depth_of x) (length (words_of x)) (all_stay_in D x) (interval D x) leaves at (E f (place leaves at))
 
-    module _ (x y : Expr) (cx : CameAt x) (cy : CameAt y) (f : ℕ) (deep leaves : Bool) (at : ℕ) (l : List Word) (e : onward ws at ≡ (words_of x ++ words_of y) ++ l) where
-      went_pair : Went f (max (depth_of x) (depth_of y)) (length (words_of x) + length (words_of y)) (all_stay_in D x && all_stay_in D y) deep leaves at (couple (E f) (sound deep leaves at))
+    module _ (x y : Expr) (cx : CameAt x) (cy : CameAt y) (f : ℕ) (leaves : Bool) (at : ℕ) (l : List Word) (e : onward ws at ≡ (words_of x ++ words_of y) ++ l) where
+      went_pair : Went f (max (depth_of x) (depth_of y)) (length (words_of x) + length (words_of y)) (all_stay_in D x && all_stay_in D y) leaves at (couple (E f) (place leaves at))
       went_pair =
           let s = split at (words_of x) (words_of y) l e in
-          both (λ v. (E f v).walk) (dead_e f) (cx f deep leaves at (words_of y ++ l) s.0).went (cy f deep _ _ l s.1).went
+          pair (E f) (cx f leaves at (words_of y ++ l) s.0) (cy f _ _ l s.1)
 
-      came_two : (g : Range → Range → Range) → Le (g (interval D x) (interval D y)).low (g (interval D x) (interval D y)).high → Came f (max (depth_of x) (depth_of y)) (length (words_of x) + length (words_of y)) (all_stay_in D x && (all_stay_in D y && in_span (g (interval D x) (interval D y)))) (g (interval D x) (interval D y)) deep leaves at (joined (E f) g (sound deep leaves at))
+      came_two : (g : Range → Range → Range) → Le (g (interval D x) (interval D y)).low (g (interval D x) (interval D y)).high → Came f (max (depth_of x) (depth_of y)) (length (words_of x) + length (words_of y)) (all_stay_in D x && (all_stay_in D y && in_span (g (interval D x) (interval D y)))) (g (interval D x) (interval D y)) leaves at (joined (E f) g (place leaves at))
       came_two g o =
           let s = split at (words_of x) (words_of y) l e in
-          join (E f) g (dead_e f) o (cx f deep leaves at (words_of y ++ l) s.0) (cy f deep _ _ l s.1)
+          join (E f) (cx f leaves at (words_of y ++ l) s.0) (cy f _ _ l s.1) g o
 
     mutual
       unfolding words operands depth all_stay interval stays in_span plus minus predicate_by expression_by gather
 
-      pub went_p : (p : Pred) (f : ℕ) (deep leaves : Bool) (at : ℕ) (l : List Word) → onward ws at ≡ words p ++ l → Went f (depth p) (length (words p)) (all_stay D p) deep leaves at (P f (sound deep leaves at))
-      went_p (all ps) f deep leaves at l e =
+      pub went_p : (p : Pred) (f : ℕ) (leaves : Bool) (at : ℕ) (l : List Word) → onward ws at ≡ words p ++ l → Went f (depth p) (length (words p)) (all_stay D p) leaves at (P f (place leaves at))
+      went_p (all ps) f leaves at l e =
           let h = first ws at (all_of (operands ps)) (words_all ps ++ l) e in
-          node_p f deep leaves h (λ n. went_ps ps n deep leaves (at + 1) l h.then)
-      went_p (any ps) f deep leaves at l e =
+          node_p f leaves h (λ n. went_ps ps n leaves (at + 1) l h.then)
+      went_p (any ps) f leaves at l e =
           let h = first ws at (any_of (operands ps)) (words_all ps ++ l) e in
-          node_p f deep leaves h (λ n. went_ps ps n deep leaves (at + 1) l h.then)
-      went_p (negate p) f deep leaves at l e =
+          node_p f leaves h (λ n. went_ps ps n leaves (at + 1) l h.then)
+      went_p (negate p) f leaves at l e =
           let h = first ws at not_word (words p ++ l) e in
-          node_p f deep leaves h (λ n. went_p p n deep leaves (at + 1) l h.then)
-      went_p (imp p q) f deep leaves at l e =
+          node_p f leaves h (λ n. went_p p n leaves (at + 1) l h.then)
+      went_p (imp p q) f leaves at l e =
           let h = first ws at imp_word ((words p ++ words q) ++ l) e in
           let s = split (at + 1) (words p) (words q) l h.then in
           rw (length-append (words p) (words q))
-          (node_p f deep leaves h (λ n. both (P n) (dead_p n) (went_p p n deep leaves (at + 1) (words q ++ l) s.0) (went_p q n deep _ _ l s.1)))
-      went_p (eq x y) f deep leaves at l e =
+          (node_p f leaves h (λ n. both (P n) (went_p p n leaves (at + 1) (words q ++ l) s.0) (went_p q n _ _ l s.1)))
+      went_p (eq x y) f leaves at l e =
           let h = first ws at eq_word ((words_of x ++ words_of y) ++ l) e in
-          rw (length-append (words_of x) (words_of y)) (node_p f deep leaves h (λ n. went_pair x y (λ f deep leaves at l e. came x f deep leaves at l e) (λ f deep leaves at l e. came y f deep leaves at l e) n deep leaves (at + 1) l h.then))
-      went_p (le x y) f deep leaves at l e =
+          rw (length-append (words_of x) (words_of y)) (node_p f leaves h (λ n. went_pair x y (λ f leaves at l e. came x f leaves at l e) (λ f leaves at l e. came y f leaves at l e) n leaves (at + 1) l h.then))
+      went_p (le x y) f leaves at l e =
           let h = first ws at le_word ((words_of x ++ words_of y) ++ l) e in
-          rw (length-append (words_of x) (words_of y)) (node_p f deep leaves h (λ n. went_pair x y (λ f deep leaves at l e. came x f deep leaves at l e) (λ f deep leaves at l e. came y f deep leaves at l e) n deep leaves (at + 1) l h.then))
+          rw (length-append (words_of x) (words_of y)) (node_p f leaves h (λ n. went_pair x y (λ f leaves at l e. came x f leaves at l e) (λ f leaves at l e. came y f leaves at l e) n leaves (at + 1) l h.then))
 
-      went_ps : (ps : Preds) (f : ℕ) (deep leaves : Bool) (at : ℕ) (l : List Word) → onward ws at ≡ words_all ps ++ l → Went f (depth_all ps) (length (words_all ps)) (all_stay_all D ps) deep leaves at (gather (P f) (operands ps) (sound deep leaves at))
-      went_ps none f deep leaves at l e = stand f deep leaves at
-      went_ps (more p ps) f deep leaves at l e =
+      went_ps : (ps : Preds) (f : ℕ) (leaves : Bool) (at : ℕ) (l : List Word) → onward ws at ≡ words_all ps ++ l → Went f (depth_all ps) (length (words_all ps)) (all_stay_all D ps) leaves at (gather (P f) (operands ps) (place leaves at))
+      went_ps none f leaves at l e = stand f leaves at
+      went_ps (more p ps) f leaves at l e =
           let s = split at (words p) (words_all ps) l e in
           rw (length-append (words p) (words_all ps))
-          (both (gather (P f) (operands ps)) (dead_ps f (operands ps)) (went_p p f deep leaves at (words_all ps ++ l) s.0) (went_ps ps f deep _ _ l s.1))
+          (both (gather (P f) (operands ps)) (went_p p f leaves at (words_all ps ++ l) s.0) (went_ps ps f _ _ l s.1))
 
-      pub came : (x : Expr) (f : ℕ) (deep leaves : Bool) (at : ℕ) (l : List Word) → onward ws at ≡ words_of x ++ l → Came f (depth_of x) (length (words_of x)) (all_stay_in D x) (interval D x) deep leaves at (E f (sound deep leaves at))
-      came (num z) f deep leaves at l e =
-          node_e f deep leaves (first ws at (num_word z) l e) (λ n. reach _ _ (λ h t. refl) (ordered D lawful (num z)) (stand n deep leaves (at + 1)))
-      came (old k) f deep leaves at l e =
-          node_e f deep leaves (first ws at (old_word k) l e) (λ n. reach _ _ (λ h t. refl) (ordered D lawful (old k)) (stand n deep leaves (at + 1)))
-      came (new k) f deep leaves at l e =
-          node_e f deep leaves (first ws at (new_word k) l e) (λ n. reach _ _ (λ h t. refl) (ordered D lawful (new k)) (stand n deep leaves (at + 1)))
-      came (add x y) f deep leaves at l e =
+      pub came : (x : Expr) (f : ℕ) (leaves : Bool) (at : ℕ) (l : List Word) → onward ws at ≡ words_of x ++ l → Came f (depth_of x) (length (words_of x)) (all_stay_in D x) (interval D x) leaves at (E f (place leaves at))
+      came (num z) f leaves at l e =
+          node_e f leaves (first ws at (num_word z) l e) (λ n. leaf n leaves (at + 1) _ (ordered D lawful (num z)))
+      came (old k) f leaves at l e =
+          node_e f leaves (first ws at (old_word k) l e) (λ n. leaf n leaves (at + 1) _ (ordered D lawful (old k)))
+      came (new k) f leaves at l e =
+          node_e f leaves (first ws at (new_word k) l e) (λ n. leaf n leaves (at + 1) _ (ordered D lawful (new k)))
+      came (add x y) f leaves at l e =
           let h = first ws at add_word ((words_of x ++ words_of y) ++ l) e in
-          rw (length-append (words_of x) (words_of y)) (node_e f deep leaves h (λ n. came_two x y (λ f deep leaves at l e. came x f deep leaves at l e) (λ f deep leaves at l e. came y f deep leaves at l e) n deep leaves (at + 1) l h.then plus (ordered D lawful (add x y))))
-      came (sub x y) f deep leaves at l e =
+          rw (length-append (words_of x) (words_of y)) (node_e f leaves h (λ n. came_two x y (λ f leaves at l e. came x f leaves at l e) (λ f leaves at l e. came y f leaves at l e) n leaves (at + 1) l h.then plus (ordered D lawful (add x y))))
+      came (sub x y) f leaves at l e =
           let h = first ws at sub_word ((words_of x ++ words_of y) ++ l) e in
-          rw (length-append (words_of x) (words_of y)) (node_e f deep leaves h (λ n. came_two x y (λ f deep leaves at l e. came x f deep leaves at l e) (λ f deep leaves at l e. came y f deep leaves at l e) n deep leaves (at + 1) l h.then minus (ordered D lawful (sub x y))))
-      came (mul x y) f deep leaves at l e =
+          rw (length-append (words_of x) (words_of y)) (node_e f leaves h (λ n. came_two x y (λ f leaves at l e. came x f leaves at l e) (λ f leaves at l e. came y f leaves at l e) n leaves (at + 1) l h.then minus (ordered D lawful (sub x y))))
+      came (mul x y) f leaves at l e =
           let h = first ws at mul_word ((words_of x ++ words_of y) ++ l) e in
-          rw (length-append (words_of x) (words_of y)) (node_e f deep leaves h (λ n. came_two x y (λ f deep leaves at l e. came x f deep leaves at l e) (λ f deep leaves at l e. came y f deep leaves at l e) n deep leaves (at + 1) l h.then times (ordered D lawful (mul x y))))
-      came (choose p x y) f deep leaves at l e =
+          rw (length-append (words_of x) (words_of y)) (node_e f leaves h (λ n. came_two x y (λ f leaves at l e. came x f leaves at l e) (λ f leaves at l e. came y f leaves at l e) n leaves (at + 1) l h.then times (ordered D lawful (mul x y))))
+      came (choose p x y) f leaves at l e =
           let h = first ws at if_word ((words p ++ (words_of x ++ words_of y)) ++ l) e in
           let s = split (at + 1) (words p) (words_of x ++ words_of y) l h.then in
           rw (length-append (words p) (words_of x ++ words_of y), length-append (words_of x) (words_of y))
-          (node_e f deep leaves h (λ n. after (joined (E n) hull) (dead_joined n hull) (went_p p n deep leaves (at + 1) ((words_of x ++ words_of y) ++ l) s.0)
-          (came_two x y (λ f deep leaves at l e. came x f deep leaves at l e) (λ f deep leaves at l e. came y f deep leaves at l e) n deep _ _ l s.1 hull (ordered D lawful (choose p x y)))))
+          (node_e f leaves h (λ n. after (joined (E n) hull) (went_p p n leaves (at + 1) ((words_of x ++ words_of y) ++ l) s.0)
+          (came_two x y (λ f leaves at l e. came x f leaves at l e) (λ f leaves at l e. came y f leaves at l e) n _ _ l s.1 hull (ordered D lawful (choose p x y)))))

@@ -13,7 +13,7 @@ use lib.Seq.{drop-cons, drop-drop}
 use Rattle.model.specs.Predicate.{Word}
 use Rattle.model.specs.Table.{word_of}
 use Rattle.node_words.proofs.NodeLaws.{meant_of}
-use Rattle.table_predicate.specs.Walk.{sound, declared_of, predicate_by, expression_by, predicate_at, expression_at}
+use Rattle.table_predicate.specs.Walk.{place, go_on, declared_of, predicate_by, expression_by, predicate_at, expression_at}
 use Rattle.table_predicate.proofs.Steps.{enter_next}
 
 -- the words from a place on
@@ -67,12 +67,12 @@ module _ (ws : List ℕ) where
       let f = first at x (k ++ l) e in
       rw (drop-cons ws at 0 f.below, ← add-one at, f.word) (ap (λ (s : List Word). x ∷ s) (there (at + 1) k l f.then))
 
-  -- the next node of a walk that has not ended
-  module _ (ranges : List ℕ) (n : ℕ) {at : ℕ} {x : Word} {l : List Word} (deep leaves : Bool) (f : First ws at x l) where
-    pub next_p : predicate_at ws ranges (suc n) (sound deep leaves at) ≡ predicate_by (predicate_at ws ranges n) (expression_at ws ranges n) x (sound deep leaves (at + 1))
-    unfolding predicate_at expression_at
-    next_p = rw (← enter_next ws (sound deep leaves at) refl f.below, meant_of (get_or ws at 0), f.word)
+  -- the next node of a walk
+  module _ (ranges : List ℕ) (n : ℕ) {at : ℕ} {x : Word} {l : List Word} (leaves : Bool) (f : First ws at x l) where
+    pub next_p : predicate_at ws ranges (suc n) (place leaves at) ≡ predicate_by (predicate_at ws ranges n) (expression_at ws ranges n) x (place leaves (at + 1))
+    unfolding predicate_at expression_at go_on
+    next_p = rw (← enter_next ws (place leaves at) f.below, meant_of (get_or ws at 0), f.word)
 
-    pub next_e : expression_at ws ranges (suc n) (sound deep leaves at) ≡ expression_by (predicate_at ws ranges n) (expression_at ws ranges n) (declared_of ranges) x (sound deep leaves (at + 1))
-    unfolding predicate_at expression_at
-    next_e = rw (← enter_next ws (sound deep leaves at) refl f.below, meant_of (get_or ws at 0), f.word)
+    pub next_e : expression_at ws ranges (suc n) (place leaves at) ≡ expression_by (predicate_at ws ranges n) (expression_at ws ranges n) (declared_of ranges) x (place leaves (at + 1))
+    unfolding predicate_at expression_at go_on
+    next_e = rw (← enter_next ws (place leaves at) f.below, meant_of (get_or ws at 0), f.word)

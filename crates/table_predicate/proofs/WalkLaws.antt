@@ -13,7 +13,10 @@ use Rattle.model.specs.Limits.{in_range}
 use Rattle.model.specs.Lawful.{LawfulRange}
 use Rattle.model.specs.Table.{code, word_of, line_words}
 use Rattle.model.proofs.Decode.{number_back, words_back}
-use Rattle.table_predicate.specs.Walk.{sound, declared_of, walk_at}
+use Rattle.std.specs.Prelude.{Ok, Err}
+use Rattle.table_predicate.specs.declared.Stopped.TheVariants.{Deep}
+use Rattle.table_predicate.specs.declared.Walked.{Walked}
+use Rattle.table_predicate.specs.Walk.{place, declared_of, walk_at}
 use Rattle.table_predicate.proofs.Standing.{standing, there}
 use Rattle.table_predicate.proofs.Forward.{went_p}
 use Rattle.table_predicate.proofs.Back.{back_p}
@@ -35,34 +38,34 @@ declared_back (x ∷ l) (o ∷ os) h =
 pub record Stands (ws ranges : List ℕ) (at : ℕ) (p : Pred) : Type 0 where
   pub there : map word_of (take (node_count p) (drop at ws)) ≡ words p
   pub shallow : depth p ≤ max_depth
-  pub walked : walk_at ws ranges at ≡ sound false (not (all_stay (declared_of ranges) p)) (at + node_count p)
+  pub walked : walk_at ws ranges at ≡ Ok (place (not (all_stay (declared_of ranges) p)) (at + node_count p))
 
 module _ (ws ranges : List ℕ) (lawful : (x : Range) → Memᴰ x (declared_of ranges) → LawfulRange x) (at : ℕ) where
   -- by the words that the numbers say
   module _ (p : Pred) (here : map word_of (take (node_count p) (drop at ws)) ≡ words p) where
-    pub walk_words : depth p ≤ max_depth → walk_at ws ranges at ≡ sound false (not (all_stay (declared_of ranges) p)) (at + node_count p)
+    pub walk_words : depth p ≤ max_depth → walk_at ws ranges at ≡ Ok (place (not (all_stay (declared_of ranges) p)) (at + node_count p))
     unfolding walk_at node_count
-    walk_words h = (went_p ws ranges lawful p max_depth false false at _ (standing ws at (node_count p) (words p) here)).fine h
+    walk_words h = (went_p ws ranges lawful p max_depth false at _ (standing ws at (node_count p) (words p) here)).fine h
 
-    pub words_deep : max_depth < depth p → (walk_at ws ranges at).deep ≡ true
+    pub words_deep : max_depth < depth p → walk_at ws ranges at ≡ Err Deep
     unfolding walk_at node_count
-    words_deep h = ((went_p ws ranges lawful p max_depth false false at _ (standing ws at (node_count p) (words p) here)).dead h).deep
+    words_deep h = ((went_p ws ranges lawful p max_depth false at _ (standing ws at (node_count p) (words p) here)).dead h)
 
   -- by their codes
   module _ (p : Pred) (here : take (node_count p) (drop at ws) ≡ map code (words p)) (ranged : every in_range (words p) ≡ true) where
     said : map word_of (take (node_count p) (drop at ws)) ≡ words p
     said = rw here (words_back (words p) ranged)
 
-    pub walk_of : depth p ≤ max_depth → walk_at ws ranges at ≡ sound false (not (all_stay (declared_of ranges) p)) (at + node_count p)
+    pub walk_of : depth p ≤ max_depth → walk_at ws ranges at ≡ Ok (place (not (all_stay (declared_of ranges) p)) (at + node_count p))
     walk_of h = walk_words p said h
 
-    pub walk_deep : max_depth < depth p → (walk_at ws ranges at).deep ≡ true
+    pub walk_deep : max_depth < depth p → walk_at ws ranges at ≡ Err Deep
     walk_deep h = words_deep p said h
 
   -- back: on any words
-  pub walk_back : (walk_at ws ranges at).sound ≡ true → (p : Pred) × Stands ws ranges at p
+  pub walk_back : (v : Walked) → walk_at ws ranges at ≡ Ok v → (p : Pred) × Stands ws ranges at p
   unfolding walk_at node_count
-  walk_back h =
-      let s = back_p ws ranges lawful max_depth false false at h in
+  walk_back v h =
+      let s = back_p ws ranges lawful max_depth false at v h in
       let e = there ws at (words s.it) s.rest s.here in
       (s.it, record { there = e; shallow = s.shallow; walked = walk_words s.it e s.shallow })

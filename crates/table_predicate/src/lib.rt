@@ -5,122 +5,70 @@
 ghost use Rattle.std.specs.Prelude.{◌≡◌, pos, get_or};
 ghost use Rattle.model.specs.Predicate.{range, hull, times};
 ghost use Rattle.model.specs.Table.{unbiased};
-ghost use Rattle.table_predicate.specs.Walk.{deeper, unsound, entered, unreached, reached, declared_of, ends};
-ghost use Rattle.table_predicate.specs.Walk.{plus, minus, gather, predicate_at, expression_at, walk_at};
+ghost use Rattle.table_predicate.specs.Walk.{with_node, with_walk, with_interval, entered, reach_of, reached, span};
+ghost use Rattle.table_predicate.specs.Walk.{declared_of, plus, minus, gather, predicate_at, expression_at, walk_at};
 
 use node_words::Node;
 
 pub mod scan;
 
-// How far a walk came.
+// Why a walk ended.
+#[derive(Clone, Copy, Debug, PartialEq, Eq)]
+pub enum Stopped {
+    // A node is nested too deep.
+    Deep,
+    // What stands there is no predicate.
+    Stray,
+}
+
+// How far a walk came: past whole predicates and expressions, nested at most as deep as they may.
 #[derive(Clone, Copy, Debug, PartialEq, Eq)]
 pub struct Walked {
-    // What was walked is made of whole predicates and expressions, nested at most as deep as they may. Where it is not,
-    // the walk ended.
-    pub sound: bool,
-    // It ended because a node is nested too deep.
-    pub deep: bool,
     // An expression's interval leaves the span of row 10.
     pub leaves: bool,
     // Where the words that are left begin.
     pub next: usize,
 }
 
-// A walk that has entered a node, and the node.
+// The interval of an expression, cut to what an i64 holds.
 #[derive(Clone, Copy, Debug, PartialEq, Eq)]
-pub struct Entered {
-    pub walk: Walked,
-    pub node: Node,
-}
-
-// A walk that is past an expression, and the expression's interval, cut to what an i64 holds.
-#[derive(Clone, Copy, Debug, PartialEq, Eq)]
-pub struct Reach {
-    pub walk: Walked,
+pub struct Interval {
     pub low: i64,
     pub high: i64,
 }
 
-// No depth is left for the next node.
-#[tactic(auto, unfolding(crate::specs::Walk::deeper))]
-fn deeper(walk: Walked) -> Walked
-    ensures { result ≡ deeper walk }
-{
-    if walk.sound {
-        Walked {
-            sound: false,
-            deep: true,
-            ..walk
-        }
-    } else {
-        walk
-    }
-}
-
-#[tactic(auto, unfolding(crate::specs::Walk::unsound))]
-fn unsound(walk: Walked) -> Walked
-    ensures { result ≡ unsound walk }
-{
-    Walked {
-        sound: false,
-        ..walk
-    }
-}
-
-// On to the node that comes next. A walk that has ended, or that has no words left, finds a stray.
-#[tactic(auto, unfolding(crate::specs::Walk::entered))]
-fn enter(words: &[u32], walk: Walked) -> Entered
-    ensures { result ≡ entered words.now walk }
+// On to the node that comes next. Where no words are left, no node comes.
+#[tactic(auto, unfolding(crate::specs::Walk::entered, crate::specs::Walk::with_node))]
+fn enter(words: &[u32], walk: &mut Walked) -> Result<Node, Stopped>
+    ensures { with_node result walk.new ≡ entered words.now walk.old }
 {
     let at = walk.next;
-    if !walk.sound || words.len() <= at {
-        return Entered {
-            walk,
-            node: Node::Stray,
-        };
+    if words.len() <= at {
+        return Err(Stopped::Stray);
     }
-    Entered {
-        walk: Walked {
-            next: at + 1,
-            ..walk
-        },
-        node: node_words::node_of(words[at]),
-    }
-}
-
-#[tactic(auto, unfolding(crate::specs::Walk::unreached))]
-fn unreached(walk: Walked) -> Reach
-    ensures { result ≡ unreached walk }
-{
-    Reach {
-        walk,
-        low: 0,
-        high: 0,
-    }
+    walk.next = at + 1;
+    Ok(node_words::node_of(words[at]))
 }
 
 // Past an expression with this interval, which is checked.
-fn reached(walk: Walked, low: i64, high: i64) -> Reach
-    ensures { result ≡ reached walk (range low high) }
+fn reached(walk: &mut Walked, low: i64, high: i64) -> Interval
+    ensures { reach_of walk.new result ≡ reached walk.old (range low high) }
 {
-    let stays = arithmetic::in_span(low, high);
-    let walk = Walked {
-        leaves: walk.leaves | !stays,
-        ..walk
-    };
-    Reach { walk, low, high }
+    walk.leaves |= !arithmetic::in_span(low, high);
+    Interval { low, high }
 }
 
-fn number(walk: Walked, argument: u32) -> Reach
-    ensures { result ≡ reached walk (range (unbiased argument) (unbiased argument)) }
+fn number(walk: &mut Walked, argument: u32) -> Interval
+    ensures { reach_of walk.new result ≡ reached walk.old (range (unbiased argument) (unbiased argument)) }
 {
     let z = arithmetic::unbias(argument);
     reached(walk, z, z)
 }
 
 // Variable k lies in its declared range; one that is not declared is 0, as in the definitions.
-fn variable(walk: Walked, ranges: &[u32], k: usize) -> Reach
-    ensures { result ≡ reached walk (get_or (declared_of ranges.now) k (range (pos 0) (pos 0))) }
+fn variable(walk: &mut Walked, ranges: &[u32], k: usize) -> Interval
+    ensures { reach_of walk.new result
+        ≡ reached walk.old (get_or (declared_of ranges.now) k (range (pos 0) (pos 0))) }
 {
     if ranges.len() / 3 <= k {
         return reached(walk, 0, 0);
@@ -132,28 +80,28 @@ fn variable(walk: Walked, ranges: &[u32], k: usize) -> Reach
     )
 }
 
-fn sum(x: Reach, y: Reach) -> Reach
-    ensures { result ≡ reached y.walk (plus (ends x) (ends y)) }
+fn sum(walk: &mut Walked, x: Interval, y: Interval) -> Interval
+    ensures { reach_of walk.new result ≡ reached walk.old (plus (span x) (span y)) }
 {
     reached(
-        y.walk,
+        walk,
         arithmetic::sum(x.low, y.low),
         arithmetic::sum(x.high, y.high),
     )
 }
 
-fn difference(x: Reach, y: Reach) -> Reach
-    ensures { result ≡ reached y.walk (minus (ends x) (ends y)) }
+fn difference(walk: &mut Walked, x: Interval, y: Interval) -> Interval
+    ensures { reach_of walk.new result ≡ reached walk.old (minus (span x) (span y)) }
 {
     reached(
-        y.walk,
+        walk,
         arithmetic::difference(x.low, y.high),
         arithmetic::difference(x.high, y.low),
     )
 }
 
-fn product(x: Reach, y: Reach) -> Reach
-    ensures { result ≡ reached y.walk (times (ends x) (ends y)) }
+fn product(walk: &mut Walked, x: Interval, y: Interval) -> Interval
+    ensures { reach_of walk.new result ≡ reached walk.old (times (span x) (span y)) }
 {
     let a = arithmetic::product(x.low, y.low);
     let b = arithmetic::product(x.low, y.high);
@@ -161,108 +109,118 @@ fn product(x: Reach, y: Reach) -> Reach
     let d = arithmetic::product(x.high, y.high);
     let low = arithmetic::lesser(arithmetic::lesser(a, b), arithmetic::lesser(c, d));
     let high = arithmetic::greater(arithmetic::greater(a, b), arithmetic::greater(c, d));
-    reached(y.walk, low, high)
+    reached(walk, low, high)
 }
 
 // Either of two.
-fn either(x: Reach, y: Reach) -> Reach
-    ensures { result ≡ reached y.walk (hull (ends x) (ends y)) }
+fn either(walk: &mut Walked, x: Interval, y: Interval) -> Interval
+    ensures { reach_of walk.new result ≡ reached walk.old (hull (span x) (span y)) }
 {
     let low = arithmetic::lesser(x.low, y.low);
     let high = arithmetic::greater(x.high, y.high);
-    reached(y.walk, low, high)
+    reached(walk, low, high)
 }
 
 // The predicate that comes next, with nodes nested at most `left` deep.
 #[cycle(expression_operands_predicate)]
-fn predicate(words: &[u32], walk: Walked, left: usize, ranges: &[u32]) -> Walked
-    ensures { result ≡ predicate_at words.now ranges.now left walk }
+#[tactic(auto, using(crate::proofs::Steps::predicate_laws))]
+fn predicate(words: &[u32], walk: &mut Walked, left: usize, ranges: &[u32]) -> Result<(), Stopped>
+    ensures { with_walk result walk.new ≡ predicate_at words.now ranges.now left walk.old }
 {
     if left == 0 {
-        return deeper(walk);
+        return Err(Stopped::Deep);
     }
-    let Entered { walk: inner, node } = enter(words, walk);
+    let node = enter(words, walk)?;
     let below = left - 1;
     match node {
-        Node::All(k) | Node::Any(k) => operands(words, inner, arithmetic::index(k), below, ranges),
-        Node::Not => predicate(words, inner, below, ranges),
+        Node::All(k) | Node::Any(k) => operands(words, walk, arithmetic::index(k), below, ranges),
+        Node::Not => predicate(words, walk, below, ranges),
         Node::Imp => {
-            let p = predicate(words, inner, below, ranges);
-            predicate(words, p, below, ranges)
+            predicate(words, walk, below, ranges)?;
+            predicate(words, walk, below, ranges)
         }
         Node::Eq | Node::Le => {
-            let x = expression(words, inner, below, ranges);
-            let y = expression(words, x.walk, below, ranges);
-            y.walk
+            expression(words, walk, below, ranges)?;
+            expression(words, walk, below, ranges)?;
+            Ok(())
         }
-        _ => unsound(inner),
+        _ => Err(Stopped::Stray),
     }
 }
 
-// The next `count` predicates, until the walk ends.
+// The next `count` predicates.
 #[cycle(expression_operands_predicate)]
-fn operands(words: &[u32], walk: Walked, count: usize, left: usize, ranges: &[u32]) -> Walked
-    ensures { result ≡ gather (predicate_at words.now ranges.now left) count walk }
+#[tactic(auto, using(crate::proofs::Steps::gather_laws))]
+fn operands(
+    words: &[u32],
+    walk: &mut Walked,
+    count: usize,
+    left: usize,
+    ranges: &[u32],
+) -> Result<(), Stopped>
+    ensures { with_walk result walk.new
+        ≡ gather (predicate_at words.now ranges.now left) count walk.old }
 {
-    let mut reach = walk;
     for _ in 0..count {
-        if !reach.sound {
-            return reach;
-        }
-        reach = predicate(words, reach, left, ranges);
+        predicate(words, walk, left, ranges)?;
     }
-    reach
+    Ok(())
 }
 
 // The expression that comes next, with nodes nested at most `left` deep.
 #[cycle(expression_operands_predicate)]
-fn expression(words: &[u32], walk: Walked, left: usize, ranges: &[u32]) -> Reach
-    ensures { result ≡ expression_at words.now ranges.now left walk }
+#[tactic(auto, using(crate::proofs::Steps::expression_laws))]
+fn expression(
+    words: &[u32],
+    walk: &mut Walked,
+    left: usize,
+    ranges: &[u32],
+) -> Result<Interval, Stopped>
+    ensures { with_interval result walk.new ≡ expression_at words.now ranges.now left walk.old }
 {
     if left == 0 {
-        return unreached(deeper(walk));
+        return Err(Stopped::Deep);
     }
-    let Entered { walk: inner, node } = enter(words, walk);
+    let node = enter(words, walk)?;
     let below = left - 1;
     match node {
-        Node::Number(n) => number(inner, n),
-        Node::Old(k) | Node::New(k) => variable(inner, ranges, arithmetic::index(k)),
+        Node::Number(n) => Ok(number(walk, n)),
+        Node::Old(k) | Node::New(k) => Ok(variable(walk, ranges, arithmetic::index(k))),
         Node::Add => {
-            let x = expression(words, inner, below, ranges);
-            let y = expression(words, x.walk, below, ranges);
-            sum(x, y)
+            let x = expression(words, walk, below, ranges)?;
+            let y = expression(words, walk, below, ranges)?;
+            Ok(sum(walk, x, y))
         }
         Node::Sub => {
-            let x = expression(words, inner, below, ranges);
-            let y = expression(words, x.walk, below, ranges);
-            difference(x, y)
+            let x = expression(words, walk, below, ranges)?;
+            let y = expression(words, walk, below, ranges)?;
+            Ok(difference(walk, x, y))
         }
         Node::Mul => {
-            let x = expression(words, inner, below, ranges);
-            let y = expression(words, x.walk, below, ranges);
-            product(x, y)
+            let x = expression(words, walk, below, ranges)?;
+            let y = expression(words, walk, below, ranges)?;
+            Ok(product(walk, x, y))
         }
         Node::If => {
-            let p = predicate(words, inner, below, ranges);
-            let x = expression(words, p, below, ranges);
-            let y = expression(words, x.walk, below, ranges);
-            either(x, y)
+            predicate(words, walk, below, ranges)?;
+            let x = expression(words, walk, below, ranges)?;
+            let y = expression(words, walk, below, ranges)?;
+            Ok(either(walk, x, y))
         }
-        _ => unreached(unsound(inner)),
+        _ => Err(Stopped::Stray),
     }
 }
 
 // Walks the predicate whose node words stand from `at` on. `ranges` has the variables' declared ranges as table words:
 // LO and HI of variable K are the words 3K and 3K + 1, and word 3K + 2 is for its owner.
-#[tactic(auto, unfolding(crate::specs::Walk::walk_at))]
-pub fn walk(words: &[u32], at: usize, ranges: &[u32]) -> Walked
+#[tactic(auto, using(crate::proofs::Steps::walk_laws))]
+pub fn walk(words: &[u32], at: usize, ranges: &[u32]) -> Result<Walked, Stopped>
     ensures { result ≡ walk_at words.now ranges.now at }
 {
-    let start = Walked {
-        sound: true,
-        deep: false,
+    let mut walk = Walked {
         leaves: false,
         next: at,
     };
-    predicate(words, start, model::Model::DEPTH, ranges)
+    predicate(words, &mut walk, model::Model::DEPTH, ranges)?;
+    Ok(walk)
 }

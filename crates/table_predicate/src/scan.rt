@@ -10,14 +10,6 @@ ghost use Rattle.table_predicate.specs.Scan.{is_coded};
 use model::Model;
 use node_words::Node;
 
-// Of `count` words from `at` on, those that are there.
-fn part(words: &[u32], at: usize, count: usize) -> &[u32]
-    ensures { result.now ≡ take count (drop at words.now) }
-{
-    let rest = &words[at.min(words.len())..];
-    &rest[..count.min(rest.len())]
-}
-
 #[tactic(auto, using(crate::proofs::ScanLaws::outside_laws))]
 fn outside(word: u32, variables: usize) -> bool
     ensures { result ≡ is_outside variables (named (word_of word)) }
@@ -61,7 +53,7 @@ fn coded(word: u32) -> bool
 pub fn names_outside(words: &[u32], at: usize, count: usize, variables: usize) -> bool
     ensures { result ≡ names_outside variables (map word_of (take count (drop at words.now))) }
 {
-    part(words, at, count)
+    node_words::part(words, at, count)
         .iter()
         .any(|word| outside(*word, variables))
 }
@@ -70,12 +62,16 @@ pub fn names_outside(words: &[u32], at: usize, count: usize, variables: usize) -
 pub fn names_new(words: &[u32], at: usize, count: usize) -> bool
     ensures { result ≡ names_new (map word_of (take count (drop at words.now))) }
 {
-    part(words, at, count).iter().any(|word| new_value(*word))
+    node_words::part(words, at, count)
+        .iter()
+        .any(|word| new_value(*word))
 }
 
 // Row 3: each word is the code of a word in range.
 pub fn ranged(words: &[u32], at: usize, count: usize) -> bool
     ensures { result ≡ every is_coded (take count (drop at words.now)) }
 {
-    part(words, at, count).iter().all(|word| coded(*word))
+    node_words::part(words, at, count)
+        .iter()
+        .all(|word| coded(*word))
 }

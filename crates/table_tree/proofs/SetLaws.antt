@@ -17,6 +17,10 @@ use Rattle.model.proofs.Lists.{keep_append, keep_first, keep_skip, keep_same, me
 use Rattle.model.proofs.Bits.{rises_cons}
 use Rattle.table_tree.specs.Sets.{one_word, unfilled}
 
+-- `single`
+pub single_is : (k : ℕ) → k < 64 → (1 * 2 ^ k) % 2 ^ 64 ≡ 2 ^ k
+single_is k h = P.shl_exact 1 k 64 (omega arith) (omega arith) ∙ one-mul (2 ^ k)
+
 -- what is kept of the numbers from n on, by the tests of those numbers alone
 pub keep_alike : (f g : ℕ → Bool) (n c : ℕ) → ((k : ℕ) → n ≤ k → k < n + c → f k ≡ g k) → keep f (count_up n c) ≡ keep g (count_up n c)
 unfolding count_up keep

@@ -6,7 +6,7 @@ use crate::nodes::{self, Found};
 use crate::sets::{self};
 
 // Is the action in the set of a subtree, where do its words end, and how many nodes are left there?
-#[derive(Clone, Copy)]
+#[derive(Clone, Copy, Debug, PartialEq, Eq)]
 pub struct Membership {
     pub inside: bool,
     pub next: usize,

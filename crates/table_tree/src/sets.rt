@@ -1,5 +1,5 @@
 // Sets of actions: bit K of a word is set where action K is in the set.
-ghost use Rattle.std.specs.Prelude.{◌≡◌};
+ghost use Rattle.std.specs.Prelude.{◌≡◌, ◌^◌, ◌<◌};
 ghost use Rattle.model.specs.Basic.{member};
 ghost use Rattle.model.specs.Limits.{rises};
 ghost use Rattle.model.specs.Table.{bit, set_of};
@@ -11,6 +11,15 @@ pub fn set_of(low: u32, high: u32) -> u64
     ensures { result ≡ one_word low high }
 {
     (u64::from(high) << 32) + u64::from(low)
+}
+
+// The set that holds k alone.
+#[tactic(auto, using(crate::proofs::SetLaws::single_is))]
+pub fn single(k: u32) -> u64
+    requires { k < 64 }
+    ensures { result ≡ 2 ^ k }
+{
+    1u64 << k
 }
 
 // No word has a bit above 63.

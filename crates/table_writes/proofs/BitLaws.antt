@@ -5,13 +5,9 @@ use Prim.Native.Nat.{ℕ, suc, ◌+◌, ◌-◌, ◌*◌, ◌/◌, ◌%◌, ◌^
 use native.Mathlib.Omega.{arith}
 use native.Mathlib.Nat.{div-eq_of_lt, one-mul, add_comm, add-mul-div_right, add-mul-mod_self_right}
 use lib.Dec.{eqb, leb}
-use lib.Pow.{pow_mono, pow_pos, pow-add, high, shl_exact}
+use lib.Pow.{pow_mono, pow_pos, pow-add, high}
 use borrow.Author.Tests.{leb-true, leb-false}
 use Rattle.model.specs.Table.{bit}
-
--- `power`
-pub power_is : (k : ℕ) → k < 64 → (1 * 2 ^ k) % 2 ^ 64 ≡ 2 ^ k
-power_is k h = shl_exact 1 k 64 (omega arith) (omega arith) ∙ one-mul (2 ^ k)
 
 -- a bit that is set weighs no more than the word
 pub bit_weighs : (s k : ℕ) → bit s k ≡ true → 2 ^ k ≤ s

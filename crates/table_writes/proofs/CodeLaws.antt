@@ -2,18 +2,14 @@
 use mathlib.Core.Path.{◌≡◌, refl, sym, ◌∙◌}
 use mathlib.Core.Bool.{Bool, true, false}
 use mathlib.Core.List.{List, [], ◌∷◌}
-use Prim.Native.Nat.{ℕ, zero, suc, ◌+◌, ◌-◌, ◌^◌, ◌≤◌, ◌<◌}
+use Prim.Native.Nat.{ℕ, ◌-◌, ◌^◌, ◌≤◌, ◌<◌}
 use native.Mathlib.Omega.{arith}
-use native.Mathlib.Numerals.{add-one, sub-one}
-use lib.ListN.{length, get_or, take, drop, drop_of_length-le}
-use lib.Seq.{drop-cons, take-nil}
 use Rattle.model.specs.Predicate.{Named, named, nothing, the_old, the_new}
 use Rattle.model.specs.Table.{bit, word_of}
 use Rattle.node_words.specs.declared.Node.{Node}
 use Rattle.node_words.specs.declared.Node.TheVariants.{New}
 use Rattle.node_words.specs.Nodes.{meant, node_of}
 use Rattle.node_words.proofs.NodeLaws.{word_by, Other, by_others}
-use Rattle.std.specs.List.{fold}
 use Rattle.table_writes.specs.Sets.{clear, all_variables, left_out, rest_of, written_set}
 use Rattle.table_writes.proofs.BitLaws.{bit_weighs, bit_below}
 
@@ -33,7 +29,7 @@ module _ (s k : ℕ) (b : Bool) (e : b ≡ bit s k) where
   unfolding clear
   clear_not h = rw (sym e ∙ h, clear)
 
-pub ruleset clear_laws = (clear_set, clear_not)
+pub ruleset clear_laws = (clear_room, clear_below, clear_set, clear_not)
 
 -- `left_out_lem`
 module _ (s w : ℕ) where

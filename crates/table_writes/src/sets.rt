@@ -1,5 +1,5 @@
 // Sets of variables: bit K of a word is set where K is in the set.
-ghost use Rattle.std.specs.Prelude.{◌≡◌, ◌^◌, ◌<◌, take, drop};
+ghost use Rattle.std.specs.Prelude.{◌≡◌, take, drop};
 ghost use Rattle.table_writes.specs.Sets.{clear, all_variables, left_out, rest_of, written_set};
 
 use node_words::Node;
@@ -13,24 +13,19 @@ pub fn all() -> u64
     ALL
 }
 
-fn power(k: u32) -> u64
-    requires { k < 64 }
-    ensures { result ≡ 2 ^ k }
-{
-    1u64 << k
-}
-
 // A set without variable k.
+#[tactic(auto, using(crate::proofs::CodeLaws::clear_laws))]
 pub fn clear(set: u64, k: u32) -> u64
     ensures { result ≡ clear set k }
 {
     if table_tree::in_word(set, k) {
-        return set - power(k);
+        return set - table_tree::single(k);
     }
     set
 }
 
 // `nK` names variable K's new value.
+#[tactic(auto, using(crate::proofs::CodeLaws::out_laws))]
 fn left_out(set: u64, word: u32) -> u64
     ensures { result ≡ left_out set word }
 {
@@ -52,14 +47,11 @@ fn unnamed(words: &[u32]) -> u64
 pub fn unwritten(words: &[u32], at: usize, count: usize) -> u64
     ensures { result ≡ rest_of all_variables (take count (drop at words.now)) }
 {
-    if words.len() < at {
-        return ALL;
-    }
-    let rest = &words[at..];
-    unnamed(&rest[..count.min(rest.len())])
+    unnamed(node_words::part(words, at, count))
 }
 
 // The variables whose new values they do name.
+#[tactic(auto, using(crate::proofs::CodeLaws::rest_within, crate::proofs::CodeLaws::written_is))]
 pub fn written(words: &[u32], at: usize, count: usize) -> u64
     ensures { result ≡ written_set (take count (drop at words.now)) }
 {

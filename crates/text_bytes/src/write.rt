@@ -19,7 +19,7 @@ pub fn copy(s: &[u8], out: &mut [u8], at: usize) -> Option<usize>
 }
 
 // A number's bytes: the last of the eleven, from a place on.
-#[derive(Clone, Copy)]
+#[derive(Clone, Copy, Debug, PartialEq, Eq)]
 pub struct Spelled {
     pub bytes: [u8; 11],
     pub from: usize,
@@ -69,21 +69,19 @@ fn spell_signed(z: i32) -> Spelled
 }
 
 // The one spelling of `n`, from `at` on.
+#[tactic(auto, using(crate::proofs::WriteLaws::write_spelled))]
 pub fn decimal(n: u32, out: &mut [u8], at: usize) -> Option<usize>
     ensures { Wrote (N.decimal n) at out.old out.new result }
 {
     let t = spell(n);
-    let bytes = t.bytes;
-    let from = t.from;
-    copy(&bytes[from..], out, at)
+    copy(&t.bytes[t.from..], out, at)
 }
 
 // The same with its sign.
+#[tactic(auto, using(crate::proofs::WriteLaws::write_signed))]
 pub fn signed(z: i32, out: &mut [u8], at: usize) -> Option<usize>
     ensures { Wrote (N.signed z) at out.old out.new result }
 {
     let t = spell_signed(z);
-    let bytes = t.bytes;
-    let from = t.from;
-    copy(&bytes[from..], out, at)
+    copy(&t.bytes[t.from..], out, at)
 }

@@ -23,6 +23,7 @@ fn digits(s: &[u8], high: u32) -> Option<u32>
 }
 
 // A number with no sign: at least one digit, several do not start with 0.
+#[tactic(auto, using(crate::proofs::NumberLaws::natural_laws))]
 pub fn natural(s: &[u8], high: u32) -> Option<u32>
     ensures { result ≡ natural_in s.now high }
 {
@@ -63,6 +64,7 @@ fn plain(n: u32, low: i32, high: i32) -> Option<i32>
 }
 
 // A number from low to high. What passes 32 bits is out of every range.
+#[tactic(auto, using(crate::proofs::NumberLaws::integer_laws))]
 pub fn integer(s: &[u8], low: i32, high: i32) -> Option<i32>
     ensures { result ≡ integer_in s.now low high }
 {

@@ -17,13 +17,13 @@ fn steps(screen: Stdout, t: &[u32]) -> bool {
 }
 
 pub(crate) fn cases(screen: Stdout) -> bool {
-    let t = sheets::oven();
+    let t = sheets::table(&sheets::OVEN);
     steps(screen, &t)
 }
 
 // The door shares nothing: it does not take 1 alone, and the steam does.
 pub(crate) fn one_sided(screen: Stdout) -> bool {
-    let t = sheets::one_sided();
+    let t = sheets::table(&sheets::ONE_SIDED);
     show::text(
         screen,
         b"Wrong: a sheet takes alone what only the other side shares (sync= in the door sheet)\n",
@@ -33,7 +33,7 @@ pub(crate) fn one_sided(screen: Stdout) -> bool {
 }
 
 pub(crate) fn wrong(screen: Stdout) -> bool {
-    let t = sheets::oven();
+    let t = sheets::table(&sheets::OVEN);
     show::text(
         screen,
         b"Wrong: v0 held still because the door sheet does not write it\n",
@@ -58,7 +58,7 @@ fn both(screen: Stdout, t: &[u32], first: u32, second: u32) -> bool {
 }
 
 pub(crate) fn pair(screen: Stdout) -> bool {
-    let t = sheets::pair();
+    let t = sheets::table(&sheets::PAIR);
     show::text(
         screen,
         b"Wrong: syn binds the sheets inside it (syn 1 par a0 a1)\n",
@@ -85,7 +85,7 @@ fn three(
 
 // Three sheets share action 1: all take it, or none.
 pub(crate) fn lamp(screen: Stdout) -> bool {
-    let t = sheets::lamp();
+    let t = sheets::table(&sheets::LAMP);
     show::text(
         screen,
         b"With a lamp sheet that shares action 1 (par par a0 a1 a2)\n",

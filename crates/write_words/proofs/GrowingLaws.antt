@@ -7,14 +7,16 @@ use native.Mathlib.Omega.{arith}
 use borrow.Author.Tests.{le-leb, lt-leb, leb-true, leb-false, lt-ltb, le-ltb}
 use lib.ListN.{length, take, drop, length-append, length-take}
 use lib.Seq.{take_at, length-take-le}
-use lib.Dec.{leb}
+use lib.Dec.{leb, ltb}
 use Rattle.std.specs.Prelude.{Option, Some, None}
+use Rattle.std.proofs.Common.{◌⊎◌, inl, inr}
 use Rattle.format.specs.Bytes.{Bytes}
 use Rattle.format.specs.Number.{decimal, signed}
 use Rattle.model.specs.Bounds.{bias}
 use Rattle.model.specs.Table.{unbiased}
 use Rattle.text_bytes.specs.Write.{fits, written_to, after, Wrote}
 use Rattle.write_words.specs.declared.growing.Part.{Part}
+use Rattle.write_words.specs.declared.growing.Text.{Text}
 use Rattle.write_words.specs.Growing.{held, more, Grew, between, part_text}
 
 -- there is room for what a buffer holds
@@ -81,21 +83,25 @@ more_more room (Some s) t u = go (leb (length s + length t) room) refl
         let l : room < length s + length (t ++ u) = simp length-append (omega arith) in
         ap (λ (o : Option Bytes). more room o u) (more_full room s t h) ∙ more_nothing room u ∙ sym (more_full room s (t ++ u) l)
 
-pub grew_none : (at : Option ℕ) (b : Bytes) → Grew [] at b b at
-grew_none at b = record { text = sym (more_none at b); long = refl }
+pub grew_none : (x : Text) → Grew [] x x
+grew_none x = record { text = sym (more_none x.end x.bytes.now); long = refl; lent = refl }
 
-pub grew_full : (t : Bytes) (at : Option ℕ) (b : Bytes) → at ≡ None → Grew t at b b None
+pub grew_full : (t : Bytes) (x : Text) → x.end ≡ None → Grew t x x
 unfolding held more
-grew_full t at b e = record { text = rw e; long = refl }
+grew_full t x e = record { text = rw e; long = refl; lent = refl }
 
-pub grew_then : (t u : Bytes) (a b c : Option ℕ) (old mid new : Bytes) → Grew t a old mid b → Grew u b mid new c → Grew (t ++ u) a old new c
-grew_then t u a b c old mid new g h =
-    record { text = h.text ∙ rw (g.long, g.text) (more_more (length old) (held a old) t u); long = h.long ∙ g.long }
+pub grew_then : (t u : Bytes) (a b c : Text) → Grew t a b → Grew u b c → Grew (t ++ u) a c
+grew_then t u a b c g h =
+    record {
+      text = h.text ∙ rw (g.long, g.text) (more_more (length a.bytes.now) (held a.end a.bytes.now) t u);
+      long = h.long ∙ g.long;
+      lent = h.lent ∙ g.lent;
+    }
 
 -- what is written from a place on
-pub wrote_grew : (t : Bytes) (n : ℕ) (at r : Option ℕ) (old new : Bytes) → at ≡ Some n → Wrote t n old new r → Grew t at old new r
+wrote_held : (t : Bytes) (n : ℕ) (r : Option ℕ) (old new : Bytes) → Wrote t n old new r → held r new ≡ more (length old) (held (Some n) old) t
 unfolding written_to after fits
-wrote_grew t n at r old new e w = rw e (record { text = go (leb (n + length t) (length old)) refl; long = w.long })
+wrote_held t n r old new w = go (leb (n + length t) (length old)) refl
   where
     short : length old < n + length t → (f : Bool) → leb n (length old) ≡ f → None ≡ more (length old) (held (Some n) old) t
     short h true f =
@@ -121,49 +127,51 @@ wrote_grew t n at r old new e w = rw e (record { text = go (leb (n + length t) (
         let a : r ≡ None = w.answer ∙ rw (f, written_to) in
         rw (a, held_full new) (short h (leb n (length old)) refl)
 
-pub ruleset put_laws = (grew_full, wrote_grew)
+pub wrote_grew : (t : Bytes) (n : ℕ) (x : Text) (out : Bytes) (r : Option ℕ) → x.end ≡ Some n → Wrote t n x.bytes.now out r → Grew t x (record { bytes = record x.bytes { now = out }; end = r })
+wrote_grew t n x out r e w =
+    record {
+      text = wrote_held t n r x.bytes.now out w ∙ ap (λ (y : Option ℕ). more (length x.bytes.now) (held y x.bytes.now) t) (sym e);
+      long = w.long;
+      lent = refl;
+    }
 
 -- before the first item nothing, and else the mark
-pub apart_first : (mark : Bytes) (first : Bool) (at : Option ℕ) (b : Bytes) → first ≡ true → Grew (between first mark) at b b at
+pub apart_first : (mark : Bytes) (first : Bool) (x : Text) → first ≡ true → Grew (between first mark) x x
 unfolding between
-apart_first mark first at b e = rw e (grew_none at b)
+apart_first mark first x e = rw e (grew_none x)
 
-pub apart_later : (mark : Bytes) (first : Bool) (at r : Option ℕ) (old new : Bytes) → first ≡ false → Grew mark at old new r → Grew (between first mark) at old new r
+pub apart_later : (mark : Bytes) (first : Bool) (old new : Text) → first ≡ false → Grew mark old new → Grew (between first mark) old new
 unfolding between
-apart_later mark first at r old new e g = rw e g
-
-pub ruleset apart_laws = (apart_first, apart_later)
+apart_later mark first old new e g = rw e g
 
 -- a biased word is below or not below the bias
-pub biased_below : (w : ℕ) (at a r : Option ℕ) (old mid new : Bytes) → w < bias → Grew (45 ∷ []) at old mid a → Grew (decimal (bias - w)) a mid new r → Grew (signed (unbiased w)) at old new r
+pub biased_below : (w : ℕ) (old mid new : Text) → w < bias → Grew (45 ∷ []) old mid → Grew (decimal (bias - w)) mid new → Grew (signed (unbiased w)) old new
 unfolding unbiased signed
-biased_below w at a r old mid new h g k =
+biased_below w old mid new h g k =
     let e : suc (bias - suc w) ≡ bias - w = omega arith in
-    rw (lt-leb bias w h, unbiased, e) (grew_then (45 ∷ []) (decimal (bias - w)) at a r old mid new g k)
+    rw (lt-leb bias w h, unbiased, e) (grew_then (45 ∷ []) (decimal (bias - w)) old mid new g k)
 
-pub biased_above : (w : ℕ) (at r : Option ℕ) (old new : Bytes) → bias ≤ w → Grew (decimal (w - bias)) at old new r → Grew (signed (unbiased w)) at old new r
+pub biased_above : (w : ℕ) (old new : Text) → bias ≤ w → Grew (decimal (w - bias)) old new → Grew (signed (unbiased w)) old new
 unfolding unbiased signed
-biased_above w at r old new h g = rw (le-leb bias w h, unbiased) g
-
-pub ruleset biased_laws = (biased_below, biased_above)
+biased_above w old new h g = rw (le-leb bias w h, unbiased) g
 
 -- `put_part`
-module _ (row : Bytes) (p : Part) (at : Option ℕ) (old : Bytes) where
-  pub part_crossed : p.to < p.from → Grew (part_text row p) at old old at
+module _ (row : Bytes) (p : Part) (old : Text) where
+  pub part_none : (p.to < p.from) ⊎ (length row < p.to) → Grew (part_text row p) old old
   unfolding part_text
-  part_crossed h = rw (lt-ltb p.to p.from h, part_text) (grew_none at old)
+  part_none (inl h) = rw (lt-ltb p.to p.from h, part_text) (grew_none old)
+  part_none (inr h) = go (ltb p.to p.from) refl
+    where
+      go : (b : Bool) → ltb p.to p.from ≡ b → Grew (part_text row p) old old
+      go true e = rw (e, part_text) (grew_none old)
+      go false e = rw (e, part_text, lt-ltb (length row) p.to h, part_text) (grew_none old)
 
-  module _ (h : p.from ≤ p.to) where
-    pub part_past : length row < p.to → Grew (part_text row p) at old old at
-    unfolding part_text
-    part_past k = rw (le-ltb p.to p.from h, part_text, lt-ltb (length row) p.to k, part_text) (grew_none at old)
+  pub part_some : p.from ≤ p.to → p.to ≤ length row → (s : Bytes) → s ≡ take (p.to - p.from) (drop p.from row) → (new : Text) → Grew s old new → Grew (part_text row p) old new
+  unfolding part_text
+  part_some h k s e new g = rw (le-ltb p.to p.from h, part_text, le-ltb (length row) p.to k, part_text, ← e) g
 
-    pub part_put : p.to ≤ length row → (r : Option ℕ) (new : Bytes) → Grew (take (p.to - p.from) (drop p.from row)) at old new r → Grew (part_text row p) at old new r
-    unfolding part_text
-    part_put k r new g = rw (le-ltb p.to p.from h, part_text, le-ltb (length row) p.to k, part_text) g
-
-pub ruleset part_laws = (part_crossed, part_past, part_put)
+pub ruleset growing_laws = (grew_full, wrote_grew, apart_first, apart_later, biased_below, biased_above, part_none, part_some)
 
 -- a part that is a text
-pub part_grew : (row t : Bytes) (p q : Part) → p ≡ q → part_text row q ≡ t → (at r : Option ℕ) (old new : Bytes) → Grew (part_text row p) at old new r → Grew t at old new r
-part_grew row t p q e f at r old new g = subst (λ (x : Bytes). Grew x at old new r) (ap (part_text row) e ∙ f) g
+pub part_grew : (row t : Bytes) (p q : Part) → p ≡ q → part_text row q ≡ t → (old new : Text) → Grew (part_text row p) old new → Grew t old new
+part_grew row t p q e f old new g = subst (λ (x : Bytes). Grew x old new) (ap (part_text row) e ∙ f) g

@@ -1,4 +1,5 @@
 pub mod GrowingLaws
+pub mod ReadLaws
 pub mod JoinLaws
 pub mod WordLaws
 pub mod NodeLaws

@@ -1,7 +1,7 @@
 -- Each way out of the code of src/tree.rt.
 use Prim.Native.Nat.{ℕ, zero, suc, ◌+◌, ◌-◌, ◌≤◌, ◌<◌}
 use mathlib.Core.Path.{◌≡◌, refl, sym, ◌∙◌, ap}
-use mathlib.Core.Bool.{Bool, true, false, not, ◌&&◌, true≢false}
+use mathlib.Core.Bool.{Bool, true, false, not, ◌&&◌}
 use mathlib.Core.List.{List, [], ◌∷◌, ◌++◌, map, append_assoc, append-nil}
 use native.Mathlib.Omega.{arith}
 use native.Mathlib.Numerals.{add-one}
@@ -9,7 +9,6 @@ use borrow.Author.Tests.{ne_eqb}
 use lib.ListN.{get_or, drop}
 use lib.Seq.{get_or-drop}
 use lib.Dec.{eqb}
-use Rattle.std.specs.Prelude.{Option}
 use Rattle.model.specs.Basic.{keep, count_up}
 use Rattle.model.specs.Table.{bit}
 use Rattle.model.proofs.Lists.{keep_append, count_last}
@@ -19,6 +18,7 @@ use Rattle.format.specs.Spelling.{text_of_list}
 use Rattle.table_tree.specs.Sets.{one_word}
 use Rattle.table_tree.proofs.SetLaws.{set_of_one}
 use Rattle.table_places.specs.Outline.{reach, nodes_place, after_predicate}
+use Rattle.write_words.specs.declared.growing.Text.{Text}
 use Rattle.write_words.specs.Growing.{Grew, between}
 use Rattle.write_words.specs.NodeText.{predicate_text, member_text, members_text, set_text, is_ini, over_text, node_by, node_text, size_by, node_size, starts_after, node_texts}
 use Rattle.write_words.proofs.GrowingLaws.{grew_none, grew_then}
@@ -26,24 +26,14 @@ use Rattle.table_places.proofs.OutlineLaws.{reach_drop}
 use Rattle.write_words.proofs.JoinLaws.{is_none, joined_snoc, map-append}
 
 -- `member`
-module _ (is_in first : Bool) (k : ℕ) (at : Option ℕ) (old : Bytes) where
-  pub member_out : not is_in ≡ true → Grew (member_text is_in first k) at old old at
+module _ (is_in first : Bool) (k : ℕ) (old : Text) where
+  pub member_out : is_in ≡ false → Grew (member_text is_in first k) old old
   unfolding member_text
-  member_out h = go is_in h
-    where
-      go : (b : Bool) → not b ≡ true → Grew (member_text b first k) at old old at
-      go true e = absurd (true≢false (sym e))
-      go false e = grew_none at old
+  member_out h = rw h (grew_none old)
 
-  pub member_in : not is_in ≡ false → (a r : Option ℕ) (mid new : Bytes) → Grew (between first (44 ∷ [])) at old mid a → Grew (decimal k) a mid new r → Grew (member_text is_in first k) at old new r
+  pub member_in : is_in ≡ true → (mid new : Text) → Grew (between first (44 ∷ [])) old mid → Grew (decimal k) mid new → Grew (member_text is_in first k) old new
   unfolding member_text
-  member_in h a r mid new g i = go is_in h
-    where
-      go : (b : Bool) → not b ≡ false → Grew (member_text b first k) at old new r
-      go true e = grew_then (between first (44 ∷ [])) (decimal k) at a r old mid new g i
-      go false e = absurd (true≢false e)
-
-pub ruleset member_laws = (member_out, member_in)
+  member_in h mid new g i = rw h (grew_then (between first (44 ∷ [])) (decimal k) old mid new g i)
 
 -- the numbers below k that are in a set of one word
 abbrev pub members_below : (both k : ℕ) → List ℕ
@@ -97,35 +87,33 @@ below_none both k false e = ap is_none (below_out both k e) ∙ go (is_none (mem
     go false = refl
 
 -- the turns of `members`
-module _ (both : ℕ) (at : Option ℕ) (old : Bytes) where
-  pub members_none : Grew (text_of_list (members_below both 0)) at old old at
+module _ (both : ℕ) (old : Text) where
+  pub members_none : Grew (text_of_list (members_below both 0)) old old
   unfolding text_of_list count_up keep joined
-  members_none = grew_none at old
+  members_none = grew_none old
 
   pub members_first : true ≡ is_none (members_below both 0)
   unfolding is_none count_up keep
   members_first = refl
 
   module _ (k : ℕ) (is_in first : Bool) (e : is_in ≡ bit both k) (f : first ≡ is_none (members_below both k)) where
-    pub members_on : (cur : Bytes) (end : Option ℕ) → Grew (text_of_list (members_below both k)) at old cur end → (r : Option ℕ) (new : Bytes) → Grew (member_text is_in first k) end cur new r → Grew (text_of_list (members_below both (k + 1))) at old new r
-    members_on cur end inv r new g =
-        rw (below_text both k is_in (sym e), ← f) (grew_then (text_of_list (members_below both k)) (member_text is_in first k) at end r old cur new inv g)
+    pub members_on : (cur new : Text) → Grew (text_of_list (members_below both k)) old cur → Grew (member_text is_in first k) cur new → Grew (text_of_list (members_below both (k + 1))) old new
+    members_on cur new inv g =
+        rw (below_text both k is_in (sym e), ← f) (grew_then (text_of_list (members_below both k)) (member_text is_in first k) old cur new inv g)
 
     pub members_later : (first && not is_in) ≡ is_none (members_below both (k + 1))
     members_later = rw f (sym (below_none both k is_in (sym e)))
 
-  pub members_all : (k : ℕ) → k ≤ 64 → 64 ≤ k → (cur : Bytes) (end : Option ℕ) → Grew (text_of_list (members_below both k)) at old cur end → Grew (members_text both) at old cur end
+  pub members_all : (k : ℕ) → k ≤ 64 → 64 ≤ k → (cur : Text) → Grew (text_of_list (members_below both k)) old cur → Grew (members_text both) old cur
   unfolding members_text
-  members_all k h i cur end inv =
+  members_all k h i cur inv =
       let z : k ≡ 64 = omega arith in
       rw z at inv
 
-pub ruleset members_laws = (members_none, members_first, members_on, members_later, members_all)
-
 -- `set`
-pub set_is : (low high both : ℕ) → low < 4294967296 → high < 4294967296 → both ≡ one_word low high → (at r : Option ℕ) (old new : Bytes) → Grew (members_text both) at old new r → Grew (set_text low high) at old new r
+pub set_is : (low high both : ℕ) → low < 4294967296 → high < 4294967296 → both ≡ one_word low high → (old new : Text) → Grew (members_text both) old new → Grew (set_text low high) old new
 unfolding members_text
-set_is low high both l u e at r old new g = rw (set_of_one low high l u both e) g
+set_is low high both l u e old new g = rw (set_of_one low high l u both e) g
 
 -- past the predicate at a place
 past_predicate : (t : List ℕ) (at : ℕ) → drop (after_predicate t at) t ≡ drop (get_or (drop at t) 0 0) (drop 1 (drop at t))
@@ -141,15 +129,15 @@ unfolding is_ini
 ini_is ws w a b e f g = rw (e, f, g)
 
 module _ (ws ps : List ℕ) (b : Bool) (e : b ≡ is_ini ws) where
-  module _ (at p r : Option ℕ) (old mid new : Bytes) where
-    pub over_ini : b ≡ true → Grew (105 ∷ 110 ∷ 105 ∷ 32 ∷ []) at old mid p → Grew (predicate_text ps) p mid new r → Grew (over_text (is_ini ws) ws ps) at old new r
+  module _ (old mid new : Text) where
+    pub over_ini : b ≡ true → Grew (105 ∷ 110 ∷ 105 ∷ 32 ∷ []) old mid → Grew (predicate_text ps) mid new → Grew (over_text (is_ini ws) ws ps) old new
     unfolding over_text
-    over_ini z g h = rw (← e, z) (grew_then (105 ∷ 110 ∷ 105 ∷ 32 ∷ []) (predicate_text ps) at p r old mid new g h)
+    over_ini z g h = rw (← e, z) (grew_then (105 ∷ 110 ∷ 105 ∷ 32 ∷ []) (predicate_text ps) old mid new g h)
 
-    pub over_syn : b ≡ false → (x y : ℕ) → x ≡ get_or ws 1 0 → y ≡ get_or ws 2 0 → Grew (115 ∷ 121 ∷ 110 ∷ 32 ∷ []) at old mid p → Grew (set_text x y) p mid new r
-        → Grew (over_text (is_ini ws) ws ps) at old new r
+    pub over_syn : b ≡ false → (x y : ℕ) → x ≡ get_or ws 1 0 → y ≡ get_or ws 2 0 → Grew (115 ∷ 121 ∷ 110 ∷ 32 ∷ []) old mid → Grew (set_text x y) mid new
+        → Grew (over_text (is_ini ws) ws ps) old new
     unfolding over_text
-    over_syn z x y f k g h = rw (← e, z, ← f, ← k) (grew_then (115 ∷ 121 ∷ 110 ∷ 32 ∷ []) (set_text x y) at p r old mid new g h)
+    over_syn z x y f k g h = rw (← e, z, ← f, ← k) (grew_then (115 ∷ 121 ∷ 110 ∷ 32 ∷ []) (set_text x y) old mid new g h)
 
   pub after_ini : b ≡ true → (at r : ℕ) → r ≡ after_predicate ps at → drop r ps ≡ starts_after (is_ini ws) (drop at ps)
   unfolding starts_after
@@ -159,27 +147,21 @@ module _ (ws ps : List ℕ) (b : Bool) (e : b ≡ is_ini ws) where
   unfolding starts_after
   after_other z at = rw (← e, z)
 
-pub ruleset over_laws = (over_ini, over_syn)
-
-pub ruleset after_laws = (after_ini, after_other)
-
 -- `node` and `size`, by the first word
-module _ (ws ps : List ℕ) (w : ℕ) (e : w ≡ get_or ws 0 0) (at r : Option ℕ) (old new : Bytes) where
-  pub node_par : w ≡ 0 → Grew (112 ∷ 97 ∷ 114 ∷ []) at old new r → Grew (node_text ws ps) at old new r
+module _ (ws ps : List ℕ) (w : ℕ) (e : w ≡ get_or ws 0 0) (old new : Text) where
+  pub node_par : w ≡ 0 → Grew (112 ∷ 97 ∷ 114 ∷ []) old new → Grew (node_text ws ps) old new
   unfolding node_text node_by
   node_par z g = rw (← e, z) g
 
-  pub node_over : w ≡ 1 → Grew (over_text (is_ini ws) ws ps) at old new r → Grew (node_text ws ps) at old new r
+  pub node_over : w ≡ 1 → Grew (over_text (is_ini ws) ws ps) old new → Grew (node_text ws ps) old new
   unfolding node_text node_by
   node_over z g = rw (← e, z) g
 
-  pub node_leaf : (w ≡ 0 → ⊥) → (w ≡ 1 → ⊥) → (p : Option ℕ) (mid : Bytes) → Grew (97 ∷ []) at old mid p → Grew (decimal (w - 2)) p mid new r → Grew (node_text ws ps) at old new r
+  pub node_leaf : (w ≡ 0 → ⊥) → (w ≡ 1 → ⊥) → (mid : Text) → Grew (97 ∷ []) old mid → Grew (decimal (w - 2)) mid new → Grew (node_text ws ps) old new
   unfolding node_text
-  node_leaf y z p mid g h =
+  node_leaf y z mid g h =
       let s : w ≡ suc (suc (w - 2)) = omega arith in
-      rw (← e, s) (unfold node_by in grew_then (97 ∷ []) (decimal (w - 2)) at p r old mid new g h)
-
-pub ruleset node_laws = (node_par, node_over, node_leaf)
+      rw (← e, s) (unfold node_by in grew_then (97 ∷ []) (decimal (w - 2)) old mid new g h)
 
 module _ (ws : List ℕ) (w : ℕ) (e : w ≡ get_or ws 0 0) where
   pub size_syn : w ≡ 1 → 3 ≡ node_size ws
@@ -194,8 +176,6 @@ module _ (ws : List ℕ) (w : ℕ) (e : w ≡ get_or ws 0 0) where
       go zero u = unfold size_by in refl
       go (suc zero) u = absurd (u refl)
       go (suc (suc n)) u = unfold size_by in refl
-
-pub ruleset size_laws = (size_syn, size_other)
 
 -- the words after n nodes, and the P's after those of n nodes
 unfoldable pub after_nodes : ℕ → List ℕ → List ℕ
@@ -226,39 +206,56 @@ unfolding node_texts is_none
 texts_none zero ws ps = refl
 texts_none (suc n) ws ps = sym (ne_eqb (suc n) 0 (λ e. omega arith))
 
--- where the walk of `nodes` is after n nodes: the words after them stand from `next` on, the P's from `start` on
-pub record Walked (ws ps : List ℕ) (n next start : ℕ) : Type 0 where
+-- after n nodes: their texts are written, the words after them stand from `next` on, and the P's from `start` on
+pub record Walked (ws ps : List ℕ) (old : Text) (n next start : ℕ) (cur : Text) : Type 0 where
   pub nodes : drop next ws ≡ after_nodes n ws
   pub starts : drop start ps ≡ after_starts n ws ps
+  pub text : Grew (joined space (node_texts n ws ps)) old cur
 
 -- the turns of `nodes`
-module _ (ws ps : List ℕ) (at : Option ℕ) (old : Bytes) where
-  pub nodes_none : Grew (joined space (node_texts 0 ws ps)) at old old at
-  unfolding node_texts joined
-  nodes_none = grew_none at old
+module _ (ws ps : List ℕ) (old : Text) where
+  pub nodes_first : Walked ws ps old 0 0 0 old
+  unfolding node_texts joined after_nodes after_starts
+  nodes_first = record { nodes = refl; starts = refl; text = grew_none old }
 
-  pub nodes_first : Walked ws ps 0 0 0
-  unfolding after_nodes after_starts
-  nodes_first = record { nodes = refl; starts = refl }
+  module _ (i next start : ℕ) (cur : Text) (w : Walked ws ps old i next start cur) where
+    pub nodes_all : (n : ℕ) → i ≤ n → n ≤ i → Grew (joined space (node_texts n ws ps)) old cur
+    nodes_all n h k = let z : i ≡ n = omega arith in rw z at w.text
 
-  pub nodes_all : (i n : ℕ) → i ≤ n → n ≤ i → (cur : Bytes) (end : Option ℕ) → Grew (joined space (node_texts i ws ps)) at old cur end → Grew (joined space (node_texts n ws ps)) at old cur end
-  nodes_all i n h k cur end inv = let z : i ≡ n = omega arith in rw z at inv
-
-  module _ (i next start : ℕ) (w : Walked ws ps i next start) (here : List ℕ) (e : here ≡ drop next ws) where
-    pub nodes_on : (p : List ℕ) → p ≡ drop start ps → (cur : Bytes) (end : Option ℕ) → Grew (joined space (node_texts i ws ps)) at old cur end → (a r : Option ℕ) (mid new : Bytes)
-        → Grew (between (eqb i 0) (32 ∷ [])) end cur mid a → Grew (node_text here p) a mid new r → Grew (joined space (node_texts (i + 1) ws ps)) at old new r
-    nodes_on p f cur end inv a r mid new g k =
-        let h = grew_then (joined space (node_texts i ws ps)) (between (eqb i 0) (32 ∷ [])) at end a old cur mid inv g in
+    pub nodes_on : (here p : List ℕ) → here ≡ drop next ws → p ≡ drop start ps → (mid new : Text)
+        → Grew (between (eqb i 0) (32 ∷ [])) cur mid → Grew (node_text here p) mid new
+        → (s then later : ℕ) → s ≡ node_size here → then ≡ reach ws next s → drop later ps ≡ starts_after (is_ini here) (drop start ps) → Walked ws ps old (i + 1) then later new
+    nodes_on here p e f mid new g k s then later z r l =
+        let h = grew_then (joined space (node_texts i ws ps)) (between (eqb i 0) (32 ∷ [])) old cur mid w.text g in
         let n : after_nodes i ws ≡ here = sym w.nodes ∙ sym e in
         let m : after_starts i ws ps ≡ p = sym w.starts ∙ sym f in
-        rw (add-one i, texts_more i ws ps, n, m, joined_snoc space (node_texts i ws ps) (node_text here p), texts_none i ws ps)
-        (grew_then (joined space (node_texts i ws ps) ++ between (eqb i 0) (32 ∷ [])) (node_text here p) at a r old mid new h k)
-
-    pub nodes_next : (s then later : ℕ) → s ≡ node_size here → then ≡ reach ws next s → drop later ps ≡ starts_after (is_ini here) (drop start ps) → Walked ws ps (i + 1) then later
-    nodes_next s then later f g h =
         record {
-          nodes = rw (g, add-one i, after_more i ws, ← w.nodes, f, e) (reach_drop ws next (node_size (drop next ws)));
-          starts = rw (add-one i, starts_more i ws ps, ← w.nodes, ← e, ← w.starts) h;
+          nodes = rw (r, add-one i, after_more i ws, ← w.nodes, z, e) (reach_drop ws next (node_size (drop next ws)));
+          starts = rw (add-one i, starts_more i ws ps, ← w.nodes, ← e, ← w.starts) l;
+          text =
+              rw (add-one i, texts_more i ws ps, n, m, joined_snoc space (node_texts i ws ps) (node_text here p), texts_none i ws ps)
+              (grew_then (joined space (node_texts i ws ps) ++ between (eqb i 0) (32 ∷ [])) (node_text here p) old mid new h k);
         }
 
-pub ruleset nodes_laws = (nodes_none, nodes_first, nodes_all, nodes_on, nodes_next)
+pub ruleset nodes_laws = (nodes_first, nodes_all, nodes_on)
+
+pub ruleset tree_laws = (
+  member_out,
+  member_in,
+  members_none,
+  members_first,
+  members_on,
+  members_later,
+  members_all,
+  set_is,
+  ini_is,
+  over_ini,
+  over_syn,
+  after_ini,
+  after_other,
+  node_par,
+  node_over,
+  node_leaf,
+  size_syn,
+  size_other,
+)

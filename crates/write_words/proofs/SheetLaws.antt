@@ -19,16 +19,18 @@ use Rattle.line_order.specs.declared.Due.{Due}
 use Rattle.line_order.specs.Due.{is_end, due_first, due_after}
 use Rattle.table_places.specs.Outline.{reach}
 use Rattle.text_bytes.specs.Write.{fits, written_to}
-use Rattle.write_words.specs.Growing.{start, held, more, Grew}
+use Rattle.write_words.specs.declared.growing.Text.{Text}
+use Rattle.write_words.specs.Growing.{held, more, Grew}
 use Rattle.write_words.specs.Text.{entry_of, size_of, lines_from, sheet_text}
 use Rattle.write_words.specs.Answer.{Spelt, copy_answer, room_answer, given, Answered}
 use Rattle.write_words.proofs.GrowingLaws.{held_in, held_past, held_full, more_none, more_more, more_fits, more_full}
 use Rattle.table_places.proofs.OutlineLaws.{reach_drop}
 
 -- with `rest` still to be written on, it comes to the whole
-pub record Going (rest : Bytes) (end : Option ℕ) (cur whole old : Bytes) : Type 0 where
-  pub text : more (length old) (held end cur) rest ≡ more (length old) (held start old) whole
-  pub long : length cur ≡ length old
+pub record Going (rest whole : Bytes) (old cur : Text) : Type 0 where
+  pub text : more (length old.bytes.now) (held cur.end cur.bytes.now) rest ≡ more (length old.bytes.now) (held old.end old.bytes.now) whole
+  pub long : length cur.bytes.now ≡ length old.bytes.now
+  pub lent : cur.bytes.ghost_name ≡ old.bytes.ghost_name
 
 -- the rounds, and a round's lines
 abbrev pub rounds : ℕ
@@ -42,18 +44,19 @@ pub lines_on : (n : ℕ) (d : Due) (ws : List ℕ) → is_end d.key ≡ false �
 unfolding lines_from
 lines_on n d ws e = ap (λ (b : Bool). elim b [ true ↦ [] | false ↦ entry_of d ws ++ lines_from n (due_after d (get_or ws 0 0)) (drop (size_of d.key ws) ws) ]) e
 
-module _ (t old : List ℕ) where
-  pub lines_first : (d : Due) → d ≡ due_first → Going (lines_from (rounds - 0) d (drop 0 t)) start old (sheet_text t) old
+module _ (t : List ℕ) (old : Text) where
+  pub lines_first : (d : Due) → d ≡ due_first → Going (lines_from (rounds - 0) d (drop 0 t)) (sheet_text t) old old
   unfolding sheet_text
-  lines_first d e = rw e (record { text = refl; long = refl })
+  lines_first d e = rw e (record { text = refl; long = refl; lent = refl })
 
-  module _ (i : ℕ) (d : Due) (at : ℕ) (end : Option ℕ) (cur : Bytes) (inv : Going (lines_from (rounds - i) d (drop at t)) end cur (sheet_text t) old) where
-    nothing_left : lines_from (rounds - i) d (drop at t) ≡ [] → Grew (sheet_text t) start old cur end
+  module _ (i : ℕ) (d : Due) (at : ℕ) (cur : Text) (inv : Going (lines_from (rounds - i) d (drop at t)) (sheet_text t) old cur) where
+    nothing_left : lines_from (rounds - i) d (drop at t) ≡ [] → Grew (sheet_text t) old cur
     nothing_left e =
-        let same : more (length old) (held end cur) [] ≡ held end cur = rw (← inv.long) (more_none end cur) in
-        record { text = sym same ∙ rw e at inv.text; long = inv.long }
+        let so_far = held cur.end cur.bytes.now in
+        let same : more (length old.bytes.now) so_far [] ≡ so_far = rw (← inv.long) (more_none cur.end cur.bytes.now) in
+        record { text = sym same ∙ rw e at inv.text; long = inv.long; lent = inv.lent }
 
-    pub lines_spent : rounds ≤ i → Grew (sheet_text t) start old cur end
+    pub lines_spent : rounds ≤ i → Grew (sheet_text t) old cur
     unfolding lines_from
     lines_spent h =
         let z : rounds - i ≡ 0 = omega arith in
@@ -67,30 +70,34 @@ module _ (t old : List ℕ) where
       unfolding left
       one_more_lem = omega arith
 
-      pub lines_over : e ≡ true → Grew (sheet_text t) start old cur end
+      pub lines_over : e ≡ true → Grew (sheet_text t) old cur
       lines_over h = nothing_left (ap (λ (n : ℕ). lines_from n d (drop at t)) one_more_lem ∙ lines_end left d (drop at t) (sym he ∙ h))
 
-      pub lines_next : e ≡ false → (a b c : List ℕ) → a ≡ drop at t → b ≡ drop at t → c ≡ drop at t → (r : Option ℕ) (new : Bytes) → Grew (entry_of d a) end cur new r
+      pub lines_next : e ≡ false → (a b c : List ℕ) → a ≡ drop at t → b ≡ drop at t → c ≡ drop at t → (new : Text) → Grew (entry_of d a) cur new
           → (n : ℕ) → n ≡ get_or b 0 0 → (d' : Due) → d' ≡ due_after d n → (s : ℕ) → s ≡ size_of d.key c → (at' : ℕ) → at' ≡ reach t at s
-          → Going (lines_from (rounds - (i + 1)) d' (drop at' t)) r new (sheet_text t) old
+          → Going (lines_from (rounds - (i + 1)) d' (drop at' t)) (sheet_text t) old new
       unfolding left
-      lines_next h a b c ea eb ec r new g n en d' ed s es at' et =
+      lines_next h a b c ea eb ec new g n en d' ed s es at' et =
           let ws = drop at t in
+          let room = length old.bytes.now in
+          let so_far = held cur.end cur.bytes.now in
+          let then = held new.end new.bytes.now in
           let line = entry_of d ws in
           let rest = lines_from left (due_after d (get_or ws 0 0)) (drop (size_of d.key ws) ws) in
           let is : lines_from (rounds - i) d ws ≡ line ++ rest = ap (λ (n : ℕ). lines_from n d ws) one_more_lem ∙ lines_on left d ws (sym he ∙ h) in
           let due : d' ≡ due_after d (get_or ws 0 0) = ed ∙ ap (due_after d) (en ∙ ap (λ (l : List ℕ). get_or l 0 0) eb) in
           let stands : drop at' t ≡ drop (size_of d.key ws) ws = ap (λ (n : ℕ). drop n t) et ∙ reach_drop t at s ∙ ap (λ (n : ℕ). drop n ws) (es ∙ ap (size_of d.key) ec) in
           let later : lines_from left d' (drop at' t) ≡ rest = ap (λ (x : Due). lines_from left x (drop at' t)) due ∙ ap (lines_from left (due_after d (get_or ws 0 0))) stands in
-          let grown : held r new ≡ more (length old) (held end cur) line = g.text ∙ ap (λ (n : ℕ). more n (held end cur) (entry_of d a)) inv.long ∙ ap (λ (l : List ℕ). more (length old) (held end cur) (entry_of d l)) ea in
+          let grown : then ≡ more room so_far line = g.text ∙ ap (λ (n : ℕ). more n so_far (entry_of d a)) inv.long ∙ ap (λ (l : List ℕ). more room so_far (entry_of d l)) ea in
           record {
             text =
-                ap (more (length old) (held r new)) later ∙
-                ap (λ (o : Option Bytes). more (length old) o rest) grown ∙
-                more_more (length old) (held end cur) line rest ∙
-                ap (more (length old) (held end cur)) (sym is) ∙
+                ap (more room then) later ∙
+                ap (λ (o : Option Bytes). more room o rest) grown ∙
+                more_more room so_far line rest ∙
+                ap (more room so_far) (sym is) ∙
                 inv.text;
             long = g.long ∙ inv.long;
+            lent = g.lent ∙ inv.lent;
           }
 
 pub ruleset lines_laws = (lines_first, lines_spent, lines_over, lines_next)
@@ -108,7 +115,7 @@ written_out t old h =
     let f : leb (0 + length t) (length old) ≡ false = rw (zero-add (length t)) (lt-leb (length t) (length old) h) in
     rw (f, written_to)
 
-from_start : (old t : Bytes) (b : Bool) → leb (length t) (length old) ≡ b → more (length old) (held start old) t ≡ elim b [ true ↦ Some t | false ↦ None ]
+from_start : (old t : Bytes) (b : Bool) → leb (length t) (length old) ≡ b → more (length old) (held (Some 0) old) t ≡ elim b [ true ↦ Some t | false ↦ None ]
 from_start old t true e =
     let h : 0 + length t ≤ length old = rw (zero-add (length t)) (leb-true (length t) (length old) e) in
     ap (λ (o : Option Bytes). more (length old) o t) (held_in 0 old (omega arith)) ∙ more_fits (length old) [] t h
@@ -116,40 +123,56 @@ from_start old t false e =
     let h : length old < 0 + length t = rw (zero-add (length t)) (leb-false (length t) (length old) e) in
     ap (λ (o : Option Bytes). more (length old) o t) (held_in 0 old (omega arith)) ∙ more_full (length old) [] t h
 
-module _ (t old new : Bytes) where
-  no_room : (end : Option ℕ) → Grew t start old new end → held end new ≡ None → Spelt t old new None
-  no_room end g e = go (leb (length t) (length old)) refl
+-- a text from the start, in a buffer that is `old` before and `new` after
+module _ (t : Bytes) (x y : Text) (g : Grew t x y) (s : x.end ≡ Some 0) (old new : Bytes) (o : old ≡ x.bytes.now) (w : x.bytes.ghost_name ≡ y.bytes.ghost_name → new ≡ y.bytes.now) where
+  in_new : new ≡ y.bytes.now
+  in_new = w (sym g.lent)
+
+  same_room : length new ≡ length old
+  same_room = ap length in_new ∙ g.long ∙ ap length (sym o)
+
+  is_held : (b : Bool) → leb (length t) (length old) ≡ b → held y.end new ≡ elim b [ true ↦ Some t | false ↦ None ]
+  is_held b f =
+      rw in_new
+      (g.text ∙ ap₂ (λ (r : Option ℕ) (l : Bytes). more (length l) (held r l) t) s (sym o) ∙ from_start old t b f)
+
+  no_room : held y.end new ≡ None → Spelt t old new None
+  no_room e = go (leb (length t) (length old)) refl
     where
       go : (b : Bool) → leb (length t) (length old) ≡ b → Spelt t old new None
-      go true f = absurd (none-some t (sym e ∙ g.text ∙ from_start old t true f))
+      go true f = absurd (none-some t (sym e ∙ is_held true f))
       go false f =
           let h = leb-false (length t) (length old) f in
-          record { answer = sym (written_out t old h); text = λ k. absurd (omega arith); long = g.long }
+          record { answer = sym (written_out t old h); text = λ k. absurd (omega arith); long = same_room }
 
-  pub spell_full : (r : Option ℕ) → r ≡ None → Grew t start old new None → Spelt t old new r
-  spell_full r e g = rw e (no_room None g (held_full new))
+  pub spell_full : y.end ≡ None → (r : Option ℕ) → r ≡ None → Spelt t old new r
+  spell_full e r f = rw f (no_room (ap (λ (a : Option ℕ). held a new) e ∙ held_full new))
 
-  module _ (n : ℕ) (g : Grew t start old new (Some n)) where
-    pub spell_past : length new < n → Spelt t old new None
-    spell_past h = no_room (Some n) g (held_past n new h)
+  module _ (n : ℕ) (e : y.end ≡ Some n) where
+    pub spell_past : length y.bytes.now < n → Spelt t old new None
+    spell_past h =
+        let k : length new < n = rw in_new h in
+        no_room (ap (λ (a : Option ℕ). held a new) e ∙ held_past n new k)
 
-    pub spell_in : n ≤ length new → Spelt t old new (Some n)
+    pub spell_in : n ≤ length y.bytes.now → Spelt t old new (Some n)
     spell_in h = go (leb (length t) (length old)) refl
       where
-        is : Some (take n new) ≡ more (length old) (held start old) t
-        is = sym (held_in n new h) ∙ g.text
+        k : n ≤ length new
+        k = rw in_new h
+
+        is : held y.end new ≡ Some (take n new)
+        is = ap (λ (a : Option ℕ). held a new) e ∙ held_in n new k
 
         go : (b : Bool) → leb (length t) (length old) ≡ b → Spelt t old new (Some n)
         go true f =
-            let u : take n new ≡ t = same_Some (take n new) t (is ∙ from_start old t true f) in
-            let l : n ≡ length t = sym (length-take-le n new h) ∙ ap length u in
-            let k = leb-true (length t) (length old) f in
+            let u : take n new ≡ t = same_Some (take n new) t (sym is ∙ is_held true f) in
+            let l : n ≡ length t = sym (length-take-le n new k) ∙ ap length u in
             record {
-              answer = ap Some l ∙ sym (written_in t old k);
+              answer = ap Some l ∙ sym (written_in t old (leb-true (length t) (length old) f));
               text = λ _. ap (λ (i : ℕ). take i new) (sym l) ∙ u;
-              long = g.long;
+              long = same_room;
             }
-        go false f = absurd (none-some (take n new) (sym (is ∙ from_start old t false f)))
+        go false f = absurd (none-some (take n new) (sym (sym is ∙ is_held false f)))
 
 pub ruleset spell_laws = (spell_full, spell_past, spell_in)
 

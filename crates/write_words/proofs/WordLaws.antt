@@ -6,7 +6,6 @@ use native.Mathlib.Numerals.{add-one}
 use lib.ListN.{length, get_or, take, drop}
 use lib.Seq.{take-suc, take_all}
 use lib.Dec.{eqb}
-use Rattle.std.specs.Prelude.{Option}
 use Rattle.format.specs.Bytes.{Bytes, bytes, led_by, joined, space}
 use Rattle.format.specs.Number.{decimal, signed}
 use Rattle.format.specs.Spelling.{spelled}
@@ -14,29 +13,20 @@ use Rattle.model.specs.Table.{unbiased}
 use Rattle.node_words.specs.declared.Node.{Node}
 use Rattle.node_words.specs.declared.Node.TheVariants.{All, Any, Not, Imp, Eq, Le, Number, Old, New, Add, Sub, Mul, If, Stray}
 use Rattle.node_words.specs.Nodes.{meant, node_of}
-use Rattle.node_words.proofs.NodeLaws.{word_by, Other, by_others}
+use Rattle.node_words.proofs.NodeLaws.{word_by}
 use Rattle.write_words.specs.declared.growing.Part.{Part}
+use Rattle.write_words.specs.declared.growing.Text.{Text}
 use Rattle.write_words.specs.Growing.{Grew, between, part_text}
 use Rattle.write_words.specs.NodeText.{word_text, words_text, predicate_text, name_part, name_text, argument_text}
 use Rattle.write_words.proofs.GrowingLaws.{grew_none, grew_then, part_grew}
 use Rattle.write_words.proofs.JoinLaws.{is_none, joined_snoc, map-append, none_taken}
 
--- `among_names` and `argument`, by the node
-module _ (n m : Node) (e : n ≡ m) where
-  pub place_by : (p : Part) → p ≡ name_part m → p ≡ name_part n
-  place_by p h = rw e h
-
-  pub argument_by : (at r : Option ℕ) (old new : Bytes) → Grew (argument_text m) at old new r → Grew (argument_text n) at old new r
-  argument_by at r old new g = rw e g
-
-pub ruleset place_laws = (place_by)
-
 -- `name`: the row of all names has each at its part
-unfoldable pub in_names : Part → Bytes
+abbrev pub in_names : Part → Bytes
 in_names p = part_text (bytes "all any notimpeqlevnaddsubmulif") p
 
 pub name_part_lem : (n : Node) → in_names (name_part n) ≡ name_text n
-unfolding in_names part_text name_part name_text
+unfolding part_text name_part name_text
 name_part_lem (All k) = refl
 name_part_lem (Any k) = refl
 name_part_lem Not = refl
@@ -52,22 +42,8 @@ name_part_lem Mul = refl
 name_part_lem If = refl
 name_part_lem Stray = refl
 
-pub name_grew : (n : Node) (p : Part) → p ≡ name_part n → (at r : Option ℕ) (old new : Bytes) → Grew (in_names p) at old new r → Grew (name_text n) at old new r
-unfolding in_names
+pub name_grew : (n : Node) (p : Part) → p ≡ name_part n → (old new : Text) → Grew (in_names p) old new → Grew (name_text n) old new
 name_grew n p e = part_grew (bytes "all any notimpeqlevnaddsubmulif") (name_text n) p (name_part n) e (name_part_lem n)
-
--- the nodes with an argument
-abbrev argued : List Node
-argued = All 0 ∷ Any 0 ∷ Number 0 ∷ Old 0 ∷ New 0 ∷ []
-
-pub argument_other : (n : Node) (at : Option ℕ) (b : Bytes) → Other argued n → Grew (argument_text n) at b b at
-unfolding argument_text
-argument_other n at b o =
-    let none = grew_none at b in
-    by_others (λ (m : Node). Grew (argument_text m) at b b at) argued n o
-    (tt, tt, none, none, none, none, tt, tt, tt, none, none, none, none, none)
-
-pub ruleset argument_laws = (argument_by, argument_other)
 
 -- a word is its name and its argument
 node_text : (n : Node) → name_text n ++ argument_text n ≡ joined space (spelled (meant n))
@@ -87,10 +63,10 @@ node_text Mul = refl
 node_text If = refl
 node_text Stray = refl
 
-pub word_is : (w : ℕ) (n : Node) (at a r : Option ℕ) (old mid new : Bytes) → n ≡ node_of w → Grew (name_text n) at old mid a → Grew (argument_text n) a mid new r → Grew (word_text w) at old new r
+pub word_is : (w : ℕ) (n : Node) (old mid new : Text) → n ≡ node_of w → Grew (name_text n) old mid → Grew (argument_text n) mid new → Grew (word_text w) old new
 unfolding word_text
-word_is w n at a r old mid new e g h =
-    rw (word_by w n n e refl, ← node_text n) (grew_then (name_text n) (argument_text n) at a r old mid new g h)
+word_is w n old mid new e g h =
+    rw (word_by w n n e refl, ← node_text n) (grew_then (name_text n) (argument_text n) old mid new g h)
 
 -- the turns of `words`
 words_more : (ws : List ℕ) (i : ℕ) → i < length ws → words_text (take (i + 1) ws) ≡ words_text (take i ws) ++ between (eqb i 0) (space ∷ []) ++ word_text (get_or ws i 0)
@@ -100,24 +76,24 @@ words_more ws i h =
     let f : is_none (map word_text (take i ws)) ≡ eqb i 0 = none_taken word_text i ws h in
     rw (e, joined_snoc space (map word_text (take i ws)) (word_text (get_or ws i 0)), f)
 
-module _ (ws : List ℕ) (at : Option ℕ) (old : Bytes) where
-  pub words_none : Grew (words_text (take 0 ws)) at old old at
+module _ (ws : List ℕ) (old : Text) where
+  pub words_none : Grew (words_text []) old old
   unfolding words_text joined
-  words_none = grew_none at old
+  words_none = grew_none old
 
-  module _ (i : ℕ) (cur : Bytes) (end : Option ℕ) (inv : Grew (words_text (take i ws)) at old cur end) where
-    pub words_all : i ≤ length ws → length ws ≤ i → Grew (words_text ws) at old cur end
+  module _ (i : ℕ) (cur : Text) (inv : Grew (words_text (take i ws)) old cur) where
+    pub words_all : i ≤ length ws → length ws ≤ i → Grew (words_text ws) old cur
     words_all h k = rw (take_all i ws k) at inv
 
-    pub words_on : i < length ws → (a r : Option ℕ) (mid new : Bytes) → Grew (between (eqb i 0) (32 ∷ [])) end cur mid a → Grew (word_text (get_or ws i 0)) a mid new r → Grew (words_text (take (i + 1) ws)) at old new r
-    words_on h a r mid new g k =
-        let e = grew_then (words_text (take i ws)) (between (eqb i 0) (32 ∷ [])) at end a old cur mid inv g in
-        rw (words_more ws i h) (grew_then (words_text (take i ws) ++ between (eqb i 0) (32 ∷ [])) (word_text (get_or ws i 0)) at a r old mid new e k)
-
-pub ruleset words_laws = (words_none, words_all, words_on)
+    pub words_on : i < length ws → (mid new : Text) → Grew (between (eqb i 0) (32 ∷ [])) cur mid → Grew (word_text (get_or ws i 0)) mid new → Grew (words_text (take (i + 1) ws)) old new
+    words_on h mid new g k =
+        let e = grew_then (words_text (take i ws)) (between (eqb i 0) (32 ∷ [])) old cur mid inv g in
+        rw (words_more ws i h) (grew_then (words_text (take i ws) ++ between (eqb i 0) (32 ∷ [])) (word_text (get_or ws i 0)) old mid new e k)
 
 -- `counted`
-pub counted_is : (ws later cut : List ℕ) (n : ℕ) (at r : Option ℕ) (old new : Bytes) → later ≡ drop 1 ws → n ≡ get_or ws 0 0 → cut ≡ take n later →
-    Grew (words_text cut) at old new r → Grew (predicate_text ws) at old new r
+pub counted_is : (ws later cut : List ℕ) (n : ℕ) (old new : Text) → later ≡ drop 1 ws → n ≡ get_or ws 0 0 → cut ≡ take n later →
+    Grew (words_text cut) old new → Grew (predicate_text ws) old new
 unfolding predicate_text
-counted_is ws later cut n at r old new e f g k = rw (← f, ← e, ← g) k
+counted_is ws later cut n old new e f g k = rw (← f, ← e, ← g) k
+
+pub ruleset predicate_laws = (word_is, words_none, words_all, words_on, counted_is)

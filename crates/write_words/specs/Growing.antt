@@ -3,9 +3,7 @@ use Rattle.std.specs.Prelude.{ℕ, ◌+◌, ◌-◌, ◌≡◌, Bool, true, fals
 use Rattle.std.specs.Prelude.{Option, Some, None}
 use Rattle.format.specs.Bytes.{Bytes}
 use Rattle.write_words.specs.declared.growing.Part.{Part}
-
-abbrev pub start : Option ℕ
-start = Some 0
+use Rattle.write_words.specs.declared.growing.Text.{Text}
 
 -- the text before a place; none where there was no room for it
 unfoldable pub held : Option ℕ → Bytes → Option Bytes
@@ -17,10 +15,11 @@ unfoldable pub more : (room : ℕ) → Option Bytes → Bytes → Option Bytes
 more room None t = None
 more room (Some s) t = elim (leb (length s + length t) room) [ true ↦ Some (s ++ t) | false ↦ None ]
 
--- t has been written on
-pub record Grew (t : Bytes) (at : Option ℕ) (old new : Bytes) (r : Option ℕ) : Type 0 where
-  pub text : held r new ≡ more (length old) (held at old) t
-  pub long : length new ≡ length old
+-- t has been written on, into the same buffer
+pub record Grew (t : Bytes) (old new : Text) : Type 0 where
+  pub text : held new.end new.bytes.now ≡ more (length old.bytes.now) (held old.end old.bytes.now) t
+  pub long : length new.bytes.now ≡ length old.bytes.now
+  pub lent : new.bytes.ghost_name ≡ old.bytes.ghost_name
 
 -- what stands between two items: nothing before the first
 unfoldable pub between : (first : Bool) → Bytes → Bytes

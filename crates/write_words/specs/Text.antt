@@ -18,8 +18,6 @@ use Rattle.table_writes.specs.Sets.{written_set}
 use Rattle.write_words.specs.declared.growing.Part.{Part}
 use Rattle.write_words.specs.Growing.{part}
 use Rattle.write_words.specs.NodeText.{predicate_text, members_text, set_text, node_texts}
-use Rattle.write_words.specs.declared.line.Shape.{Shape}
-use Rattle.write_words.specs.declared.line.Shape.TheVariants as S
 
 -- The values of lines.
 unfoldable pub range_text : List ℕ → Bytes
@@ -54,31 +52,6 @@ value_of Edges ws = decimal (get_or ws 0 0)
 value_of Edge ws = edge_text ws
 value_of Compose ws = tree_text ws
 value_of End ws = []
-
--- the same in two parts: what the value is, and its text
-unfoldable pub shape_of : Key → Shape
-shape_of Format = S.Number
-shape_of Actions = S.Number
-shape_of Variables = S.Number
-shape_of Variable = S.Range
-shape_of Automata = S.Number
-shape_of Sync = S.Set
-shape_of Locations = S.Number
-shape_of Init = S.Predicate
-shape_of Inv = S.Predicate
-shape_of Edges = S.Number
-shape_of Edge = S.Edge
-shape_of Compose = S.Tree
-shape_of End = S.Nothing
-
-unfoldable pub value_by : Shape → List ℕ → Bytes
-value_by S.Number ws = decimal (get_or ws 0 0)
-value_by S.Range ws = range_text ws
-value_by S.Set ws = set_text (get_or ws 0 0) (get_or ws 1 0)
-value_by S.Predicate ws = predicate_text ws
-value_by S.Edge ws = edge_text ws
-value_by S.Tree ws = tree_text ws
-value_by S.Nothing ws = []
 
 unfoldable pub key_text : Key → Bytes
 key_text Format = spelling format

@@ -21,6 +21,7 @@ const BYTES: usize = Model::BYTES;
 
 // What the words spell, by way of a buffer for the text: row 35 where that or the lent one has no room for it. The text
 // is copied as the last act.
+#[tactic(auto, using(crate::proofs::SheetLaws::deliver_laws))]
 fn deliver(table: &[u32], text: &mut [u8], out: &mut [u8]) -> Result<usize, Row>
     ensures { Answered
         (words_answer (length text.old) table.now (length out.old))

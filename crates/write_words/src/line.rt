@@ -1,40 +1,44 @@
 // One line: its key, its value and a line feed.
+#![tactic(auto, using(crate::proofs::LineLaws::line_laws))]
+
 ghost use Rattle.std.specs.Prelude.{◌≡◌};
 ghost use Rattle.write_words.specs.Growing.{Grew};
 ghost use Rattle.write_words.specs.Text.{range_text, field_text, edge_text, starts_behind, tree_text};
-ghost use Rattle.write_words.specs.Text.{shape_of, value_of, key_part, key_text, line_of, size_of};
+ghost use Rattle.write_words.specs.Text.{value_of, key_part, key_text, line_of, size_of};
 
-use crate::growing::{self, Part};
+use crate::growing::{Part, Text};
 use crate::predicate::{self};
 use crate::read::{self};
 use line_order::Key;
 use table_places::word32;
 
 // Both ends of a range.
-fn range(ws: &[u32], out: &mut [u8], at: Option<usize>) -> Option<usize>
-    ensures { Grew (range_text ws.now) at out.old out.new result }
+fn range(ws: &[u32], out: &mut Text)
+    ensures { Grew (range_text ws.now) out.old out.new }
 {
-    let a = growing::biased(word32(ws, 0), out, at);
-    let b = growing::put(b",", out, a);
-    growing::biased(word32(ws, 1), out, b)
+    out.biased(word32(ws, 0));
+    out.put(b",");
+    out.biased(word32(ws, 1));
 }
 
 // A number and a comma.
-fn field(n: u32, out: &mut [u8], at: Option<usize>) -> Option<usize>
-    ensures { Grew (field_text n) at out.old out.new result }
+#[tactic(auto, using(crate::proofs::GrowingLaws::grew_then), unfolding(crate::specs::Text::field_text))]
+fn field(n: u32, out: &mut Text)
+    ensures { Grew (field_text n) out.old out.new }
 {
-    let a = growing::number(n, out, at);
-    growing::put(b",", out, a)
+    out.number(n);
+    out.put(b",");
 }
 
 // Where an edge starts, its action, where it ends, and its update.
-fn edge(ws: &[u32], out: &mut [u8], at: Option<usize>) -> Option<usize>
-    ensures { Grew (edge_text ws.now) at out.old out.new result }
+#[tactic(auto, using(crate::proofs::GrowingLaws::grew_then), unfolding(crate::specs::Text::edge_text))]
+fn edge(ws: &[u32], out: &mut Text)
+    ensures { Grew (edge_text ws.now) out.old out.new }
 {
-    let a = field(word32(ws, 0), out, at);
-    let b = field(word32(ws, 1), out, a);
-    let c = field(word32(ws, 2), out, b);
-    predicate::counted(read::rest(ws, 3), out, c)
+    field(word32(ws, 0), out);
+    field(word32(ws, 1), out);
+    field(word32(ws, 2), out);
+    predicate::counted(read::rest(ws, 3), out);
 }
 
 // The tree's P's: behind its nodes and their number.
@@ -46,58 +50,27 @@ fn starts(ws: &[u32]) -> &[u32]
 }
 
 // The composition: its count of nodes, the nodes, and the P's of its `ini`.
-fn tree(ws: &[u32], out: &mut [u8], at: Option<usize>) -> Option<usize>
-    ensures { Grew (tree_text ws.now) at out.old out.new result }
+fn tree(ws: &[u32], out: &mut Text)
+    ensures { Grew (tree_text ws.now) out.old out.new }
 {
     let n = read::count(ws, 0);
-    crate::tree::nodes(read::rest(ws, 1), n, starts(ws), out, at)
+    crate::tree::nodes(read::rest(ws, 1), n, starts(ws), out);
 }
 
 // What a line's value is, by its key.
-#[derive(Clone, Copy)]
-pub enum Shape {
-    Number,
-    Range,
-    Set,
-    Predicate,
-    Edge,
-    Tree,
-    Nothing,
-}
-
-#[tactic(auto, unfolding(crate::specs::Text::shape_of))]
-fn shape_of(key: Key) -> Shape
-    ensures { result ≡ shape_of key }
+#[tactic(auto, using(crate::proofs::GrowingLaws::grew_none), unfolding(crate::specs::Text::value_of))]
+fn value(key: Key, ws: &[u32], out: &mut Text)
+    ensures { Grew (value_of key ws.now) out.old out.new }
 {
     match key {
-        Key::Format => Shape::Number,
-        Key::Actions => Shape::Number,
-        Key::Variables => Shape::Number,
-        Key::Variable => Shape::Range,
-        Key::Automata => Shape::Number,
-        Key::Sync => Shape::Set,
-        Key::Locations => Shape::Number,
-        Key::Init => Shape::Predicate,
-        Key::Inv => Shape::Predicate,
-        Key::Edges => Shape::Number,
-        Key::Edge => Shape::Edge,
-        Key::Compose => Shape::Tree,
-        Key::End => Shape::Nothing,
-    }
-}
-
-fn value(key: Key, ws: &[u32], out: &mut [u8], at: Option<usize>) -> Option<usize>
-    ensures { Grew (value_of key ws.now) at out.old out.new result }
-{
-    let s = shape_of(key);
-    match s {
-        Shape::Number => growing::number(word32(ws, 0), out, at),
-        Shape::Range => range(ws, out, at),
-        Shape::Set => crate::tree::set(word32(ws, 0), word32(ws, 1), out, at),
-        Shape::Predicate => predicate::counted(ws, out, at),
-        Shape::Edge => edge(ws, out, at),
-        Shape::Tree => tree(ws, out, at),
-        Shape::Nothing => at,
+        Key::Format | Key::Actions | Key::Variables | Key::Automata | Key::Locations | Key::Edges =>
+            out.number(word32(ws, 0)),
+        Key::Variable => range(ws, out),
+        Key::Sync => crate::tree::set(word32(ws, 0), word32(ws, 1), out),
+        Key::Init | Key::Inv => predicate::counted(ws, out),
+        Key::Edge => edge(ws, out),
+        Key::Compose => tree(ws, out),
+        Key::End => {}
     }
 }
 
@@ -124,25 +97,23 @@ fn among_keys(key: Key) -> Part
 }
 
 // A key, the equals sign with it. All keys stand in one row, for a literal in each arm would be checked much longer.
-fn name(key: Key, out: &mut [u8], at: Option<usize>) -> Option<usize>
-    ensures { Grew (key_text key) at out.old out.new result }
+fn name(key: Key, out: &mut Text)
+    ensures { Grew (key_text key) out.old out.new }
 {
-    let p = among_keys(key);
-    growing::put_part(
+    out.put_part(
         b"format=actions=variables=variable=automata=sync=locations=init=inv=edges=edge=compose=",
-        p,
-        out,
-        at,
-    )
+        among_keys(key),
+    );
 }
 
 // The line with this key whose words these begin with.
-pub(crate) fn line(key: Key, ws: &[u32], out: &mut [u8], at: Option<usize>) -> Option<usize>
-    ensures { Grew (line_of key ws.now) at out.old out.new result }
+#[tactic(auto, using(crate::proofs::GrowingLaws::grew_then), unfolding(crate::specs::Text::line_of))]
+pub(crate) fn line(key: Key, ws: &[u32], out: &mut Text)
+    ensures { Grew (line_of key ws.now) out.old out.new }
 {
-    let a = name(key, out, at);
-    let b = value(key, ws, out, a);
-    growing::put(b"\n", out, b)
+    name(key, out);
+    value(key, ws, out);
+    out.put(b"\n");
 }
 
 // How many words it has; none follows the composition.
@@ -151,18 +122,12 @@ pub(crate) fn size(key: Key, ws: &[u32]) -> usize
     ensures { result ≡ size_of key ws.now }
 {
     match key {
-        Key::Format => 1,
-        Key::Actions => 1,
-        Key::Variables => 1,
+        Key::Format | Key::Actions | Key::Variables | Key::Automata | Key::Locations | Key::Edges =>
+            1,
         Key::Variable => 3,
-        Key::Automata => 1,
         Key::Sync => 2,
-        Key::Locations => 1,
-        Key::Init => 1 + read::count(ws, 0),
-        Key::Inv => 1 + read::count(ws, 0),
-        Key::Edges => 1,
+        Key::Init | Key::Inv => 1 + read::count(ws, 0),
         Key::Edge => 4 + read::count(ws, 3),
-        Key::Compose => 0,
-        Key::End => 0,
+        Key::Compose | Key::End => 0,
     }
 }

@@ -1,4 +1,6 @@
 // Reading words at any place.
+#![tactic(auto, using(crate::proofs::ReadLaws::read_laws))]
+
 ghost use Rattle.std.specs.Prelude.{◌≡◌, ◌<◌, get_or, take, drop};
 
 // The word at a place as a count, 0 past the end.

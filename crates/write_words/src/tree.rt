@@ -1,45 +1,43 @@
 // Sets, and the tree's nodes: `par`, `syn` with its set, `ini` with its P, and leaves.
+#![tactic(auto, using(crate::proofs::NodeLaws::tree_laws))]
+
 ghost use Rattle.std.specs.Prelude.{◌≡◌, drop};
 ghost use Rattle.format.specs.Bytes.{joined, space};
 ghost use Rattle.write_words.specs.Growing.{Grew};
 ghost use Rattle.write_words.specs.NodeText.{member_text, members_text, set_text, is_ini, over_text, node_text};
 ghost use Rattle.write_words.specs.NodeText.{node_size, starts_after, node_texts};
 
-use crate::growing::{self};
+use crate::growing::Text;
 use crate::read::{self};
 use table_places::word32;
 
 // A number, if it is in the set.
-fn member(is_in: bool, first: bool, k: u32, out: &mut [u8], at: Option<usize>) -> Option<usize>
-    ensures { Grew (member_text is_in first k) at out.old out.new result }
+fn member(is_in: bool, first: bool, k: u32, out: &mut Text)
+    ensures { Grew (member_text is_in first k) out.old out.new }
 {
-    if !is_in {
-        return at;
+    if is_in {
+        out.apart(b",", first);
+        out.number(k);
     }
-    let a = growing::apart(b",", first, out, at);
-    growing::number(k, out, a)
 }
 
 // The members of a set of 64 bits, which rise, and commas between them.
-pub(crate) fn members(both: u64, out: &mut [u8], at: Option<usize>) -> Option<usize>
-    ensures { Grew (members_text both) at out.old out.new result }
+pub(crate) fn members(both: u64, out: &mut Text)
+    ensures { Grew (members_text both) out.old out.new }
 {
-    let mut end = at;
     let mut first = true;
     for k in 0..64 {
         let is_in = table_tree::in_word(both, k);
-        end = member(is_in, first, k, out, end);
-        first = first & !is_in;
+        member(is_in, first, k, out);
+        first &= !is_in;
     }
-    end
 }
 
 // The actions of a set of two words.
-pub(crate) fn set(low: u32, high: u32, out: &mut [u8], at: Option<usize>) -> Option<usize>
-    ensures { Grew (set_text low high) at out.old out.new result }
+pub(crate) fn set(low: u32, high: u32, out: &mut Text)
+    ensures { Grew (set_text low high) out.old out.new }
 {
-    let both = table_tree::set_of(low, high);
-    members(both, out, at)
+    members(table_tree::set_of(low, high), out);
 }
 
 // Is the node that the words begin with an `ini`? Its words are those of a `syn` with no action.
@@ -51,31 +49,30 @@ fn is_ini(ws: &[u32]) -> bool
 }
 
 // An `ini` with its P, or a `syn` with its set.
-fn over(ws: &[u32], ps: &[u32], out: &mut [u8], at: Option<usize>) -> Option<usize>
-    ensures { Grew (over_text (is_ini ws.now) ws.now ps.now)
-        at out.old out.new result }
+fn over(ws: &[u32], ps: &[u32], out: &mut Text)
+    ensures { Grew (over_text (is_ini ws.now) ws.now ps.now) out.old out.new }
 {
     if is_ini(ws) {
-        let a = growing::put(b"ini ", out, at);
-        return crate::predicate::counted(ps, out, a);
+        out.put(b"ini ");
+        crate::predicate::counted(ps, out);
+    } else {
+        out.put(b"syn ");
+        set(word32(ws, 1), word32(ws, 2), out);
     }
-    let a = growing::put(b"syn ", out, at);
-    set(word32(ws, 1), word32(ws, 2), out, a)
 }
 
 // The node that the words begin with; its P, if it is an `ini`, is the one that `ps` begins with.
-fn node(ws: &[u32], ps: &[u32], out: &mut [u8], at: Option<usize>) -> Option<usize>
-    ensures { Grew (node_text ws.now ps.now) at out.old out.new result }
+fn node(ws: &[u32], ps: &[u32], out: &mut Text)
+    ensures { Grew (node_text ws.now ps.now) out.old out.new }
 {
-    let w = word32(ws, 0);
-    if w == 0 {
-        return growing::put(b"par", out, at);
+    match word32(ws, 0) {
+        0 => out.put(b"par"),
+        1 => over(ws, ps, out),
+        w => {
+            out.put(b"a");
+            out.number(w - 2);
+        }
     }
-    if w == 1 {
-        return over(ws, ps, out, at);
-    }
-    let a = growing::put(b"a", out, at);
-    growing::number(w - 2, out, a)
 }
 
 // How many words it has.
@@ -96,26 +93,18 @@ fn after(ws: &[u32], ps: &[u32], at: usize) -> usize
 }
 
 // So many nodes, and spaces between them; `ps` are the P's, in the order of the `ini`.
-pub(crate) fn nodes(
-    ws: &[u32],
-    n: usize,
-    ps: &[u32],
-    out: &mut [u8],
-    at: Option<usize>,
-) -> Option<usize>
-    ensures { Grew (joined space (node_texts n ws.now ps.now))
-        at out.old out.new result }
+#[tactic(auto, using(crate::proofs::NodeLaws::nodes_laws))]
+pub(crate) fn nodes(ws: &[u32], n: usize, ps: &[u32], out: &mut Text)
+    ensures { Grew (joined space (node_texts n ws.now ps.now)) out.old out.new }
 {
-    let mut end = at;
     let mut next: usize = 0;
     let mut start: usize = 0;
     for i in 0..n {
         let here = read::rest(ws, next);
         let later = after(here, ps, start);
-        let a = growing::apart(b" ", i == 0, out, end);
-        end = node(here, read::rest(ps, start), out, a);
+        out.apart(b" ", i == 0);
+        node(here, read::rest(ps, start), out);
         next = table_places::step(ws, next, size(here));
         start = later;
     }
-    end
 }

@@ -1,10 +1,7 @@
 -- `judge_runs::all` meets its contract: the run goes on to the same end.
-use Rattle.judge_runs.proofs.RunCodeLaws.{all_laws, going_on}
-use Rattle.std.proofs.Common.{arith, rules}
+use Rattle.judge_runs.proofs.RunCodeLaws.{going_on}
+use Rattle.std.proofs.Common.{arith}
 use Rattle.judge_runs.proofs.all.Goals as goal
-
-pub loop-k-init : goal.loop-k-init
-loop-k-init c = search (rules, all_laws)
 
 pub loop-k-preserved : goal.loop-k-preserved
 loop-k-preserved c =
@@ -12,6 +9,3 @@ loop-k-preserved c =
     (omega arith) (λ h. omega arith) (omega arith) (λ h. omega arith)
     c.put-turn.result _ _ _ _ c.split_at.ensures.front c.split_at.ensures.back c.split_at-in-loop-k.ensures.front c.split_at-in-loop-k.ensures.back
     c.put-turn.ensures
-
-pub returns : goal.returns
-returns c = search (rules, all_laws)

@@ -5,5 +5,8 @@ use Rattle.judge_runs.proofs.all.Given as goal
 
 abbrev pub invariant-loop-k : goal.invariant-loop-k
 invariant-loop-k l =
-    Going l.words l.x l.own l.n l.v l.actions (go_on l.words l.x l.own l.n l.v l.initial.s l.initial.answers 0 l.actions l.new_locations l.new_values)
+    let w = l.sheet.words.now in
+    let x = l.sheet.layout in
+    let actions = l.proposals.actions.now in
+    Going w x l.own l.n l.v actions (go_on w x l.own l.n l.v l.initial.s l.initial.answers 0 actions l.proposals.locations.now l.proposals.values.now)
     l.answers l.s l.all_locations l.all_values l.k

@@ -8,4 +8,4 @@ use Rattle.judge_settled.proofs.all_hold.Goals as goal
 
 pub returns : goal.returns
 returns c =
-    all_walked _ _ _ _ _ _ c.automata_of.ensures.value (each_ran (holds_at c.args.words.now c.args.x c.args.part c.args.s c.args.x.sets) c.automata_of.result _ _ _ c.all.ensures.ran (cc) (λ x b q k. search (rules, tests)))
+    all_walked _ _ _ _ _ _ c.automata_of-n.ensures.value (each_ran (holds_at c.args.sheet.now.words.now c.args.sheet.now.layout c.args.part c.args.s c.args.sheet.now.layout.sets) c.automata_of-n.result _ _ _ c.all.ensures.ran (cc) (λ x b q k. search (rules, tests)))

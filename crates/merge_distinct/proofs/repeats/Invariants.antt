@@ -4,6 +4,6 @@ use Prim.Native.Nat.{◌-◌}
 use Rattle.merge_distinct.specs.Distinct.{repeats_from}
 use Rattle.merge_distinct.proofs.repeats.Given as goal
 
-abbrev pub invariant-loop-i : goal.invariant-loop-i
-invariant-loop-i l =
-    repeats_from l.t l.x.edges l.i (l.count - l.i) ≡ repeats_from l.t l.x.edges 0 l.count
+abbrev pub invariant-loop-edges : goal.invariant-loop-edges
+invariant-loop-edges l =
+    repeats_from l.t l.fn.x.edges l.edges-index (l.count - l.edges-index) ≡ repeats_from l.t l.fn.x.edges 0 l.count

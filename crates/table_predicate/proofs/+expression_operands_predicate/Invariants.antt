@@ -16,4 +16,4 @@ decreases-predicate l = 2 * l.left
 
 abbrev pub invariant-operands-loop : goal.invariant-operands-loop
 invariant-operands-loop l =
-    gather (predicate_at l.words l.ranges l.left) (l.count - l.counter) l.reach ≡ gather (predicate_at l.words l.ranges l.left) l.count l.initial.reach
+    gather (predicate_at l.words l.ranges l.left) (l.count - l.counter) l.walk ≡ gather (predicate_at l.words l.ranges l.left) l.count l.initial.walk

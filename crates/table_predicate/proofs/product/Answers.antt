@@ -2,7 +2,7 @@
 use mir.Syntax.{w64}
 use mir.ValLaws.{to_z-of_z}
 use Rattle.model.specs.Predicate.{range, hull, times}
-use Rattle.table_predicate.specs.Walk.{ends}
+use Rattle.table_predicate.specs.Walk.{span}
 use Rattle.table_predicate.proofs.ReachLaws.{reached_times}
 use Rattle.table_predicate.proofs.product.Goals as goal
 
@@ -11,8 +11,8 @@ unfolding times hull range
 returns c = let p2 = c in
     let p1 = p2 in
     let s = p1 in
-    let tx = p1.struct_told-1.given.1 in
-    let ty = p1.struct_told-2-1.given.1 in
+    let tx = p1.struct_told-1.given in
+    let ty = p1.struct_told-2-1.given in
     let xl = to_z-of_z w64 s.args.x.low (record { sfits = tx.0.1 }) in
     let xh = to_z-of_z w64 s.args.x.high (record { sfits = tx.1.0.1 }) in
     let yl = to_z-of_z w64 s.args.y.low (record { sfits = ty.0.1 }) in
@@ -40,4 +40,4 @@ returns c = let p2 = c in
       c.product-c.ensures,
       c.product-d.ensures,
     )
-    (simp (xl, xh, yl, yh) (reached_times _ (ends s.args.x) (ends s.args.y)))
+    (simp (xl, xh, yl, yh) (reached_times _ (span s.args.x) (span s.args.y)))

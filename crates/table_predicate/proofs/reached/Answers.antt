@@ -10,4 +10,4 @@ pub returns : goal.returns
 unfolding reached range in_span
 returns c = let low = c.ranges.low in
     let high = c.ranges.high in
-    rw (cut_fits c.args.low low, cut_fits c.args.high high, c.in_span-stays.ensures, to_z-of_z w64 c.args.low low, to_z-of_z w64 c.args.high high, in_span)
+    rw (cut_fits c.args.low low, cut_fits c.args.high high, c.in_span.ensures, to_z-of_z w64 c.args.low low, to_z-of_z w64 c.args.high high, in_span)

@@ -9,8 +9,8 @@ use Rattle.table_predicate.proofs.sum.Goals as goal
 
 pub returns : goal.returns
 unfolding plus range
-returns c = let tx = c.struct_told-1.given.1 in
-    let ty = c.struct_told-2-1.given.1 in
+returns c = let tx = c.struct_told-1.given in
+    let ty = c.struct_told-2-1.given in
     let xl = to_z-of_z w64 c.args.x.low (record { sfits = tx.0.1 }) in
     let xh = to_z-of_z w64 c.args.x.high (record { sfits = tx.1.0.1 }) in
     let yl = to_z-of_z w64 c.args.y.low (record { sfits = ty.0.1 }) in

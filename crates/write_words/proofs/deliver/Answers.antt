@@ -9,14 +9,5 @@ returns-in_default c = search (rules, deliver_laws)
 pub returns-then-out-n : goal.returns-then-out-n
 returns-then-out-n c = search (rules, deliver_laws)
 
-pub slice_bounds-copy_from_slice-end-3 : goal.slice_bounds-copy_from_slice-end-3
-slice_bounds-copy_from_slice-end-3 c = search (rules, deliver_laws)
-
-pub slice_bounds-copy_from_slice-end-4 : goal.slice_bounds-copy_from_slice-end-4
-slice_bounds-copy_from_slice-end-4 c = search (rules, deliver_laws)
-
-pub copy_from_slice-requires : goal.copy_from_slice-requires
-copy_from_slice-requires c = search (rules, deliver_laws)
-
 pub returns : goal.returns
 returns c = search (rules, deliver_laws)

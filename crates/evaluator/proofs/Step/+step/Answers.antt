@@ -7,7 +7,7 @@ use Prim.Native.Nat.{◌-◌}
 use native.Mathlib.Omega.{arith}
 use Rattle.evaluator.specs.Evaluate.{gather}
 use Rattle.evaluator.proofs.Steps.{predicate_left, expression_left}
-use Rattle.evaluator.proofs.NodeLaws.{predicate_laws, gather_more, gather_stops}
+use Rattle.evaluator.proofs.NodeLaws.{predicate_laws, gather_more}
 use Rattle.evaluator.proofs.Step.+step.Goals as goal
 
 pub choice-numbers-requires : goal.choice-numbers-requires
@@ -20,14 +20,6 @@ implication-predicate-requires t c = let l = predicate_left _ _ _ _ _ _ c.predic
 
 pub numbers-expression-y-requires : goal.numbers-expression-y-requires
 numbers-expression-y-requires t c = let l = expression_left _ _ _ _ _ _ c.expression-x.ensures in
-    search rules
-
-pub operands-returns-then-rest-eq0 : goal.operands-returns-then-rest-eq0
-operands-returns-then-rest-eq0 t c =
-    gather_stops _ _ _ _ _ _ _ _ _ c.loop-test.true c.if-rest-eq0.true ∙ c.loop.invariant.1
-
-pub operands-predicate-p-requires : goal.operands-predicate-p-requires
-operands-predicate-p-requires t c = let l = c.loop.invariant.0 in
     search rules
 
 pub operands-loop-preserved : goal.operands-loop-preserved

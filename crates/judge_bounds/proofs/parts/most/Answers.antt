@@ -8,6 +8,3 @@ loop-k-init c = search (rules, spreading_laws)
 pub loop-k-preserved : goal.loop-k-preserved
 loop-k-preserved c = let l = c.loop-k in
     spreading_more _ _ _ _ _ l.m l.k l.invariant c.loop-k-test.true _ c.in_ok-m.ensures
-
-pub returns : goal.returns
-returns c = search (rules, spreading_laws)

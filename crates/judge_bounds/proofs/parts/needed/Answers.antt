@@ -2,17 +2,8 @@ use Rattle.judge_bounds.proofs.PartLaws.{needing_laws, needing_more}
 use borrow.Author.Rules.{rules}
 use Rattle.judge_bounds.proofs.parts.needed.Goals as goal
 
-pub loop-rest-init : goal.loop-rest-init
-loop-rest-init c = search (rules, needing_laws)
-
 pub returns-then-not-sound : goal.returns-then-not-sound
 returns-then-not-sound c = search (rules, needing_laws)
-
-pub pieces-need-requires : goal.pieces-need-requires
-pieces-need-requires c = (c.in-Some.ensures.lower_bound, c.in-Some.ensures.upper_bound)
-
-pub loop-rest-smaller : goal.loop-rest-smaller
-loop-rest-smaller c = (c.sound.ensures c.if-not-sound.false).less
 
 pub loop-rest-preserved : goal.loop-rest-preserved
 loop-rest-preserved c = let l = c.loop-rest in

@@ -1,12 +1,7 @@
-use Prim.Native.Nat.{◌+◌, ◌-◌, ◌≤◌}
-use native.Mathlib.Omega.{arith}
-use lib.Bits.{and_le_r}
+use Prim.Native.Nat.{◌+◌, ◌≤◌}
 use Rattle.judge_bounds.proofs.WeightLaws.{weighing_laws, weighing_more, weighing_done, weighing_small}
 use borrow.Author.Rules.{rules}
 use Rattle.judge_bounds.proofs.weights.weigh.Goals as goal
-
-pub loop-rest-smaller : goal.loop-rest-smaller
-loop-rest-smaller c = omega (arith, and_le_r c.loop-rest.rest (c.loop-rest.rest - 1))
 
 pub loop-rest-preserved : goal.loop-rest-preserved
 loop-rest-preserved c = search (rules, weighing_laws)

@@ -8,4 +8,4 @@ use Rattle.judge_call.proofs.owners.owned_keep.Goals as goal
 
 pub returns : goal.returns
 returns c =
-    owned_walked _ _ _ _ _ _ c.variables_of.ensures.value (each_ran (keeps_at c.args.words.now c.args.s.values c.args.t.values) c.variables_of.result _ _ _ c.all.ensures.ran (cc) (λ x b q k. search (rules, tests)))
+    owned_walked _ _ _ _ _ _ c.variables_of-v.ensures.value (each_ran (keeps_at c.args.sheet.now.words.now c.args.s.values c.args.t.values) c.variables_of-v.result _ _ _ c.all.ensures.ran (cc) (λ x b q k. search (rules, tests)))

@@ -1,13 +1,7 @@
 -- `judge_candidates::edges::gather` meets its contract: k automata have been passed.
-use Rattle.judge_candidates.proofs.WalkLaws.{walk_laws, passing_next}
-use Rattle.std.proofs.Common.{arith, rules}
+use Rattle.judge_candidates.proofs.WalkLaws.{passing_next}
+use Rattle.std.proofs.Common.{arith}
 use Rattle.judge_candidates.proofs.edges.gather.Goals as goal
-
-pub loop-k-init : goal.loop-k-init
-loop-k-init c = search (rules, walk_laws)
 
 pub loop-k-preserved : goal.loop-k-preserved
 loop-k-preserved c = passing_next _ _ _ _ _ _ _ _ _ _ _ _ _ c.loop-k.invariant (omega arith) _ c.leg_of-leg.ensures _ _ c.automaton-count.ensures
-
-pub returns : goal.returns
-returns c = search (rules, walk_laws)

@@ -10,6 +10,3 @@ pub loop-k-preserved : goal.loop-k-preserved
 loop-k-preserved c = let l = c.loop-k in
     gathering_more _ _ l.starts l.ends l.n l.k l.invariant c.loop-k-test.true _ _
     c.place.ensures c.place-in-loop-k.ensures _ c.in_word.ensures _ (advanced_is _ _ _ c.from-n.ensures)
-
-pub returns : goal.returns
-returns c = search (rules, gathering_laws)

@@ -8,4 +8,4 @@ use Rattle.judge_rows.proofs.rows.locations_known.Goals as goal
 
 pub returns : goal.returns
 returns c =
-    locations_walked _ _ _ _ _ c.automata_of.ensures.value (each_ran (known_at c.args.words.now c.args.locations.now c.args.x.sets) c.automata_of.result _ _ _ c.all.ensures.ran (cc) (λ x b q k. search (rules, tests)))
+    locations_walked _ _ _ _ _ c.automata_of-n.ensures.value (each_ran (known_at c.args.sheet.now.words.now c.args.locations.now c.args.sheet.now.layout.sets) c.automata_of-n.result _ _ _ c.all.ensures.ran (cc) (λ x b q k. search (rules, tests)))

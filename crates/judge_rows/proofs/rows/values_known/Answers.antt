@@ -8,4 +8,4 @@ use Rattle.judge_rows.proofs.rows.values_known.Goals as goal
 
 pub returns : goal.returns
 returns c =
-    values_walked _ _ _ _ (each_ran (range_has c.args.words.now c.args.values.now) c.args.x.variables _ _ _ c.all.ensures.ran (cc) (λ x b q k. search (rules, tests)))
+    values_walked _ _ _ _ (each_ran (range_has c.args.sheet.now.words.now c.args.values.now) c.args.sheet.now.layout.variables _ _ _ c.all.ensures.ran (cc) (λ x b q k. search (rules, tests)))

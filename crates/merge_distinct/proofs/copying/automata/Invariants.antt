@@ -6,5 +6,5 @@ use Rattle.merge_distinct.proofs.copying.automata.Given as goal
 
 abbrev pub invariant-loop-i : goal.invariant-loop-i
 invariant-loop-i l =
-    Underway (automata_words l.t l.x.sets l.x.edges 0 l.count) l.at l.initial.out
-    (automata_words l.t l.x.sets l.x.edges l.i (l.count - l.i)) l.next l.out
+    Underway (automata_words l.t l.fn.x.sets l.fn.x.edges 0 l.count) l.initial.out
+    (automata_words l.t l.fn.x.sets l.fn.x.edges l.i (l.count - l.i)) l.out

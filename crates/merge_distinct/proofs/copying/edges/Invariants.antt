@@ -6,5 +6,5 @@ use Rattle.merge_distinct.proofs.copying.edges.Given as goal
 
 abbrev pub invariant-loop-first : goal.invariant-loop-first
 invariant-loop-first l =
-    Underway (edge_words l.t l.first-items) l.at l.initial.out
-    (edge_words l.t (drop l.first-index l.first-items)) l.next l.out
+    Underway (edge_words l.t l.first-items) l.initial.out
+    (edge_words l.t (drop l.first-index l.first-items)) l.out

@@ -6,5 +6,5 @@ use Rattle.merge_edges.proofs.edge.pointer_moves.Given as goal
 
 abbrev pub invariant-loop-i : goal.invariant-loop-i
 invariant-loop-i l =
-    Underway (moves_at l.t l.variables 0 l.place-items) l.at l.initial.out
-    (moves_at l.t l.variables l.i (drop l.i l.place-items)) l.next l.out
+    Underway (moves_at l.t l.variables 0 l.place-items) l.initial.out
+    (moves_at l.t l.variables l.i (drop l.i l.place-items)) l.out

@@ -6,5 +6,5 @@ use Rattle.merge_edges.proofs.edge.updates.Given as goal
 
 abbrev pub invariant-loop-place : goal.invariant-loop-place
 invariant-loop-place l =
-    Underway (updates_at l.t l.place-items) l.at l.initial.out
-    (updates_at l.t (drop l.place-index l.place-items)) l.next l.out
+    Underway (updates_at l.t l.place-items) l.initial.out
+    (updates_at l.t (drop l.place-index l.place-items)) l.out

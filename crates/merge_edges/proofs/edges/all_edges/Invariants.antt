@@ -6,5 +6,5 @@ use Rattle.merge_edges.proofs.edges.all_edges.Given as goal
 
 abbrev pub invariant-loop : goal.invariant-loop
 invariant-loop l =
-    Underway (edges_from l.t l.variables l.list 0 l.count) l.at l.initial.out
-    (edges_from l.t l.variables l.list l.place (l.count - l.counter)) l.next l.out
+    Underway (edges_from l.t l.variables l.list 0 l.count) l.initial.out
+    (edges_from l.t l.variables l.list l.place (l.count - l.counter)) l.out

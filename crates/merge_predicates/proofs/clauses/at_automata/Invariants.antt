@@ -6,5 +6,5 @@ use Rattle.merge_predicates.proofs.clauses.at_automata.Given as goal
 
 abbrev pub invariant-loop-i : goal.invariant-loop-i
 invariant-loop-i l =
-    Underway (function_clauses l.t l.f.domains l.f.places l.x.variables 0 l.count 0) l.at l.initial.out
-    (function_clauses l.t l.f.domains l.f.places l.x.variables l.i (l.count - l.i) l.first) l.next l.out
+    Underway (function_clauses l.t l.f.domains l.f.places l.x.variables 0 l.count 0) l.initial.out
+    (function_clauses l.t l.f.domains l.f.places l.x.variables l.i (l.count - l.i) l.first) l.out

@@ -6,5 +6,5 @@ use Rattle.merge_predicates.proofs.clauses.at_locations.Given as goal
 
 abbrev pub invariant-loop-j : goal.invariant-loop-j
 invariant-loop-j l =
-    Underway (value_clauses l.t l.places l.first l.k 0 l.count) l.at l.initial.out
-    (value_clauses l.t l.places l.first l.k l.j (l.count - l.j)) l.next l.out
+    Underway (value_clauses l.t l.places l.first l.k 0 l.count) l.initial.out
+    (value_clauses l.t l.places l.first l.k l.j (l.count - l.j)) l.out

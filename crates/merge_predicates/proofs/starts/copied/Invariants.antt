@@ -6,5 +6,5 @@ use Rattle.merge_predicates.proofs.starts.copied.Given as goal
 
 abbrev pub invariant-loop : goal.invariant-loop
 invariant-loop l =
-    Underway (start_nodes_at l.t l.initial.place l.end) l.at l.initial.out
-    (start_nodes_at l.t l.place (l.end - l.counter)) l.next l.out
+    Underway (start_nodes_at l.t l.initial.place l.end) l.initial.out
+    (start_nodes_at l.t l.place (l.end - l.counter)) l.out

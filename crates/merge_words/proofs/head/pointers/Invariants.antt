@@ -6,5 +6,5 @@ use Rattle.merge_words.proofs.head.pointers.Given as goal
 
 abbrev pub invariant-loop-place : goal.invariant-loop-place
 invariant-loop-place l =
-    Underway (pointers_from l.t l.fn.x.sets 0 l.count) l.at l.initial.out
-    (pointers_from l.t l.fn.x.sets l.place-index (l.count - l.place-index)) l.next l.out
+    Underway (pointers_from l.t l.fn.x.sets 0 l.count) l.initial.out
+    (pointers_from l.t l.fn.x.sets l.place-index (l.count - l.place-index)) l.out

@@ -6,4 +6,4 @@ use Rattle.merge_words.proofs.head.variables.Given as goal
 
 abbrev pub invariant-loop-k : goal.invariant-loop-k
 invariant-loop-k l =
-    Underway (variables_from l.t 0 l.count) l.at l.initial.out (variables_from l.t l.k (l.count - l.k)) l.next l.out
+    Underway (variables_from l.t 0 l.count) l.initial.out (variables_from l.t l.k (l.count - l.k)) l.out

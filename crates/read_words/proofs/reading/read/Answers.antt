@@ -6,9 +6,6 @@ use Rattle.text_bytes.proofs.Splits.{parts_turn, parts_over}
 use Rattle.read_words.proofs.ReadLaws.{read_laws}
 use Rattle.read_words.proofs.reading.read.Goals as goal
 
-pub loop-token-init : goal.loop-token-init
-loop-token-init c = search (rules, read_laws)
-
 pub loop-token-preserved-then-not-is_word : goal.loop-token-preserved-then-not-is_word
 loop-token-preserved-then-not-is_word c =
     let turn = YieldsList-turn

@@ -7,9 +7,6 @@ use borrow.Author.Rules.{rules}
 use Rattle.table_check.proofs.SheetLaws.{sheet_laws}
 use Rattle.table_check.proofs.sheet.sheet.Goals as goal
 
-pub loop-init : goal.loop-init
-loop-init c = search (rules, sheet_laws)
-
 pub returns-then-end : goal.returns-then-end
 returns-then-end c =
     let more : table_words + 1 - c.loop.counter ≡ suc (table_words + 1 - (c.loop.counter + 1)) = omega arith in
@@ -24,6 +21,3 @@ pub loop-preserved : goal.loop-preserved
 loop-preserved c =
     let more : table_words + 1 - c.loop.counter ≡ suc (table_words + 1 - (c.loop.counter + 1)) = omega arith in
     search (rules, sheet_laws)
-
-pub returns : goal.returns
-returns c = search (rules, sheet_laws)

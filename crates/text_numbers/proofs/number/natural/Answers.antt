@@ -3,15 +3,6 @@ use Rattle.text_numbers.proofs.NumberLaws.{natural_laws}
 use Rattle.text_numbers.proofs.number.natural.Goals as goal
 use Rattle.text_numbers.proofs.number.natural.Goals.{in_default-via-then-s-lt2+in_default-1, in_default-via-else-s-lt2+in_default-1}
 
-pub returns-in-empty : goal.returns-in-empty
-returns-in-empty c = search (rules, natural_laws)
-
-pub returns-in-48 : goal.returns-in-48
-returns-in-48 c = search (rules, natural_laws)
-
-pub returns-in-48-2 : goal.returns-in-48-2
-returns-in-48-2 c = search (rules, natural_laws)
-
 pub returns-in_default : goal.returns-in_default
 returns-in_default c =
     elim c.in_default.branch [

@@ -1,8 +1,7 @@
--- `write_words::predicate::name` meets its contract: each way out is a law of WordLaws.
-use Rattle.write_words.proofs.WordLaws.{in_names, name_grew}
+-- `write_words::predicate::name` meets its contract: the part of the row is the name.
+use Rattle.write_words.proofs.WordLaws.{name_grew}
 use borrow.Author.Rules.{rules}
 use Rattle.write_words.proofs.predicate.name.Goals as goal
 
 pub returns : goal.returns
-unfolding in_names
 returns c = search (rules, name_grew)

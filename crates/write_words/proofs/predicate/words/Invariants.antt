@@ -5,4 +5,4 @@ use Rattle.write_words.specs.NodeText.{words_text}
 use Rattle.write_words.proofs.predicate.words.Given as goal
 
 abbrev pub invariant-loop-i : goal.invariant-loop-i
-invariant-loop-i l = Grew (words_text (take l.i l.ws)) l.initial.end l.initial.out l.out l.end
+invariant-loop-i l = Grew (words_text (take l.i l.ws)) l.initial.out l.out

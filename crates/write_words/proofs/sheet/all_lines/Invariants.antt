@@ -7,4 +7,4 @@ use Rattle.write_words.proofs.sheet.all_lines.Given as goal
 
 abbrev pub invariant-loop : goal.invariant-loop
 invariant-loop l =
-    Going (lines_from (rounds - l.counter) l.due (drop l.at l.table)) l.end l.out (sheet_text l.table) l.initial.out
+    Going (lines_from (rounds - l.counter) l.due (drop l.at l.table)) (sheet_text l.table) l.initial.out l.out

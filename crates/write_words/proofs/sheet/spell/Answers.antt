@@ -4,10 +4,10 @@ use borrow.Author.Rules.{rules}
 use Rattle.write_words.proofs.sheet.spell.Goals as goal
 
 pub returns-in_err-n : goal.returns-in_err-n
-returns-in_err-n c = search (rules, spell_laws, c.in_err-n.ensures)
+returns-in_err-n c = search (rules, spell_laws, c.in_err-n.was)
 
-pub returns-then-n-out : goal.returns-then-n-out
-returns-then-n-out c = search (rules, spell_laws, c.in_ok-n.ensures)
+pub returns-then-n-text : goal.returns-then-n-text
+returns-then-n-text c = search (rules, spell_laws, c.in_ok-n.was)
 
-pub returns-else-n-out : goal.returns-else-n-out
-returns-else-n-out c = search (rules, spell_laws, c.in_ok-n.ensures)
+pub returns-else-n-text : goal.returns-else-n-text
+returns-else-n-text c = search (rules, spell_laws, c.in_ok-n.was)

@@ -8,5 +8,5 @@ use Rattle.write_words.proofs.tree.members.Given as goal
 
 abbrev pub invariant-loop-k : goal.invariant-loop-k
 invariant-loop-k l =
-    Grew (text_of_list (members_below l.both l.k)) l.initial.end l.initial.out l.out l.end ×
+    Grew (text_of_list (members_below l.both l.k)) l.initial.out l.out ×
     (l.first ≡ is_none (members_below l.both l.k))

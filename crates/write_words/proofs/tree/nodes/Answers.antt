@@ -8,6 +8,3 @@ loop-i-init c = search (rules, nodes_laws)
 
 pub loop-i-preserved : goal.loop-i-preserved
 loop-i-preserved c = search (rules, nodes_laws)
-
-pub returns : goal.returns
-returns c = search (rules, nodes_laws)

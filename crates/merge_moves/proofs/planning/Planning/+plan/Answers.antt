@@ -1,16 +1,8 @@
--- `merge_moves::planning::Planning::plan` calls itself, and meets its contract: each way out is two laws of PlanLaws,
--- of
--- the answer and of the cells. The measure is the nodes left.
-use Rattle.merge_moves.proofs.PlanLaws.{plan_laws, fill_laws, plan_par, fill_par, plan_left}
+-- `merge_moves::planning::Planning::plan` calls itself, and meets its contract. The ways out that the check does not find
+-- alone are two laws of PlanLaws each, of the answer and of the cells.
+use Rattle.merge_moves.proofs.PlanLaws.{plan_laws, fill_laws, plan_par, fill_par}
 use borrow.Author.Rules.{rules}
 use Rattle.merge_moves.proofs.planning.Planning.+plan.Goals as goal
-
-pub returns-then-left-eq0 : goal.returns-then-left-eq0
-returns-then-left-eq0 t c = record { answer = search (rules, plan_laws); cells = search (rules, fill_laws) }
-
-pub plan-d-requires : goal.plan-d-requires
-plan-d-requires t c = let l = plan_left _ _ _ _ _ _ _ c.plan-c.ensures.answer in
-    search rules
 
 pub returns-in-Par : goal.returns-in-Par
 returns-in-Par t c = record {
@@ -28,6 +20,3 @@ returns-in-Syn t c = record { answer = search (rules, plan_laws); cells = search
 
 pub returns-in-Leaf : goal.returns-in-Leaf
 returns-in-Leaf t c = record { answer = search (rules, plan_laws); cells = search (rules, fill_laws) }
-
-pub returns-in-Stray : goal.returns-in-Stray
-returns-in-Stray t c = record { answer = search (rules, plan_laws); cells = search (rules, fill_laws) }

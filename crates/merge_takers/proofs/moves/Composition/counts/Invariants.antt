@@ -3,4 +3,4 @@ use Rattle.merge_takers.proofs.MovesLaws.{Counting}
 use Rattle.merge_takers.proofs.moves.Composition.counts.Given as goal
 
 abbrev pub invariant-loop-i : goal.invariant-loop-i
-invariant-loop-i l = Counting l.self.words.now l.self.layout.edges l.action l.count l.i l.under
+invariant-loop-i l = Counting l.fn.self.words.now l.fn.self.layout.edges l.action l.count l.i l.under

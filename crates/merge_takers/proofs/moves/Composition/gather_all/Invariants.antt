@@ -6,5 +6,5 @@ use Rattle.merge_takers.proofs.moves.Composition.gather_all.Given as goal
 
 abbrev pub invariant-loop-action : goal.invariant-loop-action
 invariant-loop-action l =
-    Underway (takers_in l.self.words.now l.self.layout l.self.own.now) 0 l.initial.list
-    (takers_of l.self.words.now l.self.layout l.self.own.now l.action (l.action-end + 1 - l.action)) l.next l.list
+    Underway (takers_in l.self.words.now l.self.layout l.self.own.now) l.initial.list
+    (takers_of l.self.words.now l.self.layout l.self.own.now l.action (l.action-end + 1 - l.action)) l.list

@@ -6,5 +6,5 @@ use Rattle.merge_takers.proofs.moves.Composition.gather_moves.Given as goal
 
 abbrev pub invariant-loop-k : goal.invariant-loop-k
 invariant-loop-k l =
-    Underway (takers_from l.self.words.now l.self.layout l.cells l.action 0 l.count) l.at l.initial.list
-    (takers_from l.self.words.now l.self.layout l.cells l.action l.k (l.count - l.k)) l.next l.list
+    Underway (takers_from l.self.words.now l.self.layout l.cells l.action 0 l.count) l.initial.list
+    (takers_from l.self.words.now l.self.layout l.cells l.action l.k (l.count - l.k)) l.list

@@ -1,9 +1,0 @@
--- `evaluator::nodes::multiplied` meets its contract: the machine reads each number back as the same.
-use borrow.Author.Rules.{rules}
-use mir.Syntax.{w64}
-use mir.ValLaws.{to_z-of_z}
-use Rattle.evaluator.proofs.nodes.multiplied.Goals as goal
-
-pub returns : goal.returns
-returns c = let n = c.args.n in
-    rw (to_z-of_z w64 _ (record { sfits = c.product.type_inv }), c.product.ensures, to_z-of_z w64 n.first (search rules), to_z-of_z w64 n.second (search rules))

@@ -1,7 +1,0 @@
--- `merge_append::append::put` meets its contract.
-use Rattle.merge_append.proofs.AppendLaws.{put_is}
-use borrow.Author.Rules.{rules}
-use Rattle.merge_append.proofs.append.put.Goals as goal
-
-pub returns : goal.returns
-returns c = search (rules, put_is)
