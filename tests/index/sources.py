@@ -18,6 +18,7 @@ Statement = collections.namedtuple('Statement', 'name kind path comment states')
 # A part of an antt file that has declarations in it, and the column that they begin in.
 Block = collections.namedtuple('Block', 'kind column')
 
+NUMBERS = {'u32'}  # of Rust's own types those that have a trait of a crate here
 WORD = r"[^\s(){}:;,.=λ→]+"
 SIGNATURE = re.compile(rf'((?:(?:pub|unfoldable|abbrev|record|data) )*)({WORD}(?: {WORD})*) *(?:[({{][^=]*)?:(?: |$)')
 HEADER = re.compile(rf'((?:pub |unfoldable |abbrev )*)(module|record|data|mutual)\b(?: ({WORD}))?')
@@ -153,15 +154,19 @@ def sentence(comment):
 
 @functools.lru_cache(maxsize=None)
 def functions_of(text):
-    """The functions of a source file, those of an impl by TYPE::NAME: all of them, and the public ones."""
-    every, public, owner = [], [], ''
+    """The functions of a source file, those of an impl by TYPE::NAME: all of them, and the public ones. Those of a trait
+    are public, unless a type that the file keeps to itself stands in the impl's head."""
+    every, public, owner, of_trait = [], [], '', False
+    kept = set(re.findall(r'^(?:struct|enum) (\w+)', text, re.M))
     for line in text.splitlines():
-        begun = re.match(r"impl(?:<[^>]*>)? (\w+)", line)
-        owner = begun.group(1) + '::' if begun else '' if line.startswith('}') else owner
+        begun = re.match(r'impl(?:<[^>]*>)? (?:([\w:]+(?:<[^>]*>)?) for )?(\w+)', line)
+        if begun or line.startswith('}'):
+            owner = begun.group(2) + '::' if begun else ''
+            of_trait = bool(begun and begun.group(1)) and not kept & set(re.findall(r'\w+', line))
         head = re.match(r' *(pub )?(?:extern "C" )?fn (\w+)', line)
         if head:
             every.append(owner + head.group(2))
-            public += [owner + head.group(2)] if head.group(1) else []
+            public += [owner + head.group(2)] if head.group(1) or of_trait else []
     return tuple(every), tuple(public)
 
 
@@ -228,7 +233,7 @@ class Repository:
         for path in self.paths(rf'crates/{crate}/src/.*\.rt'):
             for name in functions_of(self.texts[path])[1]:
                 if '::' in name:
-                    names |= {name} if name.split('::')[0] in self.types(crate) else set()
+                    names |= {name} if name.split('::')[0] in self.types(crate) | NUMBERS else set()
                 elif path.endswith('/lib.rt') or f'extern "C" fn {name}(' in self.texts[path]:
                     names.add(name)
                 elif path in opened:

@@ -89,9 +89,9 @@ pub(crate) fn step_on(
         new_values.now }
 {
     let p = judge_rows::admit(sheet, phase, locations, values, new_locations, new_values)?;
-    let s = State::of(p, locations, values);
-    let t = State::of(Phase::Running, new_locations, new_values);
-    step_by(sheet, own, s, action, t)
+    let before = State::of(p, locations, values);
+    let after = State::of(Phase::Running, new_locations, new_values);
+    step_by(sheet, own, before, action, after)
 }
 
 // The same from a state that has passed the rows, to t, the state of the new lists.

@@ -12,6 +12,8 @@ use lib.Dec.{eqb}
 use lib.Pow.{pow_mono}
 use Rattle.model.specs.Basic.{eq_z}
 use Rattle.model.specs.Bounds.{max_variables, max_automata}
+use Rattle.table_tree.specs.Sets.{single}
+use Rattle.table_tree.proofs.SetLaws.{single_below}
 use Rattle.table_places.specs.AtMost.{at_most}
 use Rattle.table_writes.specs.Sets.{mask}
 use Rattle.table_writes.proofs.MaskLaws.{mask_small}
@@ -27,8 +29,9 @@ module _ (s k : ℕ) (b : Bool) where
   unfolding with_bit
   with_false h = rw (h, with_bit)
 
-  pub with_fits : (p : ℕ) → p ≡ 2 ^ k → s < 2 ^ k → k < 64 → p + s < 2 ^ 64
-  with_fits p q l h =
+  pub with_fits : (p : ℕ) → p ≡ single k → s < 2 ^ k → k < 64 → p + s < 2 ^ 64
+  with_fits p one l h =
+      let q : p ≡ 2 ^ k = single_below k p one h in
       let m : 2 ^ suc k ≤ 2 ^ 64 = pow_mono h in
       let e : 2 ^ suc k ≡ 2 * 2 ^ k = pow-succ' 2 k in
       rw q (omega arith)

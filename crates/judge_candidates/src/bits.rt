@@ -1,5 +1,5 @@
 // Sets of variables and of automata: bit K of a word is set where K is in the set.
-#![tactic(auto, using(crate::proofs::BitsLaws::bits_laws))]
+#![tactic(auto, using(crate::proofs::BitsLaws::bits_laws, table_tree::proofs::SetLaws::single_below))]
 
 ghost use Rattle.std.specs.Prelude.{◌≡◌, ◌^◌, ◌<◌};
 ghost use Rattle.judge_candidates.specs.Bits.{with_bit, differs, changed_bits, agrees, still_bits};

@@ -14,12 +14,14 @@ use Rattle.table_tree.specs.declared.nodes.Found.{Found}
 use Rattle.table_tree.specs.declared.nodes.Found.TheVariants.{Par, Syn, Leaf, Stray}
 use Rattle.table_tree.specs.Nodes.{node_at, skip_from}
 use Rattle.table_tree.specs.Members.{in_set_at}
-use Rattle.table_tree.proofs.SetLaws.{bit_above, word_bit}
+use Rattle.table_tree.specs.Sets.{single}
+use Rattle.table_tree.proofs.SetLaws.{bit_above, single_below, word_bit}
 use Rattle.judge_search.specs.Found.{max_duties, shared_bits, taken_by, parted_at, covered_by, seek_by, seek_at, found_in}
 
 -- one taker more fits a word
-pub one_fits : (k one takers : ℕ) → k < 16 → one ≡ 2 ^ k → takers < one → takers + one < 2 ^ 64
-one_fits k one takers h e l =
+pub one_fits : (k one takers : ℕ) → k < 16 → one ≡ single k → takers < one → takers + one < 2 ^ 64
+one_fits k one takers h s l =
+    let e : one ≡ 2 ^ k = single_below k one s (omega arith) in
     let up : 2 ^ k ≤ 2 ^ 15 = pow_mono {i = k} {j = 15} (omega arith) in
     omega (arith, e, up)
 

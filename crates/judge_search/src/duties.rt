@@ -110,7 +110,7 @@ impl Search<'_> {
     // The first duty is that automaton k takes the action; the others are `duties`, and stand from `at` on. Takers come
     // in rising order.
     #[cycle(parted_seek_taken)]
-    #[tactic(auto, using(crate::proofs::FoundSteps::taken_laws))]
+    #[tactic(auto, using(crate::proofs::FoundSteps::taken_laws, table_tree::proofs::SetLaws::single_below))]
     fn taken(&self, at: usize, n: usize, duties: u64, takers: u64, k: usize) -> bool
         ensures { result ≡ taken_by
             (seek_at self.now.words.now self.now.sets.now self.now.step.action self.now.masks.now

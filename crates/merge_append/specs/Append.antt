@@ -17,6 +17,6 @@ pub record Appended (ws : List ℕ) (at : ℕ) (old new : List ℕ) (r : ℕ) : 
   pub next : r ≡ placed at (length ws)
   pub memory : new ≡ put at (map narrow ws) old
 
--- The same of a table that is being filled: they stand at its end, and it has so many more.
+-- The same of a table that is being filled: they stand at its end, and its length is the place after them.
 pub record Filled (ws : List ℕ) (old new : Filling) : Type 0 where
   pub added : Appended ws old.length old.words new.words new.length

@@ -39,7 +39,9 @@ pub fn merge_text(text: &[u8], out: &mut [u8]) -> Result<Merged, Refusal>
     ensures out_after { out.new ≡ outcome_after text.now out.old }
 {
     let mut table = [0u32; Model::WORDS];
-    reader::read(text, &mut table)?;
+    if let Err(refusal) = reader::read(text, &mut table) {
+        return Err(refusal);
+    }
     match merge(&table, out) {
         Ok(merged) => Ok(merged),
         Err(row) => Err(Refusal { row, line: 0 }),

@@ -2,6 +2,9 @@
 // in specs/.
 #![tactic(auto)]
 
+ghost use Rattle.std.specs.Prelude.{Some};
+ghost use Rattle.model.specs.Row.{row_text};
+
 use std::fmt;
 
 // What a sheet says, within these limits (specs/Bounds.antt).
@@ -76,6 +79,8 @@ impl Model {
 pub struct Row(pub u32);
 
 impl fmt::Display for Row {
+    ghost output = { λ r. Some (row_text r) };
+
     fn fmt<W: fmt::Write>(&self, f: &mut fmt::Formatter<W>) -> fmt::Result {
         write!(f, "row {}", self.0)
     }

@@ -1,6 +1,6 @@
 -- Each way out of `misparted` and `misformed`, and what they say of a line.
 use Prim.Native.Nat.{ℕ, zero, suc, ◌-◌}
-use mathlib.Core.Path.{◌≡◌, refl, sym, ap}
+use mathlib.Core.Path.{◌≡◌, refl, sym, ap, ◌∙◌}
 use mathlib.Core.Bool.{Bool, true, false, not, ◌||◌}
 use native.Mathlib.Omega.{arith}
 use borrow.Author.Tests.{eq-eqb, ne_eqb, eqb-true, eqb-false}
@@ -34,14 +34,21 @@ parted_by v (suc n) c z h =
 pub ruleset misparted_laws = (parted_any, parted_by)
 
 -- `misformed`
-pub form_by : (name : Bytes) (n : ℕ) (s : Bytes) (ended b p q : Bool) (v : Bytes) → b ≡ begins name s → v ≡ value_after name s → p ≡ misparted n v → q ≡ every printable s → (((not b || p) || not q) || not ended) ≡ misformed name n s ended
-unfolding misformed
-form_by name n s ended b p q v hb hv hp hq = rw (hb, hp, hv, hq) (parted (not (begins name s)) (misparted n (value_after name s)) _ _)
-  where
-    parted : (x y z w : Bool) → (((x || y) || z) || w) ≡ (x || (y || (z || w)))
-    parted true y z w = refl
-    parted false true z w = refl
-    parted false false z w = refl
+module _ (name : Bytes) (n : ℕ) (s : Bytes) (ended b : Bool) (hb : b ≡ begins name s) where
+  pub form_key : b ≡ false → true ≡ misformed name n s ended
+  unfolding misformed
+  form_key h = rw (sym hb ∙ h, misformed)
+
+  module _ (g : b ≡ true) (v : Bytes) (hv : v ≡ value_after name s) (p : Bool) (hp : p ≡ misparted n v) where
+    pub form_parts : p ≡ true → true ≡ misformed name n s ended
+    unfolding misformed
+    form_parts h = rw (sym hb ∙ g, ← hv, sym hp ∙ h, misformed)
+
+    pub form_bytes : p ≡ false → (q : Bool) → q ≡ every printable s → (not q || not ended) ≡ misformed name n s ended
+    unfolding misformed
+    form_bytes h q hq = rw (hq, sym hb ∙ g, ← hv, sym hp ∙ h, misformed)
+
+pub ruleset form_laws = (form_key, form_parts, form_bytes)
 
 -- it is row 2, for each key
 pub row2_by : (k : Key) (s : Bytes) (ended : Bool) → misformed (spelling k) (fields_of k) s ended ≡ row2 k (line_of s ended)

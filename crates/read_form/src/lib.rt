@@ -29,15 +29,19 @@ impl<'a> Line<'a> {
         self.bytes.get(name.len()..).unwrap_or(&[])
     }
 
-    // Row 2: the line has another key, another number of fields, a byte that is not printable, or no LF.
-    #[tactic(auto, using(crate::proofs::FormLaws::form_by))]
+    // Row 2: the line has another key, another number of fields, a byte that is not printable, or no LF. A line
+    // of another key is not read further.
+    #[tactic(auto, using(crate::proofs::FormLaws::form_laws))]
     pub fn misformed(self, name: &[u8], fields: usize) -> bool
         ensures { result ≡ misformed name.now fields self.entry.bytes.now self.entry.ended }
     {
-        !text_bytes::begins(self.bytes, name)
-            | misparted(self.value(name), fields)
-            | !text_bytes::printable(self.bytes)
-            | !self.ended
+        if !text_bytes::begins(self.bytes, name) {
+            return true;
+        }
+        if misparted(self.value(name), fields) {
+            return true;
+        }
+        !text_bytes::printable(self.bytes) | !self.ended
     }
 }
 

@@ -15,7 +15,8 @@ use Rattle.model.specs.Predicate.{names_outside, names_new}
 use Rattle.model.specs.Parse.{read_pred}
 use Rattle.model.specs.Limits.{broken}
 use Rattle.model.specs.Table.{word_of}
-use Rattle.table_predicate.specs.declared.Stopped.{Stopped}
+use Rattle.table_predicate.specs.declared.Ended.{Ended}
+use Rattle.table_predicate.specs.declared.Stopped.TheVariants as S
 use Rattle.table_predicate.specs.declared.Walked.{Walked}
 use Rattle.table_predicate.specs.Walk.{walk_at}
 use Rattle.format.specs.Tokens.{tokens, sounds}
@@ -31,7 +32,7 @@ use Rattle.read_nodes.specs.declared.NodesError.{NodesError}
 use Rattle.read_nodes.specs.declared.NodesError.TheVariants as E
 use Rattle.std.specs.Prelude.{Result, Ok, Err}
 use Rattle.std.specs.Result.{IsErrAnd}
-use Rattle.read_nodes.specs.Nodes.{broken_row, nodes_error, walk_error, walk_fault, told, extent_fault, nodes_fault, judged_in, on_words, codes_of, nodes_read, nodes_after}
+use Rattle.read_nodes.specs.Nodes.{broken_row, nodes_error, walk_error, is_deep, span_fault, walk_fault, told, extent_fault, nodes_fault, judged_in, on_words, codes_of, nodes_read, nodes_after}
 
 -- the first row that is broken is the answer; a row that is not leaves it to the later ones
 hit : (n row : ℕ) (b : Bool) (rest : Option ℕ) → b ≡ true → broken_row row ≡ told n (broken row b rest)
@@ -46,31 +47,43 @@ by_error : (r : Result ℕ NodesError) (e : NodesError) → IsErrAnd r (λ x. x 
 by_error (Ok n) e h = absurd h
 by_error (Err x) e h = ap Err h
 
+-- `spanned`
+module _ (w : Walked) (n before : ℕ) where
+  pub spanned_leaves : w.leaves ≡ true → broken_row 10 ≡ told n (span_fault before n w)
+  unfolding span_fault
+  spanned_leaves g = hit n 10 w.leaves _ g
+
+  module _ (g : w.leaves ≡ false) (b : Bool) (hb : b ≡ leb (before + n) max_nodes) where
+    pub spanned_many : not b ≡ true → broken_row 11 ≡ told n (span_fault before n w)
+    unfolding span_fault
+    spanned_many t = pass n 10 w.leaves _ (broken_row 11) g (hit n 11 _ none (ap not (sym hb) ∙ t))
+
+    pub spanned_fine : not b ≡ false → Ok n ≡ told n (span_fault before n w)
+    unfolding span_fault told
+    spanned_fine t = pass n 10 w.leaves _ (Ok n) g (pass n 11 _ none (Ok n) (ap not (sym hb) ∙ t) refl)
+
+pub ruleset spanned_laws = (spanned_leaves, spanned_many, spanned_fine)
+
 -- `extent`
-module _ (nodes ranges : List ℕ) (before : ℕ) (q : Result Walked Stopped) (hq : q ≡ walk_at nodes ranges 0) where
+module _ (nodes ranges : List ℕ) (before : ℕ) (q : Result Walked Ended) (hq : q ≡ walk_at nodes ranges 0) where
   by_walk : (r : Result ℕ NodesError) → r ≡ told (length nodes) (walk_fault before (length nodes) q) → r ≡ told (length nodes) (extent_fault ranges before nodes)
   unfolding extent_fault
   by_walk r e = rw (← hq) e
 
-  pub extent_ended : (s : Stopped) → q ≡ Err s → (r : Result ℕ NodesError) → IsErrAnd r (λ x. x ≡ walk_error s) → r ≡ told (length nodes) (extent_fault ranges before nodes)
-  unfolding walk_fault told
-  extent_ended s e r z = by_walk r (rw e (by_error r (walk_error s) z))
+  pub extent_past : (w : Walked) → q ≡ Ok w → (r : Result ℕ NodesError) → r ≡ told (length nodes) (span_fault before (length nodes) w) → r ≡ told (length nodes) (extent_fault ranges before nodes)
+  unfolding walk_fault
+  extent_past w h r z = by_walk r (rw h z)
 
-  module _ (w : Walked) (e : q ≡ Ok w) where
-    pub extent_leaves : w.leaves ≡ true → broken_row 10 ≡ told (length nodes) (extent_fault ranges before nodes)
-    unfolding walk_fault
-    extent_leaves g = by_walk (broken_row 10) (rw e (hit (length nodes) 10 w.leaves _ g))
+  module _ (e : Ended) (h : q ≡ Err e) where
+    pub extent_stray : e.why ≡ S.Stray → (r : Result ℕ NodesError) → r ≡ told (length nodes) (span_fault before (length nodes) e.walk) → r ≡ told (length nodes) (extent_fault ranges before nodes)
+    unfolding walk_fault is_deep broken
+    extent_stray s r z = by_walk r (rw (h, s) z)
 
-    module _ (g : w.leaves ≡ false) (b : Bool) (hb : b ≡ leb (before + length nodes) max_nodes) where
-      pub extent_many : not b ≡ true → broken_row 11 ≡ told (length nodes) (extent_fault ranges before nodes)
-      unfolding walk_fault
-      extent_many t = by_walk (broken_row 11) (rw e (pass (length nodes) 10 w.leaves _ (broken_row 11) g (hit (length nodes) 11 _ none (ap not (sym hb) ∙ t))))
+    pub extent_deep : e.why ≡ S.Deep → (x : NodesError) → x ≡ walk_error e.why → Err x ≡ told (length nodes) (extent_fault ranges before nodes)
+    unfolding walk_fault is_deep told broken
+    extent_deep s x z = by_walk (Err x) (rw (h, z, s))
 
-      pub extent_fine : not b ≡ false → Ok (length nodes) ≡ told (length nodes) (extent_fault ranges before nodes)
-      unfolding walk_fault told
-      extent_fine t = by_walk (Ok (length nodes)) (rw e (pass (length nodes) 10 w.leaves _ (Ok (length nodes)) g (pass (length nodes) 11 _ none (Ok (length nodes)) (ap not (sym hb) ∙ t) refl)))
-
-pub ruleset extent_laws = (extent_ended, extent_leaves, extent_many, extent_fine)
+pub ruleset extent_laws = (extent_past, extent_stray, extent_deep)
 
 -- `judged`
 module _ (nodes ranges : List ℕ) (o : Bool) (variables before high : ℕ) where

@@ -19,7 +19,7 @@ use Rattle.model.specs.Limits.{broken, is_too_deep, exceeds_span, passes_nodes}
 use Rattle.model.specs.Table.{code, word_of}
 use Rattle.model.proofs.Decode.{unbroken, is_broken, not_broken}
 use Rattle.model.proofs.Parsing.{words_of_read}
-use Rattle.table_predicate.specs.declared.Stopped.{Stopped}
+use Rattle.table_predicate.specs.declared.Ended.{Ended}
 use Rattle.table_predicate.specs.declared.Walked.{Walked}
 use Rattle.table_predicate.specs.Walk.{declared_of, walk_at}
 use Rattle.table_predicate.proofs.WalkLaws.{walk_words, words_deep}
@@ -37,7 +37,7 @@ use Rattle.model.proofs.Tests.{not_leb}
 use Rattle.read_nodes.specs.declared.NodesError.{NodesError}
 use Rattle.read_nodes.specs.declared.NodesError.TheVariants as E
 use Rattle.std.specs.Prelude.{Result, Ok, Err}
-use Rattle.read_nodes.specs.Nodes.{broken_row, told, walk_fault, extent_fault, nodes_fault, judged_in, on_words, codes_of, nodes_read, nodes_after}
+use Rattle.read_nodes.specs.Nodes.{broken_row, told, is_deep, span_fault, walk_fault, extent_fault, nodes_fault, judged_in, on_words, codes_of, nodes_read, nodes_after}
 use Rattle.read_nodes.specs.Text.{text_pred, text_fault}
 use Rattle.read_nodes.proofs.NodesLaws.{read_front}
 
@@ -138,12 +138,14 @@ module _ (declared : List Range) (ranges : List ℕ) (are : declared_of ranges �
     many_is = not_leb (before + length cs) max_nodes ∙ ap (λ (b : ℕ). ltb max_nodes (before + b)) size
 
     extent_rows : extent_fault ranges before cs ≡ broken 9 (is_too_deep p) (broken 10 (exceeds_span declared p) (broken 11 (passes_nodes before (words p)) none))
-    unfolding extent_fault walk_fault is_too_deep exceeds_span
+    unfolding extent_fault walk_fault span_fault is_deep is_too_deep exceeds_span
     extent_rows = go (ltb max_depth (depth p)) refl
       where
         go : (t : Bool) → ltb max_depth (depth p) ≡ t
             → walk_fault before (length cs) (walk_at cs ranges 0) ≡ broken 9 t (broken 10 (exceeds_span declared p) (broken 11 (passes_nodes before (words p)) none))
-        go true e = rw (words_deep cs ranges lawful_words 0 p here (ltb-true max_depth (depth p) e)) (sym (is_broken 9 true _ refl))
+        go true e =
+            let s = words_deep cs ranges lawful_words 0 p here (ltb-true max_depth (depth p) e) in
+            rw s.1 (is_broken 9 true _ refl ∙ sym (is_broken 9 true _ refl))
         go false e =
             rw (walk_words cs ranges lawful_words 0 p here (ltb-false max_depth (depth p) e), are, many_is)
             (sym (not_broken 9 false _ refl))
@@ -242,12 +244,15 @@ module _ (part : Bytes) (o : Bool) (variables : ℕ) (ranges : List ℕ) (before
 
   -- rows 9 to 11
   extent_few : (ns : List ℕ) → extent_fault ranges before ns ≡ none → before + length ns ≤ max_nodes
-  unfolding extent_fault walk_fault
+  unfolding extent_fault walk_fault span_fault
   extent_few ns h = go (walk_at ns ranges 0) h
     where
-      go : (q : Result Walked Stopped) → walk_fault before (length ns) q ≡ none → before + length ns ≤ max_nodes
-      go (Ok w) e = leb-true (before + length ns) max_nodes (not-false _ (unbroken 11 _ _ (unbroken 10 _ _ e).1).0)
-      go (Err s) e = absurd (let z : ◌≡◌ {A = ℕ} 0 1 = cc in omega arith)
+      few : (w : Walked) → span_fault before (length ns) w ≡ none → before + length ns ≤ max_nodes
+      few w e = leb-true (before + length ns) max_nodes (not-false _ (unbroken 11 _ _ (unbroken 10 _ _ e).1).0)
+
+      go : (q : Result Walked Ended) → walk_fault before (length ns) q ≡ none → before + length ns ≤ max_nodes
+      go (Ok w) e = few w e
+      go (Err s) e = few s.walk (unbroken 9 _ _ e).1
 
   pub accepted : (n : ℕ) → nodes_read part o variables ranges before room high ≡ Ok n → Accepted part n
   unfolding nodes_fault node_count

@@ -12,6 +12,7 @@ use Rattle.model.specs.Table.{word_of}
 use Rattle.table_predicate.specs.declared.Stopped.{Stopped}
 use Rattle.table_predicate.specs.declared.Stopped.TheVariants as S
 use Rattle.table_predicate.specs.declared.Walked.{Walked}
+use Rattle.table_predicate.specs.declared.Ended.{Ended}
 use Rattle.table_predicate.specs.Walk.{walk_at}
 use Rattle.format.specs.Bytes.{Bytes}
 use Rattle.format.specs.Tokens.{tokens, sounds}
@@ -36,7 +37,7 @@ unfoldable pub told : (nodes : ℕ) → Option ℕ → Result ℕ NodesError
 told nodes none = Ok nodes
 told nodes (some r) = broken_row r
 
--- the row that an ended walk says. What is no predicate is row 6; nodes that make one are never that
+-- the row of why a walk ended, by itself: what is no predicate is row 6
 abbrev pub walk_row : Stopped → ℕ
 walk_row S.Deep = 9
 walk_row S.Stray = 6
@@ -44,10 +45,18 @@ walk_row S.Stray = 6
 abbrev pub walk_error : Stopped → NodesError
 walk_error s = E.Row (row (walk_row s))
 
--- rows 10 and 11 where the walk came past so many nodes; or row 9
-unfoldable pub walk_fault : (before nodes : ℕ) → Result Walked Stopped → Option ℕ
-walk_fault before nodes (Ok w) = broken 10 w.leaves (broken 11 (not (leb (before + nodes) max_nodes)) none)
-walk_fault before nodes (Err s) = some (walk_row s)
+unfoldable pub is_deep : Stopped → Bool
+is_deep S.Deep = true
+is_deep S.Stray = false
+
+-- rows 10 and 11 of so many nodes, by how far the walk came
+unfoldable pub span_fault : (before nodes : ℕ) → Walked → Option ℕ
+span_fault before nodes w = broken 10 w.leaves (broken 11 (not (leb (before + nodes) max_nodes)) none)
+
+-- rows 9 to 11 by what the walk came to, where it ended too
+unfoldable pub walk_fault : (before nodes : ℕ) → Result Walked Ended → Option ℕ
+walk_fault before nodes (Ok w) = span_fault before nodes w
+walk_fault before nodes (Err e) = broken 9 (is_deep e.why) (span_fault before nodes e.walk)
 
 -- rows 9 to 11 of node words, by the words of the ranges and the nodes before these
 unfoldable pub extent_fault : (ranges : List ℕ) (before : ℕ) (nodes : List ℕ) → Option ℕ

@@ -4,12 +4,12 @@
 
 ghost use Rattle.std.specs.Prelude.{◌≡◌, length};
 ghost use Rattle.read_predicate.specs.Scratch.{Scratch};
-ghost use Rattle.read_nodes.specs.Nodes.{nodes_error, walk_error, told, extent_fault, judged_in, nodes_read};
-ghost use Rattle.read_nodes.specs.Nodes.{nodes_after};
+ghost use Rattle.read_nodes.specs.Nodes.{nodes_error, walk_error, told, span_fault, extent_fault, judged_in};
+ghost use Rattle.read_nodes.specs.Nodes.{nodes_read, nodes_after};
 
 use model::{Model, Row};
 use read_words::WordsError;
-use table_predicate::Stopped;
+use table_predicate::{Stopped, Walked};
 
 // Row: the smallest row that P breaks. Full: P has more words than there are places, and what it breaks is not known.
 #[derive(Clone, Copy, Debug, PartialEq, Eq)]
@@ -41,21 +41,33 @@ impl From<Stopped> for NodesError {
     }
 }
 
+// Rows 10 and 11 of so many nodes, by how far the walk over them came.
+#[tactic(auto, using(crate::proofs::NodesLaws::spanned_laws))]
+fn spanned(walk: Walked, nodes: usize, before: usize) -> Result<usize, NodesError>
+    ensures { result ≡ told nodes (span_fault before nodes walk) }
+{
+    if walk.leaves {
+        return Err(NodesError::Row(Row(10)));
+    }
+    if !arithmetic::fits(before, nodes, Model::NODES) {
+        return Err(NodesError::Row(Row(11)));
+    }
+    Ok(nodes)
+}
+
 // Rows 9, 10 and 11 of nodes that make a predicate.
 #[tactic(auto, using(crate::proofs::NodesLaws::extent_laws))]
 fn extent(nodes: &[u32], ranges: &[u32], before: usize) -> Result<usize, NodesError>
     ensures { result ≡ told (length nodes.now)
         (extent_fault ranges.now before nodes.now) }
 {
-    let walk = table_predicate::walk(nodes, 0, ranges)?;
-    if walk.leaves {
-        return Err(NodesError::Row(Row(10)));
+    match table_predicate::walk(nodes, 0, ranges) {
+        Ok(walk) => spanned(walk, nodes.len(), before),
+        Err(ended) => match ended.why {
+            Stopped::Deep => Err(ended.why.into()),
+            Stopped::Stray => spanned(ended.walk, nodes.len(), before),
+        },
     }
-    let n = nodes.len();
-    if !arithmetic::fits(before, n, Model::NODES) {
-        return Err(NodesError::Row(Row(11)));
-    }
-    Ok(n)
 }
 
 // Rows 6 to 11 of node words.

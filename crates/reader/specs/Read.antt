@@ -1,10 +1,11 @@
 -- What the reader answers, line by line, and what it leaves in the lent table. It is what `read_answer` and
 -- `table_after` say: the laws answer_exact and after_exact.
 use Rattle.std.specs.Prelude.{ℕ, zero, suc, ◌+◌, ◌-◌, Bool, true, false, ◌&&◌, List, ◌++◌, length, take}
-use Rattle.std.specs.Prelude.{drop, set, replicate, eqb, leb, ltb, Option, Some, None, Result, Ok, Err}
+use Rattle.std.specs.Prelude.{drop, set, replicate, eqb, leb, ltb, Option, Some, None, Result, Ok, Err, codes}
+use Rattle.std.specs.Fmt.{decimal}
 use Rattle.std.specs.Option.{is_none}
 use Rattle.model.specs.declared.Row.{Row}
-use Rattle.model.specs.Row.{row}
+use Rattle.model.specs.Row.{row, row_text}
 use Rattle.model.specs.Bounds.{max_bytes, table_words, owners_format}
 use Rattle.model.specs.Table.{row18}
 use Rattle.line_order.specs.declared.Due.{Due}
@@ -31,6 +32,10 @@ ReadAnswer = Result (Unit {0}) Refusal
 
 abbrev pub refusal : (n line : ℕ) → Refusal
 refusal n line = record { row = row n; line = line }
+
+-- what `{}` prints of a refusal
+abbrev pub refusal_text : Refusal → List ℕ
+refusal_text r = row_text r.row ++ codes ", line " ++ decimal r.line
 
 -- what each answer of the definitions is as the function gives it
 unfoldable pub read_of : Reader.ReadAnswer → ReadAnswer

@@ -4,9 +4,9 @@
 mod sheet;
 mod store;
 
-ghost use Rattle.std.specs.Prelude.{◌≡◌, length};
+ghost use Rattle.std.specs.Prelude.{Some, ◌≡◌, length};
 ghost use Rattle.format.specs.Reader.{read_answer, table_after};
-ghost use Rattle.reader.specs.Read.{read_of};
+ghost use Rattle.reader.specs.Read.{read_of, refusal_text};
 
 use model::{Model, Row};
 use std::fmt;
@@ -20,6 +20,8 @@ pub struct Refusal {
 }
 
 impl fmt::Display for Refusal {
+    ghost output = { λ r. Some (refusal_text r) };
+
     fn fmt<W: fmt::Write>(&self, f: &mut fmt::Formatter<W>) -> fmt::Result {
         write!(f, "{}, line {}", self.row, self.line)
     }

@@ -1,11 +1,13 @@
 -- Words that are put in two steps are put in one.
-use Prim.Native.Nat.{ℕ, suc, ◌+◌, ◌≤◌}
+use Prim.Native.Nat.{ℕ, suc, ◌+◌, ◌≤◌, ◌<◌}
 use mathlib.Core.Path.{◌≡◌, refl, sym, ◌∙◌, ap}
 use mathlib.Core.Bool.{Bool, true, false}
 use mathlib.Core.List.{List, [], ◌∷◌, ◌++◌}
 use native.Mathlib.Omega.{arith}
+use native.Mathlib.Numerals.{add-one}
 use borrow.Author.Tests.{leb-true, leb-false, ltb-false}
-use lib.ListN.{length, set}
+use lib.ListN.{length, set, get_or, drop, drop_of_length-le}
+use lib.Seq.{drop-cons}
 use lib.Dec.{leb, ltb}
 use Rattle.model.specs.Bounds.{table_words}
 use Rattle.table_append.specs.Append.{next_place, put}
@@ -87,3 +89,42 @@ module _ (at a : ℕ) (ws : List ℕ) (i : ℕ) (hi : i ≡ next_place at 1) whe
   more_put old mid new hm hn = hn ∙ ap (put i ws) hm ∙ ap (λ (n : ℕ). put n ws (put at (a ∷ []) old)) hi ∙ put_then (a ∷ []) at ws old
 
 pub ruleset more_laws = (more_next, more_put)
+
+-- `append`: the words that are left, put from the place that was reached, make up what is put in all
+pub record Onward (whole : List ℕ) (at : ℕ) (old rest : List ℕ) (next : ℕ) (words : List ℕ) : Type 0 where
+  pub near : next ≤ table_words
+  pub place : next_place next (length rest) ≡ next_place at (length whole)
+  pub memory : put next rest words ≡ put at whole old
+
+pub onward_first : (whole : List ℕ) (at : ℕ) (old : List ℕ) → at ≤ table_words → Onward whole at old whole at old
+onward_first whole at old h = record { near = h; place = refl; memory = refl }
+
+next_near : (at n : ℕ) → next_place at n ≤ table_words
+unfolding next_place
+next_near at n = go (leb (at + n) table_words) refl
+  where
+    go : (b : Bool) → leb (at + n) table_words ≡ b → elim b as (λ x. ℕ) [ true ↦ at + n | false ↦ table_words ] ≤ table_words
+    go true e = leb-true (at + n) table_words e
+    go false e = omega arith
+
+module _ (whole : List ℕ) (at : ℕ) (old : List ℕ) (i next : ℕ) (words : List ℕ) (u : Onward whole at old (drop i whole) next words) where
+  pub onward_turn : i < length whole → (n : ℕ) (mid : List ℕ) → n ≡ next_place next 1 → mid ≡ put next (get_or whole i 0 ∷ []) words
+      → Onward whole at old (drop (i + 1) whole) n mid
+  onward_turn h n mid hn hm =
+      let x = get_or whole i 0 in
+      let ws = drop (i + 1) whole in
+      let one : drop i whole ≡ x ∷ ws = rw (add-one i) (drop-cons whole i 0 h) in
+      record {
+        near = rw hn (next_near next 1);
+        place = more_next next x ws n hn (next_place n (length ws)) refl ∙ ap (λ (l : List ℕ). next_place next (length l)) (sym one) ∙ u.place;
+        memory = more_put next x ws n hn words mid (put n ws mid) hm refl ∙ ap (λ (l : List ℕ). put next l words) (sym one) ∙ u.memory;
+      }
+
+  pub onward_end : length whole ≤ i → (next ≡ next_place at (length whole)) × (words ≡ put at whole old)
+  unfolding put
+  onward_end h =
+      let none : drop i whole ≡ [] = drop_of_length-le whole h in
+      let here : next ≡ next_place next 0 = omega (arith, next_in next 0 (omega (arith, u.near))) in (
+        here ∙ ap (λ (l : List ℕ). next_place next (length l)) (sym none) ∙ u.place,
+        ap (λ (l : List ℕ). put next l words) (sym none) ∙ u.memory,
+      )

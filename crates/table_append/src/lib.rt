@@ -27,13 +27,19 @@ pub fn append_two(words: &mut [u32; Model::WORDS], at: usize, first: u32, second
     append_one(words, next, second)
 }
 
-// The first n words of `from`, or all that it has.
+// The first n words of `from`, or all that it has. They go in one by one: a copy as a whole is compiled to a call of
+// `memmove`, which the archive for C is not to need.
 pub fn append(words: &mut [u32; Model::WORDS], at: usize, from: &[u32], n: usize) -> usize
     ensures { (result ≡ next_place at (length (take n from.now)))
         × (words.new ≡ put at (take n from.now) words.old) }
 {
-    let at = at.min(Model::WORDS);
-    let n = n.min(from.len()).min(Model::WORDS - at);
-    words[at..at + n].copy_from_slice(&from[..n]);
-    at + n
+    if Model::WORDS <= at {
+        return Model::WORDS;
+    }
+    let added = &from[..n.min(from.len())];
+    let mut next = at;
+    for word in added {
+        next = append_one(words, next, *word);
+    }
+    next
 }

@@ -14,7 +14,7 @@ use Rattle.model.specs.Predicate.{names_outside, names_new}
 use Rattle.model.specs.Table.{word_of}
 use Rattle.model.proofs.Tests.{and_intro, and_no_right}
 use Rattle.line_order.specs.declared.Counts.{Counts}
-use Rattle.table_predicate.specs.declared.Stopped.{Stopped}
+use Rattle.table_predicate.specs.declared.Ended.{Ended}
 use Rattle.table_predicate.specs.declared.Walked.{Walked}
 use Rattle.table_predicate.specs.Walk.{walk_at}
 use Rattle.table_predicate.specs.Scan.{is_coded}
@@ -78,8 +78,8 @@ module _ (start n : ℕ) where
       by true e = e ∙ sym (eq-eqb next (start + n) (let i = eqb-true k n e in omega (arith, h.0, h.1)))
       by false e = e ∙ sym (ne_eqb next (start + n) (λ q. eqb-false k n e (omega (arith, h.0, h.1))))
 
-  module _ (q : Result Walked Stopped) where
-    pub walked_ended : (s : Stopped) → q ≡ Err s → false ≡ walked_to q (start + n)
+  module _ (q : Result Walked Ended) where
+    pub walked_ended : (s : Ended) → q ≡ Err s → false ≡ walked_to q (start + n)
     unfolding walked_to
     walked_ended s e = rw e
 
@@ -118,10 +118,10 @@ module _ (t : List ℕ) (c : Counts) (start n : ℕ) where
       unfolding nodes_sound
       nodes_outside h = sym (and_no_right coded (not outside && (walked && few)) (no_left (not outside) (walked && few) (ap not (sym hq ∙ h))))
 
-      module _ (rs : List ℕ) (hr : rs ≡ ranges_in t c.variables) (w : Result Walked Stopped) (hw : w ≡ walk_at t rs start) (o : Bool) (ho : o ≡ walked_to w (start + n)) where
+      module _ (rs : List ℕ) (hr : rs ≡ ranges_in t c.variables) (w : Result Walked Ended) (hw : w ≡ walk_at t rs start) (o : Bool) (ho : o ≡ walked_to w (start + n)) where
         same_walk : walked ≡ o
         unfolding walked_to
-        same_walk = ap (λ (x : List ℕ). walked_to (walk_at t x start) (start + n)) (sym hr) ∙ ap (λ (x : Result Walked Stopped). walked_to x (start + n)) (sym hw) ∙ sym ho
+        same_walk = ap (λ (x : List ℕ). walked_to (walk_at t x start) (start + n)) (sym hr) ∙ ap (λ (x : Result Walked Ended). walked_to x (start + n)) (sym hw) ∙ sym ho
 
         pub nodes_astray : not o ≡ true → false ≡ nodes_sound t c start n
         unfolding nodes_sound

@@ -23,7 +23,7 @@ use Rattle.model.proofs.LimitLines.{state_line}
 use Rattle.line_order.specs.declared.Counts.{Counts}
 use Rattle.line_order.specs.Due.{number_of}
 use Rattle.line_order.specs.Counts.{nodes_of, Counted}
-use Rattle.table_predicate.specs.declared.Stopped.{Stopped}
+use Rattle.table_predicate.specs.declared.Ended.{Ended}
 use Rattle.table_predicate.specs.declared.Walked.{Walked}
 use Rattle.table_predicate.specs.Walk.{declared_of, walk_at}
 use Rattle.table_predicate.specs.Scan.{is_coded}
@@ -58,10 +58,10 @@ module _ (t : List ℕ) (r : Reading) (c : Counts) (k : Counted r c) (d : Declar
     coded : take n (drop start t) ≡ map code (words pred)
 
   -- the walk came past them, to one place
-  same_walk : (q : Result Walked Stopped) (v w : Walked) → q ≡ Ok v → q ≡ Ok w → v ≡ w
+  same_walk : (q : Result Walked Ended) (v w : Walked) → q ≡ Ok v → q ≡ Ok w → v ≡ w
   same_walk q v w e f = cc
 
-  walked_past : (q : Result Walked Stopped) (next : ℕ) → walked_to q next ≡ true → (w : Walked) × ((q ≡ Ok w) × ((w.leaves ≡ false) × (w.next ≡ next)))
+  walked_past : (q : Result Walked Ended) (next : ℕ) → walked_to q next ≡ true → (w : Walked) × ((q ≡ Ok w) × ((w.leaves ≡ false) × (w.next ≡ next)))
   unfolding walked_to
   walked_past (Ok w) next h = (w, (refl, (not-true w.leaves (and_left (not w.leaves) _ h), eqb-true w.next next (and_right (not w.leaves) _ h))))
   walked_past (Err s) next h = never h
@@ -112,7 +112,7 @@ module _ (t : List ℕ) (r : Reading) (c : Counts) (k : Counted r c) (d : Declar
       let stays : all_stay (declared_of (ranges_in t c.variables)) p ≡ true = ap (λ (v : List Range). all_stay v p) declared_are ∙ l.spanned in
       and_intro (ap (every is_coded) e ∙ words_coded (words p) l.ranged)
       (and_intro (ap not named)
-      (and_intro (ap (λ (v : Result Walked Stopped). walked_to v (start + node_count p)) walked ∙ rw (stays, eq-eqb (start + node_count p) (start + node_count p) refl))
+      (and_intro (ap (λ (v : Result Walked Ended). walked_to v (start + node_count p)) walked ∙ rw (stays, eq-eqb (start + node_count p) (start + node_count p) refl))
       (le-leb (c.nodes + node_count p) max_nodes (omega (arith, k.nodes)))))
 
   -- at a place, a predicate's count of nodes and its nodes

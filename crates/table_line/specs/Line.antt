@@ -15,7 +15,7 @@ use Rattle.line_order.specs.declared.Counts.{Counts}
 use Rattle.line_order.specs.Counts.{with_nodes, capped}
 use Rattle.table_writes.specs.Sets.{all_variables, rest_of}
 use Rattle.table_owners.specs.Owners.{beyond_in, foreign_in}
-use Rattle.table_predicate.specs.declared.Stopped.{Stopped}
+use Rattle.table_predicate.specs.declared.Ended.{Ended}
 use Rattle.table_predicate.specs.declared.Walked.{Walked}
 use Rattle.table_predicate.specs.Walk.{walk_at}
 use Rattle.table_predicate.specs.Scan.{is_coded}
@@ -33,7 +33,7 @@ when true l = l
 when false l = None
 
 -- the walk over a predicate went well and came there
-unfoldable pub walked_to : Result Walked Stopped → (next : ℕ) → Bool
+unfoldable pub walked_to : Result Walked Ended → (next : ℕ) → Bool
 walked_to (Ok w) next = not w.leaves && eqb w.next next
 walked_to (Err why) next = false
 

@@ -5,7 +5,7 @@ ghost use Rattle.table_line.specs.Line.{ranges_in, walked_to, nodes_sound, predi
 use crate::Line;
 use line_order::Counts;
 use model::Model;
-use table_predicate::{Stopped, Walked};
+use table_predicate::{Ended, Walked};
 
 // The words of the first variables, which stand from word 3 on, as far as they are there.
 #[tactic(auto, using(crate::proofs::PredicateCode::ranges_laws))]
@@ -23,7 +23,7 @@ pub fn ranges(t: &[u32], variables: usize) -> &[u32]
 
 // The walk came past n nodes from `start` on, and past no more, and stayed in the span.
 #[tactic(auto, using(crate::proofs::PredicateCode::walked_laws))]
-fn walked_to(walk: Result<Walked, Stopped>, start: usize, n: usize) -> bool
+fn walked_to(walk: Result<Walked, Ended>, start: usize, n: usize) -> bool
     ensures { result ≡ walked_to walk (start + n) }
 {
     match walk {

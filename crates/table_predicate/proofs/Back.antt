@@ -11,10 +11,9 @@ use Rattle.model.specs.Predicate.{Pred, Preds, Expr, all, any, negate, imp, eq, 
 use Rattle.model.specs.Lawful.{LawfulRange}
 use Rattle.model.specs.Table.{word_of}
 use Rattle.std.specs.Prelude.{Result, Ok, Err}
-use Rattle.table_predicate.specs.declared.Stopped.{Stopped}
-use Rattle.table_predicate.specs.declared.Stopped.TheVariants.{Deep, Stray}
+use Rattle.table_predicate.specs.declared.Ended.{Ended}
 use Rattle.table_predicate.specs.declared.Walked.{Walked}
-use Rattle.table_predicate.specs.Walk.{Reach, place, go_on, reached, ends, plus, minus, joined, gather, declared_of, predicate_by, expression_by, predicate_at, expression_at}
+use Rattle.table_predicate.specs.Walk.{Reach, Fall, place, ended, fall, unreached, go_on, go_into, go_past, plus, minus, joined, joined_from, joined_to, gather, declared_of, predicate_by, expression_by, predicate_at, expression_at}
 use Rattle.table_predicate.proofs.Steps.{enter_none}
 use Rattle.table_predicate.proofs.Standing.{onward, onward_cons, First, link, next_p, next_e}
 use Rattle.table_predicate.proofs.Forward.{went_p, came}
@@ -47,32 +46,63 @@ record StandEs (ws : List ℕ) (f at : ℕ) : Type 0 where
   shallow : max (depth_of one) (depth_of two) ≤ f
 
 -- an end is no place
-ended : {A : Type 0} (s : Stopped) (v : A) → Err s ≡ Ok v → ⊥
-ended s v h = let z : ◌≡◌ {A = ℕ} 0 1 = cc in omega arith
-
--- what becomes of two expressions in a row; and joined
-abbrev walks : Reach → Reach → Result Walked Stopped
-walks x y = Ok y.walk
-
-abbrev joins : (Range → Range → Range) → Reach → Reach → Result Reach Stopped
-joins f x y = Ok (reached y.walk (f (ends x) (ends y)))
+no_place : {A E : Type 0} (e : E) (v : A) → Err e ≡ Ok v → ⊥
+no_place e v h = let z : ◌≡◌ {A = ℕ} 0 1 = cc in omega arith
 
 -- a walk that came on came to what it went on from
 module _ {A B : Type 0} where
-  came_to : (r : Result A Stopped) (Q : A → Result B Stopped) (v : B) → go_on r Q ≡ Ok v → (a : A) × ((r ≡ Ok a) × (Q a ≡ Ok v))
+  came_to : (r : Result A Ended) (Q : A → Result B Ended) (v : B) → go_on r Q ≡ Ok v → (a : A) × ((r ≡ Ok a) × (Q a ≡ Ok v))
   unfolding go_on
   came_to (Ok a) Q v h = (a, (refl, h))
-  came_to (Err s) Q v h = absurd (ended s v h)
+  came_to (Err e) Q v h = absurd (no_place e v h)
 
-  onto : (Q : A → Result B Stopped) {r : Result A Stopped} {a : A} {v : B} → r ≡ Ok a → go_on r Q ≡ Ok v → Q a ≡ Ok v
+  onto : (Q : A → Result B Ended) {r : Result A Ended} {a : A} {v : B} → r ≡ Ok a → go_on r Q ≡ Ok v → Q a ≡ Ok v
   unfolding go_on
   onto Q e h = rw e at h
 
+same_reach : (r : Result Reach Fall) (x y : Reach) → r ≡ Ok x → r ≡ Ok y → x ≡ y
+same_reach r x y e h = cc
+
+-- and into an expression
+came_into : (r : Result Walked Ended) (Q : Walked → Result Reach Fall) (v : Reach) → go_into r Q ≡ Ok v → (a : Walked) × ((r ≡ Ok a) × (Q a ≡ Ok v))
+unfolding go_into
+came_into (Ok a) Q v h = (a, (refl, h))
+came_into (Err e) Q v h = absurd (no_place (fall e.why (unreached e.walk)) v h)
+
+into : (Q : Walked → Result Reach Fall) {r : Result Walked Ended} {a : Walked} {v : Reach} → r ≡ Ok a → go_into r Q ≡ Ok v → Q a ≡ Ok v
+unfolding go_into
+into Q e h = rw e at h
+
+-- a walk that came past two expressions came past each
+record Both (F : Walked → Result Reach Fall) (r : Result Reach Fall) : Type 0 where
+  one : Reach
+  two : Reach
+  one_is : r ≡ Ok one
+  two_is : F one.walk ≡ Ok two
+
+both_past : (F : Walked → Result Reach Fall) (r : Result Reach Fall) (v : Walked) → go_past r (λ x. go_past (F x.walk) (λ y. Ok y.walk)) ≡ Ok v → Both F r
+unfolding go_past
+both_past F (Err e) v h = absurd (no_place (ended e.why e.reach.walk) v h)
+both_past F (Ok x) v h = go (F x.walk) refl h
+  where
+    go : (t : Result Reach Fall) → F x.walk ≡ t → go_past t (λ y. Ok y.walk) ≡ Ok v → Both F (Ok x)
+    go (Ok y) e h = record { one = x; two = y; one_is = refl; two_is = e }
+    go (Err e) i h = absurd (no_place (ended e.why e.reach.walk) v h)
+
+both_joined : (F : Walked → Result Reach Fall) (f : Range → Range → Range) (r : Result Reach Fall) (v : Reach) → joined_from F f r ≡ Ok v → Both F r
+unfolding joined_from joined_to
+both_joined F f (Err e) v h = absurd (no_place _ v h)
+both_joined F f (Ok x) v h = go (F x.walk) refl h
+  where
+    go : (t : Result Reach Fall) → F x.walk ≡ t → joined_to f x t ≡ Ok v → Both F (Ok x)
+    go (Ok y) e h = record { one = x; two = y; one_is = refl; two_is = e }
+    go (Err e) i h = absurd (no_place _ v h)
+
 module _ (ws ranges : List ℕ) (lawful : (x : Range) → Memᴰ x (declared_of ranges) → LawfulRange x) where
-  abbrev P : ℕ → Walked → Result Walked Stopped
+  abbrev P : ℕ → Walked → Result Walked Ended
   P = predicate_at ws ranges
 
-  abbrev E : ℕ → Walked → Result Reach Stopped
+  abbrev E : ℕ → Walked → Result Reach Fall
   E = expression_at ws ranges
 
   -- one level of the law, by which the next is shown
@@ -100,15 +130,12 @@ module _ (ws ranges : List ℕ) (lawful : (x : Range) → Memᴰ x (declared_of 
         }
 
   module _ (n : ℕ) (be : BackE n) where
-    back_pair : {B : Type 0} (K : Reach → Reach → Result B Stopped) (leaves : Bool) (at : ℕ) (v : B)
-        → go_on (E n (place leaves at)) (λ x. go_on (E n x.walk) (K x)) ≡ Ok v → StandEs ws n at
-    back_pair {B} K leaves at v h =
-        let F : Reach → Result B Stopped = λ x. go_on (E n x.walk) (K x) in
-        let g = came_to (E n (place leaves at)) F v h in
-        let a = be leaves at g.0 g.1.0 in
+    back_pair : (leaves : Bool) (at : ℕ) → Both (E n) (E n (place leaves at)) → StandEs ws n at
+    back_pair leaves at t =
+        let a = be leaves at t.one t.one_is in
         let c = (came ws ranges lawful a.it n leaves at a.rest a.here).fine a.shallow in
-        let g₂ = came_to (E n c.it.walk) (K c.it) v (onto F c.is h) in
-        let b = be _ (at + length (words_of a.it)) g₂.0 (ap (E n) (sym c.past.walk) ∙ g₂.1.0) in
+        let same = same_reach _ c.it t.one c.is t.one_is in
+        let b = be _ (at + length (words_of a.it)) t.two (ap (E n) (sym c.past.walk ∙ ap (λ (x : Reach). x.walk) same) ∙ t.two_is) in
         record {
           one = a.it;
           two = b.it;
@@ -124,15 +151,15 @@ module _ (ws ranges : List ℕ) (lawful : (x : Range) → Memᴰ x (declared_of 
     where
       go : (t : Bool) → ltb at (length ws) ≡ t → at < length ws
       go true e = ltb-true at (length ws) e
-      go false e = absurd (ended Stray v (rw (← enter_none ws (place leaves at) (ltb-false at (length ws) e)) at h))
+      go false e = absurd (no_place _ v (rw (← enter_none ws (place leaves at) (ltb-false at (length ws) e)) at h))
 
   below_e : (n : ℕ) (leaves : Bool) (at : ℕ) (v : Reach) → E (suc n) (place leaves at) ≡ Ok v → at < length ws
-  unfolding predicate_at expression_at go_on
+  unfolding predicate_at expression_at go_into
   below_e n leaves at v h = go (ltb at (length ws)) refl
     where
       go : (t : Bool) → ltb at (length ws) ≡ t → at < length ws
       go true e = ltb-true at (length ws) e
-      go false e = absurd (ended Stray v (rw (← enter_none ws (place leaves at) (ltb-false at (length ws) e)) at h))
+      go false e = absurd (no_place _ v (rw (← enter_none ws (place leaves at) (ltb-false at (length ws) e)) at h))
 
   -- the predicate, or the expression, that begins with a word
   module _ (n : ℕ) (bp : BackP n) (be : BackE n) (leaves : Bool) (at : ℕ) where
@@ -178,60 +205,60 @@ module _ (ws ranges : List ℕ) (lawful : (x : Range) → Memᴰ x (declared_of 
         let b = bp _ (at + 1 + length (words a.it)) v (onto (P n) g h) in
         imp_stands e a b
     by_word_p eq_word e v h =
-        let a = back_pair n be walks leaves (at + 1) v h in
+        let a = back_pair n be leaves (at + 1) (both_past (E n) (E n w) v h) in
         record { it = eq a.one a.two; rest = a.rest; here = cons eq_word e a.here; shallow = omega (arith, a.shallow) }
     by_word_p le_word e v h =
-        let a = back_pair n be walks leaves (at + 1) v h in
+        let a = back_pair n be leaves (at + 1) (both_past (E n) (E n w) v h) in
         record { it = le a.one a.two; rest = a.rest; here = cons le_word e a.here; shallow = omega (arith, a.shallow) }
-    by_word_p (num_word z) e v h = absurd (ended Stray v h)
-    by_word_p (old_word k) e v h = absurd (ended Stray v h)
-    by_word_p (new_word k) e v h = absurd (ended Stray v h)
-    by_word_p add_word e v h = absurd (ended Stray v h)
-    by_word_p sub_word e v h = absurd (ended Stray v h)
-    by_word_p mul_word e v h = absurd (ended Stray v h)
-    by_word_p if_word e v h = absurd (ended Stray v h)
-    by_word_p stray e v h = absurd (ended Stray v h)
+    by_word_p (num_word z) e v h = absurd (no_place _ v h)
+    by_word_p (old_word k) e v h = absurd (no_place _ v h)
+    by_word_p (new_word k) e v h = absurd (no_place _ v h)
+    by_word_p add_word e v h = absurd (no_place _ v h)
+    by_word_p sub_word e v h = absurd (no_place _ v h)
+    by_word_p mul_word e v h = absurd (no_place _ v h)
+    by_word_p if_word e v h = absurd (no_place _ v h)
+    by_word_p stray e v h = absurd (no_place _ v h)
 
     by_word_e : (x : Word) → onward ws at ≡ x ∷ onward ws (at + 1) → (v : Reach) → expression_by (P n) (E n) (declared_of ranges) x w ≡ Ok v → StandsE ws (suc n) at
     unfolding expression_by words_of depth_of
-    by_word_e (all_of k) e v h = absurd (ended Stray v h)
-    by_word_e (any_of k) e v h = absurd (ended Stray v h)
-    by_word_e not_word e v h = absurd (ended Stray v h)
-    by_word_e imp_word e v h = absurd (ended Stray v h)
-    by_word_e eq_word e v h = absurd (ended Stray v h)
-    by_word_e le_word e v h = absurd (ended Stray v h)
+    by_word_e (all_of k) e v h = absurd (no_place _ v h)
+    by_word_e (any_of k) e v h = absurd (no_place _ v h)
+    by_word_e not_word e v h = absurd (no_place _ v h)
+    by_word_e imp_word e v h = absurd (no_place _ v h)
+    by_word_e eq_word e v h = absurd (no_place _ v h)
+    by_word_e le_word e v h = absurd (no_place _ v h)
     by_word_e (num_word z) e v h = record { it = num z; rest = onward ws (at + 1); here = e; shallow = omega arith }
     by_word_e (old_word k) e v h = record { it = old k; rest = onward ws (at + 1); here = e; shallow = omega arith }
     by_word_e (new_word k) e v h = record { it = new k; rest = onward ws (at + 1); here = e; shallow = omega arith }
     by_word_e add_word e v h =
-        let a = back_pair n be (joins plus) leaves (at + 1) v h in
+        let a = back_pair n be leaves (at + 1) (both_joined (E n) plus (E n w) v h) in
         record { it = add a.one a.two; rest = a.rest; here = cons add_word e a.here; shallow = omega (arith, a.shallow) }
     by_word_e sub_word e v h =
-        let a = back_pair n be (joins minus) leaves (at + 1) v h in
+        let a = back_pair n be leaves (at + 1) (both_joined (E n) minus (E n w) v h) in
         record { it = sub a.one a.two; rest = a.rest; here = cons sub_word e a.here; shallow = omega (arith, a.shallow) }
     by_word_e mul_word e v h =
-        let a = back_pair n be (joins times) leaves (at + 1) v h in
+        let a = back_pair n be leaves (at + 1) (both_joined (E n) times (E n w) v h) in
         record { it = mul a.one a.two; rest = a.rest; here = cons mul_word e a.here; shallow = omega (arith, a.shallow) }
     by_word_e if_word e v h =
-        let c = came_to (P n w) (joined (E n) hull) v h in
+        let c = came_into (P n w) (joined (E n) hull) v h in
         let a = bp leaves (at + 1) c.0 c.1.0 in
         let g = (went_p ws ranges lawful a.it n leaves (at + 1) a.rest a.here).fine a.shallow in
-        let b = back_pair n be (joins hull) _ (at + 1 + length (words a.it)) v (onto (joined (E n) hull) g h) in
+        let b = back_pair n be _ (at + 1 + length (words a.it)) (both_joined (E n) hull _ v (into (joined (E n) hull) g h)) in
         if_stands e a b
-    by_word_e stray e v h = absurd (ended Stray v h)
+    by_word_e stray e v h = absurd (no_place _ v h)
 
   mutual
     unfolding predicate_at expression_at
 
     pub back_p : (n : ℕ) → BackP n
-    back_p zero leaves at v h = absurd (ended Deep v h)
+    back_p zero leaves at v h = absurd (no_place _ v h)
     back_p (suc n) leaves at v h =
         let l = below_p n leaves at v h in
         let f : First ws at (word_of (get_or ws at 0)) (onward ws (at + 1)) = record { below = l; word = refl; then = refl } in
         by_word_p n (λ a b c d. back_p n a b c d) (λ a b c d. back_e n a b c d) leaves at (word_of (get_or ws at 0)) (onward_cons ws at l) v (rw (next_p ws ranges n leaves f) at h)
 
     back_e : (n : ℕ) → BackE n
-    back_e zero leaves at v h = absurd (ended Deep v h)
+    back_e zero leaves at v h = absurd (no_place _ v h)
     back_e (suc n) leaves at v h =
         let l = below_e n leaves at v h in
         let f : First ws at (word_of (get_or ws at 0)) (onward ws (at + 1)) = record { below = l; word = refl; then = refl } in

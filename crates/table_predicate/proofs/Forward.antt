@@ -17,31 +17,31 @@ use Rattle.arithmetic.specs.Cut.{cut}
 use Rattle.arithmetic.proofs.Order.{Le, Le-refl, Le-trans, Within, le_z_Le, add_within, sub_within, times_within, hull_first, span_fits}
 use Rattle.arithmetic.proofs.CutLaws.{cut_fits}
 use Rattle.std.specs.Prelude.{Result, Ok, Err}
-use Rattle.table_predicate.specs.declared.Stopped.{Stopped}
 use Rattle.table_predicate.specs.declared.Stopped.TheVariants.{Deep}
+use Rattle.table_predicate.specs.declared.Ended.{Ended}
 use Rattle.table_predicate.specs.declared.Walked.{Walked}
-use Rattle.table_predicate.specs.Walk.{Reach, place, go_on, in_span, reached, ends, plus, minus, couple, joined, gather, declared_of, predicate_by, expression_by, predicate_at, expression_at}
+use Rattle.table_predicate.specs.Walk.{Reach, Fall, place, ended, fall, unreached, go_on, go_into, go_past, in_span, reached, ends, plus, minus, couple, joined, joined_from, joined_to, gather, declared_of, predicate_by, expression_by, predicate_at, expression_at}
 use Rattle.table_predicate.proofs.Standing.{onward, First, first, past_them, next_p, next_e}
 
 -- What became of a walk from `at` on, with f levels left, past n words that are d deep: it came past them, and its interval
 -- mark is set if theirs do not all stay (b); or it ended, too deep.
-pub record Went (f d n : ℕ) (b leaves : Bool) (at : ℕ) (w : Result Walked Stopped) : Type 0 where
+pub record Went (f d n : ℕ) (b leaves : Bool) (at : ℕ) (w : Result Walked Ended) : Type 0 where
   pub fine : d ≤ f → w ≡ Ok (place (leaves || not b) (at + n))
-  pub dead : f < d → w ≡ Err Deep
+  pub dead : f < d → (v : Walked) × (w ≡ Err (ended Deep v))
 
 -- the same past an expression with the interval r
 pub record Past (n : ℕ) (b : Bool) (r : Range) (leaves : Bool) (at : ℕ) (x : Reach) : Type 0 where
   pub walk : x.walk ≡ place (leaves || not b) (at + n)
   pub exact : b ≡ true → ends x ≡ r
 
-pub record Found (n : ℕ) (b : Bool) (r : Range) (leaves : Bool) (at : ℕ) (x : Result Reach Stopped) : Type 0 where
+pub record Found (n : ℕ) (b : Bool) (r : Range) (leaves : Bool) (at : ℕ) (x : Result Reach Fall) : Type 0 where
   pub it : Reach
   pub is : x ≡ Ok it
   pub past : Past n b r leaves at it
 
-pub record Came (f d n : ℕ) (b : Bool) (r : Range) (leaves : Bool) (at : ℕ) (x : Result Reach Stopped) : Type 0 where
+pub record Came (f d n : ℕ) (b : Bool) (r : Range) (leaves : Bool) (at : ℕ) (x : Result Reach Fall) : Type 0 where
   pub fine : d ≤ f → Found n b r leaves at x
-  pub dead : f < d → x ≡ Err Deep
+  pub dead : f < d → (y : Reach) × (x ≡ Err (fall Deep y))
 
 or_and : (a b c : Bool) → ((a || not b) || not c) ≡ (a || not (b && c))
 or_and true b c = refl
@@ -55,9 +55,9 @@ further leaves b₁ b₂ at n₁ n₂ = let e : at + n₁ + n₂ ≡ at + (n₁ 
 one_more : (leaves : Bool) (at n : ℕ) → place leaves (at + 1 + n) ≡ place leaves (at + suc n)
 one_more leaves at n = let e : at + 1 + n ≡ at + suc n = omega arith in ap (place leaves) e
 
-module _ {f d₁ n₁ : ℕ} {b₁ : Bool} {d₂ n₂ : ℕ} {b₂ : Bool} {leaves : Bool} {at : ℕ} {w : Result Walked Stopped} where
+module _ {f d₁ n₁ : ℕ} {b₁ : Bool} {d₂ n₂ : ℕ} {b₂ : Bool} {leaves : Bool} {at : ℕ} {w : Result Walked Ended} where
   -- one after the other
-  both : (Q : Walked → Result Walked Stopped) → Went f d₁ n₁ b₁ leaves at w
+  both : (Q : Walked → Result Walked Ended) → Went f d₁ n₁ b₁ leaves at w
       → Went f d₂ n₂ b₂ (leaves || not b₁) (at + n₁) (Q (place (leaves || not b₁) (at + n₁)))
       → Went f (max d₁ d₂) (n₁ + n₂) (b₁ && b₂) leaves at (go_on w Q)
   unfolding go_on
@@ -66,18 +66,21 @@ module _ {f d₁ n₁ : ℕ} {b₁ : Bool} {d₂ n₂ : ℕ} {b₂ : Bool} {leav
     dead = λ h. dead h (ltb f d₁) refl;
   }
     where
-      dead : f < max d₁ d₂ → (t : Bool) → ltb f d₁ ≡ t → go_on w Q ≡ Err Deep
-      dead h true t = rw (x.dead (ltb-true f d₁ t))
-      dead h false t = let l = ltb-false f d₁ t in rw (x.fine l) (y.dead (omega arith))
+      dead : f < max d₁ d₂ → (t : Bool) → ltb f d₁ ≡ t → (v : Walked) × (go_on w Q ≡ Err (ended Deep v))
+      dead h true t = let s = x.dead (ltb-true f d₁ t) in (s.0, rw s.1)
+      dead h false t =
+          let l = ltb-false f d₁ t in
+          let s = y.dead (omega arith) in
+          (s.0, rw (x.fine l) s.1)
 
   -- a predicate, and then an expression
-  after : {r : Range} (F : Walked → Result Reach Stopped) → Went f d₁ n₁ b₁ leaves at w
+  after : {r : Range} (F : Walked → Result Reach Fall) → Went f d₁ n₁ b₁ leaves at w
       → Came f d₂ n₂ b₂ r (leaves || not b₁) (at + n₁) (F (place (leaves || not b₁) (at + n₁)))
-      → Came f (max d₁ d₂) (n₁ + n₂) (b₁ && b₂) r leaves at (go_on w F)
-  unfolding go_on
+      → Came f (max d₁ d₂) (n₁ + n₂) (b₁ && b₂) r leaves at (go_into w F)
+  unfolding go_into
   after {r} F x y = record { fine = fine; dead = λ h. dead h (ltb f d₁) refl }
     where
-      fine : max d₁ d₂ ≤ f → Found (n₁ + n₂) (b₁ && b₂) r leaves at (go_on w F)
+      fine : max d₁ d₂ ≤ f → Found (n₁ + n₂) (b₁ && b₂) r leaves at (go_into w F)
       fine h =
           let c = y.fine (omega arith) in
           record {
@@ -86,9 +89,12 @@ module _ {f d₁ n₁ : ℕ} {b₁ : Bool} {d₂ n₂ : ℕ} {b₂ : Bool} {leav
             past = record { walk = c.past.walk ∙ further leaves b₁ b₂ at n₁ n₂; exact = λ t. c.past.exact (and_right b₁ b₂ t) };
           }
 
-      dead : f < max d₁ d₂ → (t : Bool) → ltb f d₁ ≡ t → go_on w F ≡ Err Deep
-      dead h true t = rw (x.dead (ltb-true f d₁ t))
-      dead h false t = let l = ltb-false f d₁ t in rw (x.fine l) (y.dead (omega arith))
+      dead : f < max d₁ d₂ → (t : Bool) → ltb f d₁ ≡ t → (y : Reach) × (go_into w F ≡ Err (fall Deep y))
+      dead h true t = let s = x.dead (ltb-true f d₁ t) in (unreached s.0, rw s.1)
+      dead h false t =
+          let l = ltb-false f d₁ t in
+          let s = y.dead (omega arith) in
+          (s.0, rw (x.fine l) s.1)
 
 -- a cut leaves an interval in the span alone
 cut_none : (r : Range) → Le r.low r.high → in_span r ≡ true → range (cut r.low) (cut r.high) ≡ r
@@ -114,10 +120,10 @@ module _ {n : ℕ} {b leaves : Bool} {at : ℕ} where
 
 -- one level up, past the node's own word
 module _ {f d n : ℕ} {b leaves : Bool} {at : ℕ} where
-  up : {w : Result Walked Stopped} → Went f d n b leaves (at + 1) w → Went (suc f) (suc d) (suc n) b leaves at w
+  up : {w : Result Walked Ended} → Went f d n b leaves (at + 1) w → Went (suc f) (suc d) (suc n) b leaves at w
   up x = record { fine = λ h. x.fine (omega arith) ∙ ap Ok (one_more _ at n); dead = λ h. x.dead (omega arith) }
 
-  up_e : {r : Range} {x : Result Reach Stopped} → Came f d n b r leaves (at + 1) x → Came (suc f) (suc d) (suc n) b r leaves at x
+  up_e : {r : Range} {x : Result Reach Fall} → Came f d n b r leaves (at + 1) x → Came (suc f) (suc d) (suc n) b r leaves at x
   up_e x = record {
     fine = λ h. let c = x.fine (omega arith) in record { it = c.it; is = c.is; past = record { walk = c.past.walk ∙ one_more _ at n; exact = c.past.exact } };
     dead = λ h. x.dead (omega arith);
@@ -134,7 +140,17 @@ leaf f leaves at r o = record {
   dead = λ h. absurd (omega arith);
 }
 
-module _ {f d₁ n₁ : ℕ} {b₁ : Bool} {r₁ : Range} {d₂ n₂ : ℕ} {b₂ : Bool} {r₂ : Range} {leaves : Bool} {at : ℕ} {x : Result Reach Stopped} (F : Walked → Result Reach Stopped)
+-- a walk that ended too deep in the first or the second of two expressions
+fell_first : (F : Walked → Result Reach Fall) (g : Range → Range → Range) (x : Result Reach Fall) (y : Reach) → x ≡ Err (fall Deep y) → (z : Reach) × (joined_from F g x ≡ Err (fall Deep z))
+unfolding joined_from
+fell_first F g x y e = (reached y.walk (g (ends y) (range (pos 0) (pos 0))), rw e)
+
+fell_second : (F : Walked → Result Reach Fall) (g : Range → Range → Range) (x : Result Reach Fall) (a : Reach) → x ≡ Ok a → (y : Reach) → F a.walk ≡ Err (fall Deep y)
+    → (z : Reach) × (joined_from F g x ≡ Err (fall Deep z))
+unfolding joined_from joined_to
+fell_second F g x a e y h = (reached y.walk (g (ends a) (ends y)), rw (e, h))
+
+module _ {f d₁ n₁ : ℕ} {b₁ : Bool} {r₁ : Range} {d₂ n₂ : ℕ} {b₂ : Bool} {r₂ : Range} {leaves : Bool} {at : ℕ} {x : Result Reach Fall} (F : Walked → Result Reach Fall)
     (i : Came f d₁ n₁ b₁ r₁ leaves at x) (j : Came f d₂ n₂ b₂ r₂ (leaves || not b₁) (at + n₁) (F (place (leaves || not b₁) (at + n₁)))) where
   -- two expressions
   record Two : Type 0 where
@@ -160,42 +176,45 @@ module _ {f d₁ n₁ : ℕ} {b₁ : Bool} {r₁ : Range} {d₂ n₂ : ℕ} {b�
         exact_two = λ t. c.past.exact (and_right b₁ b₂ t);
       }
 
-  past_both : (t : Two) {B : Type 0} (K : Reach → Reach → Result B Stopped) → go_on x (λ a. go_on (F a.walk) (K a)) ≡ K t.one t.two
-  unfolding go_on
-  past_both t K = rw (t.one_is, t.two_is)
-
-  too_deep : {B : Type 0} (K : Reach → Reach → Result B Stopped) → f < max d₁ d₂ → go_on x (λ a. go_on (F a.walk) (K a)) ≡ Err Deep
-  unfolding go_on
-  too_deep {B} K h = go (ltb f d₁) refl
-    where
-      go : (t : Bool) → ltb f d₁ ≡ t → go_on x (λ a. go_on (F a.walk) (K a)) ≡ Err Deep
-      go true t = rw (i.dead (ltb-true f d₁ t))
-      go false t = let a = i.fine (ltb-false f d₁ t) in rw (a.is, a.past.walk, j.dead (let l = ltb-false f d₁ t in omega arith))
-
   -- in a row
-  pair : Went f (max d₁ d₂) (n₁ + n₂) (b₁ && b₂) leaves at (go_on x (λ a. go_on (F a.walk) (λ y. Ok y.walk)))
-  unfolding go_on
-  pair = record {
-    fine = λ h. let t = both_came h in past_both t (λ a y. Ok y.walk) ∙ ap Ok t.walk;
-    dead = too_deep (λ a y. Ok y.walk);
-  }
+  pair : Went f (max d₁ d₂) (n₁ + n₂) (b₁ && b₂) leaves at (go_past x (λ a. go_past (F a.walk) (λ y. Ok y.walk)))
+  unfolding go_past
+  pair = record { fine = λ h. let t = both_came h in rw (t.one_is, t.two_is) (ap Ok t.walk); dead = λ h. dead h (ltb f d₁) refl }
+    where
+      dead : f < max d₁ d₂ → (t : Bool) → ltb f d₁ ≡ t → (v : Walked) × (go_past x (λ a. go_past (F a.walk) (λ y. Ok y.walk)) ≡ Err (ended Deep v))
+      dead h true t = let s = i.dead (ltb-true f d₁ t) in (s.0.walk, rw s.1)
+      dead h false t =
+          let a = i.fine (ltb-false f d₁ t) in
+          let s = j.dead (let l = ltb-false f d₁ t in omega arith) in
+          (s.0.walk, rw (a.is, a.past.walk, s.1))
 
   -- joined
+  past_both : (t : Two) (g : Range → Range → Range) → joined_from F g x ≡ Ok (reached t.two.walk (g (ends t.one) (ends t.two)))
+  unfolding joined_from joined_to
+  past_both t g = rw (t.one_is, t.two_is)
+
   join : (g : Range → Range → Range) → Le (g r₁ r₂).low (g r₁ r₂).high
-      → Came f (max d₁ d₂) (n₁ + n₂) (b₁ && (b₂ && in_span (g r₁ r₂))) (g r₁ r₂) leaves at (go_on x (λ a. go_on (F a.walk) (λ y. Ok (reached y.walk (g (ends a) (ends y))))))
-  unfolding go_on
-  join g h = record { fine = fine; dead = too_deep (λ a y. Ok (reached y.walk (g (ends a) (ends y)))) }
+      → Came f (max d₁ d₂) (n₁ + n₂) (b₁ && (b₂ && in_span (g r₁ r₂))) (g r₁ r₂) leaves at (joined_from F g x)
+  unfolding joined_from joined_to
+  join g h = record { fine = fine; dead = λ h. dead h (ltb f d₁) refl }
     where
-      fine : max d₁ d₂ ≤ f → Found (n₁ + n₂) (b₁ && (b₂ && in_span (g r₁ r₂))) (g r₁ r₂) leaves at (go_on x (λ a. go_on (F a.walk) (λ y. Ok (reached y.walk (g (ends a) (ends y))))))
+      fine : max d₁ d₂ ≤ f → Found (n₁ + n₂) (b₁ && (b₂ && in_span (g r₁ r₂))) (g r₁ r₂) leaves at (joined_from F g x)
       fine l =
           let t = both_came l in
           record {
             it = reached t.two.walk (g (ends t.one) (ends t.two));
-            is = past_both t (λ a y. Ok (reached y.walk (g (ends a) (ends y))));
+            is = past_both t g;
             past =
                 rw (← and_assoc b₁ b₂ (in_span (g r₁ r₂)))
                 (reach t.two.walk t.walk (g (ends t.one) (ends t.two)) (g r₁ r₂) (λ q. rw (t.exact_one q, t.exact_two q)) h);
           }
+
+      dead : f < max d₁ d₂ → (t : Bool) → ltb f d₁ ≡ t → (y : Reach) × (joined_from F g x ≡ Err (fall Deep y))
+      dead h true t = let s = i.dead (ltb-true f d₁ t) in fell_first F g x s.0 s.1
+      dead h false t =
+          let a = i.fine (ltb-false f d₁ t) in
+          let s = j.dead (let l = ltb-false f d₁ t in omega arith) in
+          fell_second F g x a.it a.is s.0 (ap F a.past.walk ∙ s.1)
 
 module _ (declared : List Range) (lawful : (x : Range) → Memᴰ x declared → LawfulRange x) where
   declared_within : (k : ℕ) → (z : ℤ) × Within z (get_or declared k (range (pos 0) (pos 0)))
@@ -219,10 +238,10 @@ module _ (declared : List Range) (lawful : (x : Range) → Memᴰ x declared →
   ordered x = let a = inhabited x in Le-trans a.1.low a.1.high
 
 module _ (ws ranges : List ℕ) where
-  abbrev P : ℕ → Walked → Result Walked Stopped
+  abbrev P : ℕ → Walked → Result Walked Ended
   P = predicate_at ws ranges
 
-  abbrev E : ℕ → Walked → Result Reach Stopped
+  abbrev E : ℕ → Walked → Result Reach Fall
   E = expression_at ws ranges
 
   -- a node, whose operands are walked with one level less
@@ -232,7 +251,7 @@ module _ (ws ranges : List ℕ) where
     node_p h = go f
       where
         go : (f : ℕ) → Went f (suc d) (suc k) b leaves at (P f (place leaves at))
-        go zero = record { fine = λ l. absurd (omega arith); dead = λ l. refl }
+        go zero = record { fine = λ l. absurd (omega arith); dead = λ l. (place leaves at, refl) }
         go (suc n) = rw (next_p ws ranges n leaves here) (up (h n))
 
     node_e : {r : Range} → ((n : ℕ) → Came n d k b r leaves (at + 1) (expression_by (P n) (E n) (declared_of ranges) x (place leaves (at + 1)))) → Came f (suc d) (suc k) b r leaves at (E f (place leaves at))
@@ -240,7 +259,7 @@ module _ (ws ranges : List ℕ) where
     node_e {r} h = go f
       where
         go : (f : ℕ) → Came f (suc d) (suc k) b r leaves at (E f (place leaves at))
-        go zero = record { fine = λ l. absurd (omega arith); dead = λ l. refl }
+        go zero = record { fine = λ l. absurd (omega arith); dead = λ l. (unreached (place leaves at), refl) }
         go (suc n) = rw (next_e ws ranges n leaves here) (up_e (h n))
 
   -- two rows of words, one after the other

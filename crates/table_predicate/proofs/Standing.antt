@@ -13,7 +13,7 @@ use lib.Seq.{drop-cons, drop-drop}
 use Rattle.model.specs.Predicate.{Word}
 use Rattle.model.specs.Table.{word_of}
 use Rattle.node_words.proofs.NodeLaws.{meant_of}
-use Rattle.table_predicate.specs.Walk.{place, go_on, declared_of, predicate_by, expression_by, predicate_at, expression_at}
+use Rattle.table_predicate.specs.Walk.{place, go_on, go_into, declared_of, predicate_by, expression_by, predicate_at, expression_at}
 use Rattle.table_predicate.proofs.Steps.{enter_next}
 
 -- the words from a place on
@@ -74,5 +74,5 @@ module _ (ws : List ℕ) where
     next_p = rw (← enter_next ws (place leaves at) f.below, meant_of (get_or ws at 0), f.word)
 
     pub next_e : expression_at ws ranges (suc n) (place leaves at) ≡ expression_by (predicate_at ws ranges n) (expression_at ws ranges n) (declared_of ranges) x (place leaves (at + 1))
-    unfolding predicate_at expression_at go_on
+    unfolding predicate_at expression_at go_into
     next_e = rw (← enter_next ws (place leaves at) f.below, meant_of (get_or ws at 0), f.word)

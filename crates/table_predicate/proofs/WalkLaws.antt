@@ -16,7 +16,7 @@ use Rattle.model.proofs.Decode.{number_back, words_back}
 use Rattle.std.specs.Prelude.{Ok, Err}
 use Rattle.table_predicate.specs.declared.Stopped.TheVariants.{Deep}
 use Rattle.table_predicate.specs.declared.Walked.{Walked}
-use Rattle.table_predicate.specs.Walk.{place, declared_of, walk_at}
+use Rattle.table_predicate.specs.Walk.{place, ended, declared_of, walk_at}
 use Rattle.table_predicate.proofs.Standing.{standing, there}
 use Rattle.table_predicate.proofs.Forward.{went_p}
 use Rattle.table_predicate.proofs.Back.{back_p}
@@ -47,7 +47,7 @@ module _ (ws ranges : List ℕ) (lawful : (x : Range) → Memᴰ x (declared_of 
     unfolding walk_at node_count
     walk_words h = (went_p ws ranges lawful p max_depth false at _ (standing ws at (node_count p) (words p) here)).fine h
 
-    pub words_deep : max_depth < depth p → walk_at ws ranges at ≡ Err Deep
+    pub words_deep : max_depth < depth p → (v : Walked) × (walk_at ws ranges at ≡ Err (ended Deep v))
     unfolding walk_at node_count
     words_deep h = ((went_p ws ranges lawful p max_depth false at _ (standing ws at (node_count p) (words p) here)).dead h)
 
@@ -59,7 +59,7 @@ module _ (ws ranges : List ℕ) (lawful : (x : Range) → Memᴰ x (declared_of 
     pub walk_of : depth p ≤ max_depth → walk_at ws ranges at ≡ Ok (place (not (all_stay (declared_of ranges) p)) (at + node_count p))
     walk_of h = walk_words p said h
 
-    pub walk_deep : max_depth < depth p → walk_at ws ranges at ≡ Err Deep
+    pub walk_deep : max_depth < depth p → (v : Walked) × (walk_at ws ranges at ≡ Err (ended Deep v))
     walk_deep h = words_deep p said h
 
   -- back: on any words

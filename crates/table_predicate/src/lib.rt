@@ -6,7 +6,8 @@ ghost use Rattle.std.specs.Prelude.{◌≡◌, pos, get_or};
 ghost use Rattle.model.specs.Predicate.{range, hull, times};
 ghost use Rattle.model.specs.Table.{unbiased};
 ghost use Rattle.table_predicate.specs.Walk.{with_node, with_walk, with_interval, entered, reach_of, reached, span};
-ghost use Rattle.table_predicate.specs.Walk.{declared_of, plus, minus, gather, predicate_at, expression_at, walk_at};
+ghost use Rattle.table_predicate.specs.Walk.{declared_of, plus, minus, halt, join_of, gather, joined, predicate_at};
+ghost use Rattle.table_predicate.specs.Walk.{expression_at, walk_at};
 
 use node_words::Node;
 
@@ -30,11 +31,53 @@ pub struct Walked {
     pub next: usize,
 }
 
+// A walk that ended: why, and how far it came. The intervals are made with 0 for what was not walked.
+#[derive(Clone, Copy, Debug, PartialEq, Eq)]
+pub struct Ended {
+    pub why: Stopped,
+    pub walk: Walked,
+}
+
 // The interval of an expression, cut to what an i64 holds.
 #[derive(Clone, Copy, Debug, PartialEq, Eq)]
 pub struct Interval {
     pub low: i64,
     pub high: i64,
+}
+
+// An expression in which the walk ended: why, and its interval, with 0 for what was not walked of it.
+#[derive(Clone, Copy)]
+struct Halt {
+    why: Stopped,
+    interval: Interval,
+}
+
+impl From<Stopped> for Halt {
+    ghost from_gives = { λ s h. h ≡ halt s };
+
+    fn from(why: Stopped) -> Halt {
+        Halt {
+            why,
+            interval: Interval { low: 0, high: 0 },
+        }
+    }
+}
+
+impl From<Halt> for Stopped {
+    ghost from_gives = { λ h s. s ≡ h.why };
+
+    fn from(halt: Halt) -> Stopped {
+        halt.why
+    }
+}
+
+// How an expression's interval comes from those of its two operands.
+#[derive(Clone, Copy)]
+enum Join {
+    Sum,
+    Difference,
+    Product,
+    Either,
 }
 
 // On to the node that comes next. Where no words are left, no node comes.
@@ -121,8 +164,21 @@ fn either(walk: &mut Walked, x: Interval, y: Interval) -> Interval
     reached(walk, low, high)
 }
 
+// Past an expression with two operands of these intervals.
+#[tactic(auto, unfolding(crate::specs::Walk::join_of))]
+fn past(walk: &mut Walked, how: Join, x: Interval, y: Interval) -> Interval
+    ensures { reach_of walk.new result ≡ reached walk.old (join_of how (span x) (span y)) }
+{
+    match how {
+        Join::Sum => sum(walk, x, y),
+        Join::Difference => difference(walk, x, y),
+        Join::Product => product(walk, x, y),
+        Join::Either => either(walk, x, y),
+    }
+}
+
 // The predicate that comes next, with nodes nested at most `left` deep.
-#[cycle(expression_operands_predicate)]
+#[cycle(expression_joined_operands_predicate)]
 #[tactic(auto, using(crate::proofs::Steps::predicate_laws))]
 fn predicate(words: &[u32], walk: &mut Walked, left: usize, ranges: &[u32]) -> Result<(), Stopped>
     ensures { with_walk result walk.new ≡ predicate_at words.now ranges.now left walk.old }
@@ -149,7 +205,7 @@ fn predicate(words: &[u32], walk: &mut Walked, left: usize, ranges: &[u32]) -> R
 }
 
 // The next `count` predicates.
-#[cycle(expression_operands_predicate)]
+#[cycle(expression_joined_operands_predicate)]
 #[tactic(auto, using(crate::proofs::Steps::gather_laws))]
 fn operands(
     words: &[u32],
@@ -167,60 +223,77 @@ fn operands(
     Ok(())
 }
 
+// The next two expressions, joined. Where the walk ends in one of them, with 0 for what was not walked.
+#[cycle(expression_joined_operands_predicate)]
+#[tactic(auto, using(crate::proofs::Steps::joined_laws))]
+fn joined(
+    words: &[u32],
+    walk: &mut Walked,
+    how: Join,
+    left: usize,
+    ranges: &[u32],
+) -> Result<Interval, Halt>
+    ensures { with_interval result walk.new
+        ≡ joined (expression_at words.now ranges.now left) (join_of how) walk.old }
+{
+    let x = match expression(words, walk, left, ranges) {
+        Ok(x) => x,
+        Err(halt) => {
+            let interval = past(walk, how, halt.interval, Interval { low: 0, high: 0 });
+            return Err(Halt { interval, ..halt });
+        }
+    };
+    match expression(words, walk, left, ranges) {
+        Ok(y) => Ok(past(walk, how, x, y)),
+        Err(halt) => {
+            let interval = past(walk, how, x, halt.interval);
+            Err(Halt { interval, ..halt })
+        }
+    }
+}
+
 // The expression that comes next, with nodes nested at most `left` deep.
-#[cycle(expression_operands_predicate)]
+#[cycle(expression_joined_operands_predicate)]
 #[tactic(auto, using(crate::proofs::Steps::expression_laws))]
 fn expression(
     words: &[u32],
     walk: &mut Walked,
     left: usize,
     ranges: &[u32],
-) -> Result<Interval, Stopped>
+) -> Result<Interval, Halt>
     ensures { with_interval result walk.new ≡ expression_at words.now ranges.now left walk.old }
 {
     if left == 0 {
-        return Err(Stopped::Deep);
+        return Err(Stopped::Deep.into());
     }
     let node = enter(words, walk)?;
     let below = left - 1;
     match node {
         Node::Number(n) => Ok(number(walk, n)),
         Node::Old(k) | Node::New(k) => Ok(variable(walk, ranges, arithmetic::index(k))),
-        Node::Add => {
-            let x = expression(words, walk, below, ranges)?;
-            let y = expression(words, walk, below, ranges)?;
-            Ok(sum(walk, x, y))
-        }
-        Node::Sub => {
-            let x = expression(words, walk, below, ranges)?;
-            let y = expression(words, walk, below, ranges)?;
-            Ok(difference(walk, x, y))
-        }
-        Node::Mul => {
-            let x = expression(words, walk, below, ranges)?;
-            let y = expression(words, walk, below, ranges)?;
-            Ok(product(walk, x, y))
-        }
+        Node::Add => joined(words, walk, Join::Sum, below, ranges),
+        Node::Sub => joined(words, walk, Join::Difference, below, ranges),
+        Node::Mul => joined(words, walk, Join::Product, below, ranges),
         Node::If => {
             predicate(words, walk, below, ranges)?;
-            let x = expression(words, walk, below, ranges)?;
-            let y = expression(words, walk, below, ranges)?;
-            Ok(either(walk, x, y))
+            joined(words, walk, Join::Either, below, ranges)
         }
-        _ => Err(Stopped::Stray),
+        _ => Err(Stopped::Stray.into()),
     }
 }
 
 // Walks the predicate whose node words stand from `at` on. `ranges` has the variables' declared ranges as table words:
 // LO and HI of variable K are the words 3K and 3K + 1, and word 3K + 2 is for its owner.
 #[tactic(auto, using(crate::proofs::Steps::walk_laws))]
-pub fn walk(words: &[u32], at: usize, ranges: &[u32]) -> Result<Walked, Stopped>
+pub fn walk(words: &[u32], at: usize, ranges: &[u32]) -> Result<Walked, Ended>
     ensures { result ≡ walk_at words.now ranges.now at }
 {
     let mut walk = Walked {
         leaves: false,
         next: at,
     };
-    predicate(words, &mut walk, model::Model::DEPTH, ranges)?;
-    Ok(walk)
+    match predicate(words, &mut walk, model::Model::DEPTH, ranges) {
+        Ok(()) => Ok(walk),
+        Err(why) => Err(Ended { why, walk }),
+    }
 }

@@ -8,18 +8,29 @@ use native.Mathlib.Nat.{zero-add, add-zero, add-suc, mul-add, one-mul, mod-one, 
 use lib.Dec.{eqb, leb, ltb}
 use lib.Pow as P
 use lib.Pow.{pow_pos, pow_mono, pow-add, shr_lt, shr-shr, mod-pow-add}
-use borrow.Author.Tests.{leb-true, leb-false, le-leb, lt-leb, lt-ltb, eqb-true, eqb-false, eq-eqb, ne_eqb, ltb-true, ltb-false}
+use borrow.Author.Tests.{leb-true, leb-false, le-leb, lt-leb, lt-ltb, le-ltb, eqb-true, eqb-false, eq-eqb, ne_eqb, ltb-true, ltb-false}
 use Rattle.model.specs.Basic.{every, keep, member, count_up}
 use Rattle.model.specs.Limits.{rises}
 use Rattle.model.specs.Table.{low_bits, high_bits, set_words, bit, set_of}
 use Rattle.model.proofs.Tests.{and_intro, and_left, and_right, both_ways}
 use Rattle.model.proofs.Lists.{keep_append, keep_first, keep_skip, keep_same, member_keep, member_count, count_last}
 use Rattle.model.proofs.Bits.{rises_cons}
-use Rattle.table_tree.specs.Sets.{one_word, unfilled}
+use Rattle.table_tree.specs.Sets.{one_word, single, unfilled}
 
 -- `single`
-pub single_is : (k : ℕ) → k < 64 → (1 * 2 ^ k) % 2 ^ 64 ≡ 2 ^ k
-single_is k h = P.shl_exact 1 k 64 (omega arith) (omega arith) ∙ one-mul (2 ^ k)
+pub single_below : (k p : ℕ) → p ≡ single k → k < 64 → p ≡ 2 ^ k
+unfolding single
+single_below k p e h = e ∙ rw (lt-ltb k 64 h, single)
+
+pub single_shift : (k : ℕ) → k < 64 → (1 * 2 ^ k) % 2 ^ 64 ≡ single k
+unfolding single
+single_shift k h = P.shl_exact 1 k 64 (omega arith) (omega arith) ∙ one-mul (2 ^ k) ∙ sym (rw (lt-ltb k 64 h, single))
+
+pub single_past : (k : ℕ) → 64 ≤ k → 0 ≡ single k
+unfolding single
+single_past k h = sym (rw (le-ltb k 64 h, single))
+
+pub ruleset single_laws = (single_shift, single_past)
 
 -- what is kept of the numbers from n on, by the tests of those numbers alone
 pub keep_alike : (f g : ℕ → Bool) (n c : ℕ) → ((k : ℕ) → n ≤ k → k < n + c → f k ≡ g k) → keep f (count_up n c) ≡ keep g (count_up n c)

@@ -1,9 +1,9 @@
 // Sets of actions: bit K of a word is set where action K is in the set.
-ghost use Rattle.std.specs.Prelude.{◌≡◌, ◌^◌, ◌<◌};
+ghost use Rattle.std.specs.Prelude.{◌≡◌};
 ghost use Rattle.model.specs.Basic.{member};
 ghost use Rattle.model.specs.Limits.{rises};
 ghost use Rattle.model.specs.Table.{bit, set_of};
-ghost use Rattle.table_tree.specs.Sets.{one_word, unfilled};
+ghost use Rattle.table_tree.specs.Sets.{one_word, single, unfilled};
 
 // Two words of a set as one.
 #[tactic(auto, unfolding(crate::specs::Sets::one_word))]
@@ -13,12 +13,14 @@ pub fn set_of(low: u32, high: u32) -> u64
     (u64::from(high) << 32) + u64::from(low)
 }
 
-// The set that holds k alone.
-#[tactic(auto, using(crate::proofs::SetLaws::single_is))]
+// The set that holds k alone; the empty one where no word has such a bit.
+#[tactic(auto, using(crate::proofs::SetLaws::single_laws))]
 pub fn single(k: u32) -> u64
-    requires { k < 64 }
-    ensures { result ≡ 2 ^ k }
+    ensures { result ≡ single k }
 {
+    if 64 <= k {
+        return 0;
+    }
     1u64 << k
 }
 

@@ -14,7 +14,7 @@ pub fn all() -> u64
 }
 
 // A set without variable k.
-#[tactic(auto, using(crate::proofs::CodeLaws::clear_laws))]
+#[tactic(auto, using(crate::proofs::CodeLaws::clear_laws, table_tree::proofs::SetLaws::single_below))]
 pub fn clear(set: u64, k: u32) -> u64
     ensures { result ≡ clear set k }
 {

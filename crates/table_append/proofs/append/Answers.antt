@@ -1,20 +1,31 @@
-use Rattle.std.proofs.Common.{◌≡◌, length, ◌+◌, ◌-◌}
-use mathlib.Core.Path.{◌≡◌}
-use Prim.Native.Nat.{◌+◌, ◌-◌, min}
-use lib.ListN.{length}
+-- `table_append::append` meets its contract: what is left goes on from the place that was reached.
+use mathlib.Core.Path.{◌≡◌, ap, ◌∙◌}
+use mathlib.Core.List.{List}
+use Prim.Native.Nat.{ℕ}
 use native.Mathlib.Omega.{arith}
-use Rattle.model.specs.Bounds.{table_words}
-use Rattle.table_append.proofs.Stored.{copied_next, copied_put}
+use lib.ListN.{length, take}
+use Rattle.std.proofs.lemmas.List.{take_min}
+use Rattle.table_append.specs.Append.{next_place, put}
+use Rattle.table_append.proofs.AppendLaws.{put_past, next_past}
+use Rattle.table_append.proofs.Joined.{onward_first, onward_turn, onward_end}
 use Rattle.table_append.proofs.append.Goals as goal
 
--- src/lib.rt:29:1
+pub returns-then-at-ge-WORDS : goal.returns-then-at-ge-WORDS
+returns-then-at-ge-WORDS c =
+    (next_past c.args.at _ c.if-at-ge-WORDS.true, put_past _ c.args.at c.args.words.now c.if-at-ge-WORDS.true)
+
+pub loop-word-init : goal.loop-word-init
+loop-word-init c = onward_first (take c.min.result c.args.from.now) c.args.at c.args.words.now (omega (arith, c.if-at-ge-WORDS.false))
+
+pub loop-word-preserved : goal.loop-word-preserved
+loop-word-preserved c =
+    onward_turn _ _ _ _ _ _ c.loop-word.invariant c.loop-word-test.true _ _ c.append_one-next.ensures.0 c.append_one-next.ensures.1
+
 pub returns : goal.returns
 returns c =
-    let a = c.min-at.result in
-    let m = c.min-n.result in
-    let from = c.args.from.now in
-    let fits : m ≡ min (min c.args.n (length from)) (table_words - a) = omega arith in
-    let same : a + m - a ≡ m = omega arith in (
-      copied_next from c.args.n c.args.at a m c.min-at.ensures fits,
-      copied_put from c.args.n c.args.at a m c.min-at.ensures fits c.args.words.now c.told-words _ same c.copy_from_slice.new.self c.copy_from_slice.ensures.after,
+    let done = onward_end _ _ _ _ _ _ c.loop-word.invariant c.loop-word-test.false in
+    let all : take c.min.result c.args.from.now ≡ take c.args.n c.args.from.now =
+    ap (λ (k : ℕ). take k c.args.from.now) c.min.ensures ∙ take_min c.args.n c.args.from.now in (
+      done.0 ∙ ap (λ (l : List ℕ). next_place c.args.at (length l)) all,
+      done.1 ∙ ap (λ (l : List ℕ). put c.args.at l c.args.words.now) all,
     )
