@@ -45,11 +45,12 @@ pub struct Interval {
     pub high: i64,
 }
 
-// An expression in which the walk ended: why, and its interval, with 0 for what was not walked of it.
-#[derive(Clone, Copy)]
-struct Halt {
-    why: Stopped,
-    interval: Interval,
+// An expression in which the walk ended: why, and its interval, with 0 for what was not walked of it. Public, as
+// Interval is, for those who cite the definitions.
+#[derive(Clone, Copy, Debug, PartialEq, Eq)]
+pub struct Halt {
+    pub why: Stopped,
+    pub interval: Interval,
 }
 
 impl From<Stopped> for Halt {
@@ -71,9 +72,9 @@ impl From<Halt> for Stopped {
     }
 }
 
-// How an expression's interval comes from those of its two operands.
-#[derive(Clone, Copy)]
-enum Join {
+// How an expression's interval comes from those of its two operands. Public for the same reason.
+#[derive(Clone, Copy, Debug, PartialEq, Eq)]
+pub enum Join {
     Sum,
     Difference,
     Product,
